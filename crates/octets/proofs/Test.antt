@@ -1,0 +1,54 @@
+-- Laws of tests, questions and outcomes. Assumes nothing.
+use Prim.Native.Nat.{ℕ, zero, suc, _<_, _≤_}
+use mathlib.Core.Path.{_≡_, refl}
+use mathlib.Core.Logic.{_≢_}
+use mathlib.Core.Bool.{Bool, true, false}
+use mathlib.Core.List.{List, [], _∷_}
+use native.Mathlib.Omega.{arith}
+use lib.Dec.{ltb, leb, eqb}
+use borrow.Author.Tests.{ltb-true, ltb-false, leb-true, eqb-true, eqb-false, le-ltb, lt-ltb, le-leb, lt-leb, eq-eqb, ne-eqb}
+use Rattle.octets.specs.Test.{when, ifEq, ifLt, inRange, Question, first, Outcome, refused, ok, outcome}
+
+-- What holds of both choices, each under its test, holds of what is chosen.
+module _ {A : Type 0} (P : A → Type 0) where
+  pub split : {x y : A} (b : Bool) → (b ≡ true → P x) → (b ≡ false → P y) → P (when b x y)
+  unfolding when
+  split true h g = h refl
+  split false h g = g refl
+
+  pub if-eq : (a b : ℕ) {x y : A} → (a ≡ b → P x) → (a ≢ b → P y) → P (ifEq a b x y)
+  unfolding ifEq
+  if-eq a b h g = split (eqb a b) (λ t. h (eqb-true a b t)) (λ t. g (eqb-false a b t))
+
+  pub if-lt : (a b : ℕ) {x y : A} → (a < b → P x) → (b ≤ a → P y) → P (ifLt a b x y)
+  unfolding ifLt
+  if-lt a b h g = split (ltb a b) (λ t. h (ltb-true a b t)) (λ t. g (ltb-false a b t))
+
+-- What is chosen where the answer to a test is known. `search picks` finds the way through a ladder of tests by these.
+module _ {A : Type 0} where
+  pub eq-yes : (a b : ℕ) (x y : A) → a ≡ b → ifEq a b x y ≡ x
+  unfolding ifEq when
+  eq-yes a b x y e = rw (eq-eqb a b e, when)
+
+  pub eq-no : (a b : ℕ) (x y : A) → a ≢ b → ifEq a b x y ≡ y
+  unfolding ifEq when
+  eq-no a b x y e = rw (ne-eqb a b e, when)
+
+  pub lt-yes : (a b : ℕ) (x y : A) → a < b → ifLt a b x y ≡ x
+  unfolding ifLt when
+  lt-yes a b x y e = rw (lt-ltb a b e, when)
+
+  pub lt-no : (a b : ℕ) (x y : A) → b ≤ a → ifLt a b x y ≡ y
+  unfolding ifLt when
+  lt-no a b x y e = rw (le-ltb a b e, when)
+
+pub ruleset picks = (eq-yes, eq-no, lt-yes, lt-no)
+
+-- a number in a range, and one outside of it
+pub in-range : {lo hi : ℕ} (n : ℕ) → lo ≤ n → n ≤ hi → inRange lo hi n ≡ true
+unfolding inRange
+in-range {lo} {hi} n h g = rw (le-leb lo n h, le-leb n hi g) refl
+
+pub below-range : {lo : ℕ} (hi n : ℕ) → n < lo → inRange lo hi n ≡ false
+unfolding inRange
+below-range {lo} hi n h = rw (lt-leb lo n h) refl
