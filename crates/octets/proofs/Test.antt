@@ -1,11 +1,11 @@
 -- Laws of tests, questions and outcomes. Assumes nothing.
 use Prim.Native.Nat.{ℕ, zero, suc, _<_, _≤_}
 use mathlib.Core.Path.{_≡_, refl}
-use mathlib.Core.Logic.{_≢_}
-use mathlib.Core.Bool.{Bool, true, false}
+use mathlib.Core.Logic.{_≢_, _⊎_, inl, inr}
+use mathlib.Core.Bool.{Bool, true, false, _&&_, _||_, not, false≢true, and-false}
 use mathlib.Core.List.{List, [], _∷_}
 use native.Mathlib.Omega.{arith}
-use lib.Dec.{ltb, leb, eqb}
+use lib.Dec.{ltb, leb, eqb, T, T-not}
 use borrow.Author.Tests.{ltb-true, ltb-false, leb-true, eqb-true, eqb-false, le-ltb, lt-ltb, le-leb, lt-leb, eq-eqb, ne-eqb}
 use Rattle.octets.specs.Test.{when, ifEq, ifLt, inRange, Question, first, Outcome, refused, ok, outcome}
 
@@ -44,11 +44,40 @@ module _ {A : Type 0} where
 
 pub ruleset picks = (eq-yes, eq-no, lt-yes, lt-no)
 
--- a number in a range, and one outside of it
-pub in-range : {lo hi : ℕ} (n : ℕ) → lo ≤ n → n ≤ hi → inRange lo hi n ≡ true
-unfolding inRange
-in-range {lo} {hi} n h g = rw (le-leb lo n h, le-leb n hi g) refl
+-- what two tests joined say
+pub both : (a b : Bool) → (a && b) ≡ true → (a ≡ true) × (b ≡ true)
+both true b h = (refl, h)
+both false b h = (h, absurd (false≢true h))
 
-pub below-range : {lo : ℕ} (hi n : ℕ) → n < lo → inRange lo hi n ≡ false
+pub either : (a b : Bool) → (a || b) ≡ true → (a ≡ true) ⊎ (b ≡ true)
+either true b h = inl refl
+either false b h = inr h
+
+-- a number in a range, and one outside of it
+pub within : (lo hi n : ℕ) → inRange lo hi n ≡ true → (lo ≤ n) × (n ≤ hi)
 unfolding inRange
-below-range {lo} hi n h = rw (lt-leb lo n h) refl
+within lo hi n h = let e = both (leb lo n) (leb n hi) h in (leb-true lo n (e .0), leb-true n hi (e .1))
+
+pub in-range : (lo hi n : ℕ) → lo ≤ n → n ≤ hi → inRange lo hi n ≡ true
+unfolding inRange
+in-range lo hi n h g = rw (le-leb lo n h, le-leb n hi g) refl
+
+pub below-range : (lo hi n : ℕ) → n < lo → inRange lo hi n ≡ false
+unfolding inRange
+below-range lo hi n h = rw (lt-leb lo n h) refl
+
+pub above-range : (lo hi n : ℕ) → hi < n → inRange lo hi n ≡ false
+unfolding inRange
+above-range lo hi n h = rw (lt-leb n hi h) (and-false (leb lo n))
+
+-- a value comes out only where no question refuses it
+pub accepted : {A : Type 0} (n : ℕ) (x : A) {y : A} → outcome n x ≡ ok y → (n ≡ 0) × (x ≡ y)
+unfolding outcome
+accepted zero x h = (refl, (cc))
+accepted (suc n) x h = absurd (let z : _≡_ {A = ℕ} 0 1 = cc in omega arith)
+
+-- questions that are all answered yes
+pub all-yes : (n : ℕ) (b : Bool) (qs : List Question) → first ((n, b) ∷ qs) ≡ 0 → T (not (eqb n 0)) → (b ≡ true) × (first qs ≡ 0)
+unfolding first when
+all-yes n true qs h k = (refl, h)
+all-yes n false qs h k = absurd (T-not (eqb n 0) k (rw h tt))

@@ -2,10 +2,16 @@
 use Prim.Native.Nat.{ℕ, zero, suc, _+_, _*_, _/_, _%_, _<_}
 use mathlib.Core.List.{List, [], _∷_, _++_}
 use lib.ListN.{length, take, drop, getD}
+use Rattle.octets.specs.Test.{Outcome, refused, ok}
 
 -- d with s written at the place at, and no other octet changed
 unfoldable pub put : List ℕ → ℕ → List ℕ → List ℕ
-put d at s = take at d ++ s ++ drop (at + length s) d
+put d at s = take at d ++ (s ++ drop (at + length s) d)
+
+-- what a call leaves in its buffer: the octets of its value at the start, and after a refusal what was there
+unfoldable pub left : Outcome (List ℕ) → List ℕ → List ℕ
+left (refused n) d = d
+left (ok s) d = put d 0 s
 
 -- the n octets of a number
 unfoldable pub bytes : ℕ → ℕ → List ℕ

@@ -1,0 +1,13 @@
+use Rattle.octets.specs.Test.{inRange}
+use Rattle.hexline.specs.Line.{isDigit}
+use borrow.Author.Needs.{needs}
+use native.Mathlib.Omega.{arith}
+use Rattle.hexline.proofs.is_digit.Statement.{statement}
+use Rattle.hexline.proofs.is_digit.Tie as tie
+
+returns : tie.Need-returns
+unfolding isDigit inRange
+returns c = search needs
+
+pub is-digit-spec : {M : Type 1} → statement M
+is-digit-spec = tie.close (tie.spec returns)

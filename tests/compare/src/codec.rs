@@ -1,0 +1,36 @@
+//! The calls that both implementations offer.
+
+use crate::random::Random;
+
+/// The numbers of a frame or request.
+#[derive(Clone, Debug, Default, PartialEq)]
+pub struct Fields {
+    pub kind: u8,
+    pub sender: u32,
+    pub quoted: u32,
+    pub number: u32,
+}
+
+impl Fields {
+    /// Fields of any values.
+    pub fn any(random: &mut Random) -> Self {
+        Self {
+            kind: random.byte(),
+            sender: random.next() as u32,
+            quoted: random.next() as u32,
+            number: random.next() as u32,
+        }
+    }
+}
+
+/// One implementation. Each call answers 0, or the number of the question that refused it.
+pub trait Codec {
+    /// Questions 11, 1 and 2 of a line; its bytes and their count.
+    fn read_line(line: &[u8], out: &mut [u8], length: &mut usize) -> u8;
+    /// The bytes as a line; 11 if it has no room.
+    fn write_line(bytes: &[u8], out: &mut [u8]) -> u8;
+    /// Questions 3 to 7 of a call that knows frames (1), requests (2), both (3) or nothing.
+    fn read(known: u8, bytes: &[u8], fields: &mut Fields) -> u8;
+    /// The bytes of a frame and their count; 11, 3 and 5 are asked.
+    fn write(fields: &Fields, block: &[u8], out: &mut [u8], length: &mut usize) -> u8;
+}

@@ -1,0 +1,104 @@
+//! Lines: bytes as lower-case hexadecimal. The line feed is not part of them.
+
+use crate::frame::LONGEST_FRAME;
+use crate::Refusal;
+
+const DIGITS: &[u8; 16] = b"0123456789abcdef";
+/// The most characters a line has.
+pub const LONGEST_LINE: usize = 2 * LONGEST_FRAME;
+
+/// Questions 1 and 2 of a line; success gives its bytes.
+pub fn read(line: &[u8]) -> Result<Vec<u8>, Refusal> {
+    ask_length(line)?;
+    line.chunks_exact(2)
+        .map(|pair| Ok(digit(pair[0])? << 4 | digit(pair[1])?))
+        .collect()
+}
+
+/// The bytes as a line.
+pub fn write(bytes: &[u8]) -> Vec<u8> {
+    bytes
+        .iter()
+        .flat_map(|byte| [byte >> 4, byte & 15])
+        .map(|value| DIGITS[usize::from(value)])
+        .collect()
+}
+
+/// Question 1: has the line 2 to 156 characters, an even number?
+fn ask_length(line: &[u8]) -> Result<(), Refusal> {
+    let length = line.len();
+    if !(2..=LONGEST_LINE).contains(&length) || !length.is_multiple_of(2) {
+        return Err(Refusal::LineLength);
+    }
+    Ok(())
+}
+
+/// Question 2 of one character; success gives the digit's value.
+fn digit(character: u8) -> Result<u8, Refusal> {
+    match character {
+        b'0'..=b'9' => Ok(character - b'0'),
+        b'a'..=b'f' => Ok(character - b'a' + 10),
+        _ => Err(Refusal::LineCharacter),
+    }
+}
+
+#[cfg(test)]
+mod tests {
+    use super::*;
+
+    #[test]
+    fn a_line_gives_its_bytes() {
+        assert_eq!(
+            read(b"0123456789abcdef"),
+            Ok(vec![1, 35, 69, 103, 137, 171, 205, 239])
+        );
+        assert_eq!(read(b"41"), Ok(vec![0x41]));
+    }
+
+    #[test]
+    fn lengths_at_the_edges() {
+        for length in [2, 4, 154, 156] {
+            assert_eq!(read(&vec![b'0'; length]), Ok(vec![0; length / 2]));
+        }
+        for length in [0, 1, 3, 155, 157, 158, 160, 1 << 20] {
+            assert_eq!(read(&vec![b'0'; length]), Err(Refusal::LineLength));
+        }
+    }
+
+    #[test]
+    fn the_length_is_asked_before_the_characters() {
+        assert_eq!(read(b"zzz"), Err(Refusal::LineLength));
+        assert_eq!(read(&[b'z'; 158]), Err(Refusal::LineLength));
+        assert_eq!(read(&[b'z'; 156]), Err(Refusal::LineCharacter));
+        assert_eq!(read(b"zz"), Err(Refusal::LineCharacter));
+    }
+
+    #[test]
+    fn nothing_is_trimmed_and_characters_are_bytes() {
+        assert_eq!(read(b"41\r"), Err(Refusal::LineLength));
+        assert_eq!(read(b"4\r"), Err(Refusal::LineCharacter));
+        assert_eq!(read("é".as_bytes()), Err(Refusal::LineCharacter));
+    }
+
+    #[test]
+    fn only_the_sixteen_digits_pass() {
+        for character in 0..=u8::MAX {
+            let is_digit = DIGITS.contains(&character);
+            assert_eq!(read(&[character, b'0']).is_ok(), is_digit);
+            assert_eq!(read(&[b'0', character]).is_ok(), is_digit);
+        }
+    }
+
+    #[test]
+    fn bytes_are_written_in_small_letters() {
+        assert_eq!(write(&[0x80, 0x0a, 0xff]), b"800aff");
+        assert_eq!(write(&[]), b"");
+    }
+
+    #[test]
+    fn each_byte_written_reads_as_itself() {
+        for byte in 0..=u8::MAX {
+            assert_eq!(read(&write(&[byte])), Ok(vec![byte]));
+        }
+    }
+}
