@@ -1,0 +1,4 @@
+pub mod Shape
+pub mod Classes
+pub mod Reading
+pub mod Writing

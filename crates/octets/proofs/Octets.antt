@@ -8,8 +8,8 @@ use native.Mathlib.Omega.{arith}
 use lib.Dec.{lit<}
 use lib.Arith.{digits-div, digits-mod}
 use lib.ListN.{length, take, drop, getD, set, length-append, length-take, length-drop, take-append-drop}
-use lib.Seq.{take-length, drop-length, take-suc, getD-drop, getD-take, length-take-le, take-at, drop-at, drop-drop, sets, sets-eq}
-use Rattle.octets.specs.Octets.{put, bytes, more, number, field, Octets}
+use lib.Seq.{take-length, take-suc, take-add, getD-drop, getD-take, length-take-le, take-at, drop-at, drop-drop, sets, sets-eq}
+use Rattle.octets.specs.Octets.{put, bytes, more, number, field, lay, fields, size, Octets}
 
 pub length-bytes : (n v : ℕ) → length (bytes n v) ≡ n
 unfolding bytes
@@ -108,6 +108,12 @@ front-more d s t n l h =
     let e : 0 + length s ≡ n = omega arith in
     rw e at (sets-more d s t 0 (omega arith))
 
+-- one write after another, from the start on
+pub then-put : (d p s : List ℕ) (n : ℕ) {x y : List ℕ} → length p ≡ n → n ≤ length d → x ≡ put d 0 p → y ≡ put x n s → y ≡ put d 0 (p ++ s)
+then-put d p s n l h ex ey =
+    let e : 0 + length p ≡ n = omega arith in
+    ey ∙ ap (λ (z : List ℕ). put z n s) ex ∙ rw e at (put-more d p s 0 (omega arith))
+
 pub put-none : (d : List ℕ) (at : ℕ) → d ≡ put d at []
 unfolding put
 put-none d at = sym (rw add-zero (take-append-drop at d))
@@ -118,3 +124,28 @@ pub copy-more : (d : List ℕ) (at : ℕ) (s : List ℕ) (i : ℕ) → at + i < 
 copy-more d at s i h k =
     let l : length (take i s) ≡ i = length-take-le i s (omega arith) in
     rw (add-one i, take-suc s i 0 k) (rw l at (sets-more d (take i s) (getD s i 0 ∷ []) at (omega arith)))
+
+-- each number has room in its width
+pub data Fit : List ℕ → List ℕ → Type 0 where
+  none : Fit [] []
+  one : {w v : ℕ} {ws vs : List ℕ} → v < 256 ^ w → Fit ws vs → Fit (w ∷ ws) (v ∷ vs)
+
+-- The law over the width, over a layout: what is laid out is read again, and what is read is laid out again.
+pub fields-lay : {ws vs : List ℕ} (p t : List ℕ) (at : ℕ) → length p ≡ at → Fit ws vs → fields at ws (p ++ (lay ws vs ++ t)) ≡ vs
+unfolding fields lay field
+fields-lay p t at l none = refl
+fields-lay p t at l (one {w} {v} {ws} {vs} h f) =
+    let b = bytes w v in
+    let r = lay ws vs ++ t in
+    let e : (bytes w v ++ lay ws vs) ++ t ≡ b ++ r = append-assoc b (lay ws vs) t in
+    let q : length (p ++ b) ≡ at + w = length-append p b ∙ omega (arith, length-bytes w v) in
+    ap₂ (λ (x : ℕ) (xs : List ℕ). x ∷ xs)
+    (rw (e, drop-at p (b ++ r) at l, take-at b r w (length-bytes w v)) (width w .reads v h))
+    (rw (e, ← append-assoc p b r) (fields-lay (p ++ b) t (at + w) q f))
+
+pub lay-fields : (ws s : List ℕ) (at : ℕ) → at + size ws ≤ length s → Octets s → lay ws (fields at ws s) ≡ take (size ws) (drop at s)
+unfolding fields lay field size
+lay-fields [] s at h o = refl
+lay-fields (w ∷ ws) s at h o =
+    let d = drop at s in
+    rw (width w .writes (take w d) (length-take-le w d (rw length-drop (omega arith))) (octets-take w d (octets-drop at s o)), lay-fields ws s (at + w) (omega arith) o, take-add w (size ws) d, drop-drop w at s) refl

@@ -76,6 +76,11 @@ unfolding outcome
 accepted zero x h = (refl, (cc))
 accepted (suc n) x h = absurd (let z : _≡_ {A = ℕ} 0 1 = cc in omega arith)
 
+pub outcome-when : {A : Type 0} (b : Bool) (n m : ℕ) (x : A) → outcome (when b n m) x ≡ when b (outcome n x) (outcome m x)
+unfolding when
+outcome-when true n m x = refl
+outcome-when false n m x = refl
+
 -- questions that are all answered yes
 pub all-yes : (n : ℕ) (b : Bool) (qs : List Question) → first ((n, b) ∷ qs) ≡ 0 → T (not (eqb n 0)) → (b ≡ true) × (first qs ≡ 0)
 unfolding first when

@@ -71,11 +71,14 @@ loop-again c =
     let s = l .before .before .before in
     let t = now (s .args .line) in
     let i = l .loop .i in
-    let n : length (unhex (take (2 * i) t)) ≡ i = length-unhex i (take (2 * i) t) (length-take-le (2 * i) t (omega arith)) in
-    (search needs,
-    (search needs,
-    rw (l .loop .inv .1 .1, c .before .before .to-value .ensures .0, c .to-value2 .ensures .0, unhex-more t i (omega arith))
-    (front-more (now (s .args .out)) (unhex (take (2 * i) t)) ((value (getD t (2 * i) 0) * 16 + value (getD t (2 * i + 1) 0)) ∷ []) i n (omega (arith, s .pre .1 .1)))))
+    let n : length (unhex (take (2 * i) t)) ≡ i = length-unhex i (take (2 * i) t) (length-take-le (2 * i) t (omega arith)) in (
+      search needs,
+      (
+        search needs,
+        rw (l .loop .inv .1 .1, c .before .before .to-value .ensures .0, c .to-value2 .ensures .0, unhex-more t i (omega arith))
+            (front-more (now (s .args .out)) (unhex (take (2 * i) t)) ((value (getD t (2 * i) 0) * 16 + value (getD t (2 * i + 1) 0)) ∷ []) i n (omega (arith, s .pre .1 .1))),
+      ),
+    )
 
 same-length : tie.Need-same-length Inv-loop μ-loop
 same-length c = search needs

@@ -64,11 +64,14 @@ loop-again c =
     let i = l .loop .i in
     let t : length (take i s) ≡ i = length-take-le i s (omega arith) in
     let n : length (hex (take i s)) ≡ 2 * i = length-hex (take i s) ∙ ap (λ (k : ℕ). 2 * k) t in
-    let e : 2 * i + 1 ≡ suc (2 * i) = omega arith in
-    (search needs,
-    (simp length-set (omega arith),
-    rw (l .loop .inv .1 .1, c .before .before .to-digit .ensures, c .to-digit2 .ensures, e, hex-more s i (omega arith))
-    (front-more (now (a .out)) (hex (take i s)) (digit (getD s i 0 / 16) ∷ digit (getD s i 0 % 16) ∷ []) (2 * i) n (omega arith))))
+    let e : 2 * i + 1 ≡ suc (2 * i) = omega arith in (
+      search needs,
+      (
+        simp length-set (omega arith),
+        rw (l .loop .inv .1 .1, c .before .before .to-digit .ensures, c .to-digit2 .ensures, e, hex-more s i (omega arith))
+            (front-more (now (a .out)) (hex (take i s)) (digit (getD s i 0 / 16) ∷ digit (getD s i 0 % 16) ∷ []) (2 * i) n (omega arith)),
+      ),
+    )
 
 same-length : tie.Need-same-length Inv-loop μ-loop
 same-length c = search needs
