@@ -13,7 +13,7 @@ use Rattle.octets.specs.Octets.{fields, size}
 use Rattle.octets.proofs.Test.{in-range, below-range, above-range, eq-no}
 use Rattle.frame.specs.Frame.{Frame}
 use Rattle.frame.specs.Layout.{isFrame, isRequest, hasBlock, layout, fixed}
-use Rattle.frame.specs.Read.{kindOf, countOf, numberAt, blockAt, frameAt, fixedOk, countOk, numbersOk, questions}
+use Rattle.frame.specs.Read.{kindOf, countOf, numberAt, blockAt, frameAt, fixedOk, countOk, numbersOk, readable, questions}
 
 -- what reading asks of a kind: the widths of its numbers, whether a block follows, whether it is a frame's
 pub record Shape (k : ℕ) (ws : List ℕ) (block isf : Bool) : Type 0 where
@@ -74,13 +74,17 @@ abbrev pub seven : Bool → ℕ → List ℕ → List ℕ → ℕ
 seven f k ws s = when (when f (numbersOk k (nth 0 ws s) (nth 1 ws s) (nth 2 ws s)) true) 0 7
 
 module _ (s : List ℕ) (k : ℕ) (e : kindOf s ≡ k) (ws : List ℕ) (b f : Bool) (sh : Shape k ws b f) where
-  number-at : (i : ℕ) → numberAt i s ≡ nth i ws s
+  pub number-at : (i : ℕ) → numberAt i s ≡ nth i ws s
   unfolding numberAt
   number-at i = rw (e, sh .widths) refl
 
   pub frame-at : frameAt s ≡ record { kind = k; sender = nth 0 ws s; quoted = nth 1 ws s; number = nth 2 ws s; block = when b (drop (1 + size ws) s) [] }
   unfolding frameAt blockAt fixed
   frame-at = rw (number-at 0, number-at 1, number-at 2, e, sh .has-block, sh .widths) refl
+
+  readable-at : readable (frameAt s) ≡ numbersOk k (nth 0 ws s) (nth 1 ws s) (nth 2 ws s)
+  unfolding readable
+  readable-at = ap readable frame-at
 
   pub block-at : blockAt s ≡ when b (drop (1 + size ws) s) []
   unfolding blockAt fixed
@@ -90,7 +94,7 @@ module _ (s : List ℕ) (k : ℕ) (e : kindOf s ≡ k) (ws : List ℕ) (b f : Bo
 module _ (s : List ℕ) (k : ℕ) (e : kindOf s ≡ k) (ws : List ℕ) (f : Bool) (known : ℕ → Bool) (t : known k ≡ true) where
   pub plain : Shape k ws false f → first (questions known s) ≡ when (eqb (length s) (1 + size ws)) (seven f k ws s) 4
   unfolding first when fixedOk fixed
-  plain sh = rw (number-at s k e ws false f sh 0, number-at s k e ws false f sh 1, number-at s k e ws false f sh 2, e, t, sh .has-block, sh .is-frame, sh .widths) refl
+  plain sh = rw (readable-at s k e ws false f sh, e, t, sh .has-block, sh .is-frame, sh .widths) refl
 
   pub counted : Shape k ws true f
       → first (questions known s)
@@ -100,7 +104,7 @@ module _ (s : List ℕ) (k : ℕ) (e : kindOf s ≡ k) (ws : List ℕ) (f : Bool
   unfolding first when fixedOk fixed countOf
   counted sh =
       let e1 : 1 + size ws - 1 ≡ size ws = omega arith in
-      rw (number-at s k e ws true f sh 0, number-at s k e ws true f sh 1, number-at s k e ws true f sh 2, e, t, sh .has-block, sh .is-frame, sh .widths, e1) refl
+      rw (readable-at s k e ws true f sh, e, t, sh .has-block, sh .is-frame, sh .widths, e1) refl
 
 -- a kind that the call does not know
 pub unknown : (known : ℕ → Bool) (s : List ℕ) → known (kindOf s) ≡ false → first (questions known s) ≡ 3

@@ -20,7 +20,7 @@ pub head-length : (k s r : ℕ) → length (head k s r) ≡ 9
 unfolding bytes
 head-length k s r = refl
 
-control-numbers : (k s r : ℕ) → k ≤ 7 → numbers (control k s r) ≡ s ∷ r ∷ []
+pub control-numbers : (k s r : ℕ) → k ≤ 7 → numbers (control k s r) ≡ s ∷ r ∷ []
 unfolding numbers
 control-numbers k s r h = eq-no k 8 _ _ (λ e. omega arith) ∙ eq-no k 9 _ _ (λ e. omega arith)
 

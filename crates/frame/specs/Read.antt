@@ -52,6 +52,10 @@ numbersOk k s r n =
     && ((leb 1 r || eqb k CRAO)
     && (leb n 4294967294 || not (eqb k DATA)))
 
+-- question 7 of a frame
+unfoldable pub readable : Frame → Bool
+readable f = numbersOk (f .kind) (f .sender) (f .quoted) (f .number)
+
 -- Questions 3 to 7, of a call that knows some kinds. 5 and 6 concern a block, 7 a frame.
 abbrev pub questions : (ℕ → Bool) → List ℕ → List Question
 questions known s =
@@ -59,7 +63,7 @@ questions known s =
     ∷ (4, fixedOk (kindOf s) (length s))
     ∷ (5, when (hasBlock (kindOf s)) (countOk (countOf s)) true)
     ∷ (6, when (hasBlock (kindOf s)) (eqb (length s) (fixed (kindOf s) + countOf s)) true)
-    ∷ (7, when (isFrame (kindOf s)) (numbersOk (kindOf s) (numberAt 0 s) (numberAt 1 s) (numberAt 2 s)) true)
+    ∷ (7, when (isFrame (kindOf s)) (readable (frameAt s)) true)
     ∷ []
 
 -- a call that knows frames

@@ -149,3 +149,8 @@ lay-fields [] s at h o = refl
 lay-fields (w ∷ ws) s at h o =
     let d = drop at s in
     rw (width w .writes (take w d) (length-take-le w d (rw length-drop (omega arith))) (octets-take w d (octets-drop at s o)), lay-fields ws s (at + w) (omega arith) o, take-add w (size ws) d, drop-drop w at s) refl
+
+pub length-lay : {ws vs : List ℕ} → Fit ws vs → length (lay ws vs) ≡ size ws
+unfolding lay size
+length-lay none = refl
+length-lay (one {w} {v} {ws} {vs} h f) = length-append (bytes w v) (lay ws vs) ∙ omega (arith, length-bytes w v, length-lay f)

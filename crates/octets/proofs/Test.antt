@@ -24,6 +24,10 @@ module _ {A : Type 0} (P : A → Type 0) where
   unfolding ifLt
   if-lt a b h g = split (ltb a b) (λ t. h (ltb-true a b t)) (λ t. g (ltb-false a b t))
 
+-- two numbers are equal or not
+pub by-eq : {A : Type 0} (a b : ℕ) → (a ≡ b → A) → (a ≢ b → A) → A
+by-eq {A} a b h g = if-eq (λ (b : Bool). A) a b {x = true} {y = false} h g
+
 -- What is chosen where the answer to a test is known. `search picks` finds the way through a ladder of tests by these.
 module _ {A : Type 0} where
   pub eq-yes : (a b : ℕ) (x y : A) → a ≡ b → ifEq a b x y ≡ x
