@@ -27,9 +27,9 @@ module _ {A : Type 0} (s : List ℕ) (k : ℕ) (e : kindOf s ≡ k) (ws : List �
 
   pub counted-ladder : Shape k ws true f
       → outcome (first (questions known s)) x
-        ≡ when (leb (1 + size ws) (length s))
-          (when (countOk (getD s (size ws) 0)) (when (eqb (length s) (1 + size ws + getD s (size ws) 0)) last (refused 6)) (refused 5))
-          (refused 4)
+      ≡ when (leb (1 + size ws) (length s))
+      (when (countOk (getD s (size ws) 0)) (when (eqb (length s) (1 + size ws + getD s (size ws) 0)) last (refused 6)) (refused 5))
+      (refused 4)
   unfolding outcome
   counted-ladder sh = rw (counted s k e ws f known t sh, outcome-when, outcome-when, outcome-when, outcome-when) refl
 
@@ -40,9 +40,9 @@ send-at s e = rw e refl
 -- The same for each kind of shape, with the value read.
 pub control-read : (s : List ℕ) (k : ℕ) → kindOf s ≡ k → 1 ≤ k → k ≤ 7
     → readFrame s
-      ≡ when (eqb (length s) 9)
-        (when (numbersOk k (field 4 1 s) (field 4 5 s) 0) (ok (control k (field 4 1 s) (field 4 5 s))) (refused 7))
-        (refused 4)
+    ≡ when (eqb (length s) 9)
+    (when (numbersOk k (field 4 1 s) (field 4 5 s) 0) (ok (control k (field 4 1 s) (field 4 5 s))) (refused 7))
+    (refused 4)
 unfolding readFrame when size fields
 control-read s k e h g =
     let sh = control-shape k h g in
@@ -50,9 +50,9 @@ control-read s k e h g =
 
 pub ack-read : (s : List ℕ) → kindOf s ≡ 9
     → readFrame s
-      ≡ when (eqb (length s) 13)
-        (when (numbersOk 9 (field 4 1 s) (field 4 5 s) (field 4 9 s)) (ok (ackFrame (field 4 1 s) (field 4 5 s) (field 4 9 s))) (refused 7))
-        (refused 4)
+    ≡ when (eqb (length s) 13)
+    (when (numbersOk 9 (field 4 1 s) (field 4 5 s) (field 4 9 s)) (ok (ackFrame (field 4 1 s) (field 4 5 s) (field 4 9 s))) (refused 7))
+    (refused 4)
 unfolding readFrame when size fields
 ack-read s e =
     plain-ladder s 9 e (4 ∷ 4 ∷ 4 ∷ []) true isFrame (ack-shape .is-frame) (frameAt s) ack-shape
@@ -60,13 +60,13 @@ ack-read s e =
 
 pub data-read : (s : List ℕ) → kindOf s ≡ 8
     → readFrame s
-      ≡ when (leb 14 (length s))
-        (when (countOk (getD s 13 0))
-        (when (eqb (length s) (14 + getD s 13 0))
-        (when (numbersOk 8 (field 4 1 s) (field 4 5 s) (field 4 9 s)) (ok (dataFrame (field 4 1 s) (field 4 5 s) (field 4 9 s) (drop 14 s))) (refused 7))
-        (refused 6))
-        (refused 5))
-        (refused 4)
+    ≡ when (leb 14 (length s))
+    (when (countOk (getD s 13 0))
+    (when (eqb (length s) (14 + getD s 13 0))
+    (when (numbersOk 8 (field 4 1 s) (field 4 5 s) (field 4 9 s)) (ok (dataFrame (field 4 1 s) (field 4 5 s) (field 4 9 s) (drop 14 s))) (refused 7))
+    (refused 6))
+    (refused 5))
+    (refused 4)
 unfolding readFrame when size fields
 data-read s e =
     counted-ladder s 8 e (4 ∷ 4 ∷ 4 ∷ 1 ∷ []) true isFrame (data-shape .is-frame) (frameAt s) data-shape
@@ -74,9 +74,9 @@ data-read s e =
 
 pub send-read : (s : List ℕ) → kindOf s ≡ 68
     → readRequest s
-      ≡ when (leb 2 (length s))
-        (when (countOk (getD s 1 0)) (when (eqb (length s) (2 + getD s 1 0)) (ok (send (drop 2 s))) (refused 6)) (refused 5))
-        (refused 4)
+    ≡ when (leb 2 (length s))
+    (when (countOk (getD s 1 0)) (when (eqb (length s) (2 + getD s 1 0)) (ok (send (drop 2 s))) (refused 6)) (refused 5))
+    (refused 4)
 unfolding readRequest when size isRequest inRange
 send-read s e =
     counted-ladder s 68 e (1 ∷ []) false isRequest refl (requestAt s) send-shape

@@ -179,9 +179,9 @@ passed-again s o p k e =
     by-eq k 8
     (λ h. data-again s (e ∙ h) (counted-length s (e ∙ h) (p .exact)) o)
     (λ h.
-      by-eq k 9
-      (λ g. ack-again s (e ∙ g) (rw g at w) o)
-      (λ g. control-again s k e (omega (arith, r, e)) (omega (arith, r, e, h, g)) w o))
+    by-eq k 9
+    (λ g. ack-again s (e ∙ g) (rw g at w) o)
+    (λ g. control-again s k e (omega (arith, r, e)) (omega (arith, r, e, h, g)) w o))
 
 -- each readable frame, written again, has the same octets
 pub read-writes : (s : List ℕ) {f : Frame} → Octets s → readFrame s ≡ ok f → encode f ≡ s

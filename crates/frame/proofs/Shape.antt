@@ -98,9 +98,9 @@ module _ (s : List ℕ) (k : ℕ) (e : kindOf s ≡ k) (ws : List ℕ) (f : Bool
 
   pub counted : Shape k ws true f
       → first (questions known s)
-        ≡ when (leb (1 + size ws) (length s))
-          (when (countOk (getD s (size ws) 0)) (when (eqb (length s) (1 + size ws + getD s (size ws) 0)) (seven f k ws s) 6) 5)
-          4
+      ≡ when (leb (1 + size ws) (length s))
+      (when (countOk (getD s (size ws) 0)) (when (eqb (length s) (1 + size ws + getD s (size ws) 0)) (seven f k ws s) 6) 5)
+      4
   unfolding first when fixedOk fixed countOf
   counted sh =
       let e1 : 1 + size ws - 1 ≡ size ws = omega arith in

@@ -5,13 +5,14 @@ use mathlib.Core.List.{List}
 use lib.ListN.{length, drop}
 use Rattle.octets.specs.Test.{when, Outcome, refused, ok}
 use Rattle.octets.specs.Octets.{put}
-use Rattle.frame.specs.Frame.{Block, Frame, control, dataFrame, ackFrame, CRAO, CRPO, CRACK, REJ, RESET, DR, DRACK, Request, connect, listen, endListening, close, timer, send}
+use Rattle.frame.specs.Frame.{Block, Frame, control, dataFrame, ackFrame, CRAO, CRPO, CRACK, REJ, RESET, DR, DRACK, CONNECT, LISTEN, END_LISTENING, CLOSE, SEND, TIMER, Request, connect, listen, endListening, close, timer, send}
 use Rattle.frame.specs.Layout.{isFrame, isRequest, encode}
 use Rattle.frame.specs.Read.{Input, frame, request}
 use Rattle.frame.specs.declared.Header.{Header}
 use Rattle.frame.specs.declared.Header.the-variants.{Crao, Crpo, Crack, Rej, Reset, Dr, Drack, Data, Ack}
 use Rattle.frame.specs.declared.RequestKind.{RequestKind}
 use Rattle.frame.specs.declared.RequestKind.the-variants.{Connect, Listen, EndListening, Close, Send, Timer}
+use Rattle.frame.specs.declared.Values.{Values}
 use Rattle.frame.specs.declared.FrameRead.{FrameRead}
 use Rattle.frame.specs.declared.FrameRead.the-variants as ofFrame
 use Rattle.frame.specs.declared.RequestRead.{RequestRead}
@@ -41,6 +42,18 @@ requestOf EndListening b = endListening
 requestOf Close b = close
 requestOf Send b = send b
 requestOf Timer b = timer
+
+-- the numbers of a frame, and the kind of a request
+unfoldable pub valuesOf : Frame → Values
+valuesOf f = record { kind = f .kind; sender = f .sender; quoted = f .quoted; number = f .number }
+
+unfoldable pub requestNumber : Request → ℕ
+requestNumber connect = CONNECT
+requestNumber listen = LISTEN
+requestNumber endListening = END_LISTENING
+requestNumber close = CLOSE
+requestNumber (send b) = SEND
+requestNumber timer = TIMER
 
 -- What the octets s were read as. The block of a DATA starts at 14, that of a send at 2.
 unfoldable pub frameRead : FrameRead → List ℕ → Outcome Frame

@@ -8,7 +8,7 @@ ghost use Rattle.octets.specs.Octets.{put, bytes};
 ghost use Rattle.frame.specs.Frame.{control, dataFrame, ackFrame};
 ghost use Rattle.frame.specs.Read.{kindOf, countOk, numbersOk, readFrame, readRequest, readInput};
 ghost use Rattle.frame.specs.Layout.{isFrame, isRequest};
-ghost use Rattle.frame.specs.Answer.{classOf, frameOf, frameRead, requestRead, frameInput, requestInput, inputRead, Written};
+ghost use Rattle.frame.specs.Answer.{classOf, frameOf, requestOf, valuesOf, requestNumber, frameRead, requestRead, frameInput, requestInput, inputRead, Written};
 
 // A frame without its block, one variant for each kind. The block of a DATA stays where it is: octets 14 on of the caller's slice.
 pub enum Header {
@@ -60,6 +60,14 @@ pub enum RequestKind {
     Close,
     Send,
     Timer,
+}
+
+// The numbers of a frame, as document 01 lists them: the kind, s, r, and the number of a DATA or the count of an ACK (else 0).
+pub struct Values {
+    pub kind: u8,
+    pub sender: u32,
+    pub quoted: u32,
+    pub number: u32,
 }
 
 // What each call reads its octets as, or document 01's number of the refusal.
@@ -116,7 +124,7 @@ fn numbers_ok(kind: u8, sender: u32, quoted: u32, number: u32) -> bool
 }
 
 // The header of a kind that has two numbers only.
-fn control_header(kind: u8, sender: u32, quoted: u32) -> Header
+pub fn control_header(kind: u8, sender: u32, quoted: u32) -> Header
     requires { ⌜ (1 ≤ kind) × (kind ≤ 7) ⌝ }
     ensures { λ r. ⌜ ((b : List ℕ) → frameOf r b ≡ control kind sender quoted) ⌝ }
 {
@@ -274,7 +282,8 @@ pub fn read_request(s: &[u8]) -> RequestRead
     }
 }
 
-fn frame_input(f: FrameRead) -> InputRead
+// What a call that knows requests too makes of a frame.
+pub fn frame_input(f: FrameRead) -> InputRead
     ensures { λ r. ⌜ ((s : List ℕ) → inputRead r s ≡ frameInput (frameRead f s)) ⌝ }
 {
     match f {
@@ -283,7 +292,8 @@ fn frame_input(f: FrameRead) -> InputRead
     }
 }
 
-fn request_input(q: RequestRead) -> InputRead
+// What a call that knows frames too makes of a request.
+pub fn request_input(q: RequestRead) -> InputRead
     ensures { λ r. ⌜ ((s : List ℕ) → inputRead r s ≡ requestInput (requestRead q s)) ⌝ }
 {
     match q {
@@ -301,6 +311,90 @@ pub fn read_input(s: &[u8]) -> InputRead
         Class::Frame => frame_input(known_frame(s)),
         Class::Request => request_input(known_request(s)),
         Class::Unknown => InputRead::Refused(3),
+    }
+}
+
+// The numbers of a header.
+pub fn values_of(header: Header) -> Values
+    ensures { λ r. ⌜ ((b : List ℕ) → r ≡ valuesOf (frameOf header b)) ⌝ }
+{
+    match header {
+        Header::Crao { sender, quoted } => Values {
+            kind: 0x01,
+            sender,
+            quoted,
+            number: 0,
+        },
+        Header::Crpo { sender, quoted } => Values {
+            kind: 0x02,
+            sender,
+            quoted,
+            number: 0,
+        },
+        Header::Crack { sender, quoted } => Values {
+            kind: 0x03,
+            sender,
+            quoted,
+            number: 0,
+        },
+        Header::Rej { sender, quoted } => Values {
+            kind: 0x04,
+            sender,
+            quoted,
+            number: 0,
+        },
+        Header::Reset { sender, quoted } => Values {
+            kind: 0x05,
+            sender,
+            quoted,
+            number: 0,
+        },
+        Header::Dr { sender, quoted } => Values {
+            kind: 0x06,
+            sender,
+            quoted,
+            number: 0,
+        },
+        Header::Drack { sender, quoted } => Values {
+            kind: 0x07,
+            sender,
+            quoted,
+            number: 0,
+        },
+        Header::Data {
+            sender,
+            quoted,
+            number,
+        } => Values {
+            kind: 0x08,
+            sender,
+            quoted,
+            number,
+        },
+        Header::Ack {
+            sender,
+            quoted,
+            count,
+        } => Values {
+            kind: 0x09,
+            sender,
+            quoted,
+            number: count,
+        },
+    }
+}
+
+// The kind of a request.
+pub fn request_number(request: RequestKind) -> u8
+    ensures { λ r. ⌜ ((b : List ℕ) → r ≡ requestNumber (requestOf request b)) ⌝ }
+{
+    match request {
+        RequestKind::Connect => 0x40,
+        RequestKind::Listen => 0x41,
+        RequestKind::EndListening => 0x42,
+        RequestKind::Close => 0x43,
+        RequestKind::Send => 0x44,
+        RequestKind::Timer => 0x45,
     }
 }
 

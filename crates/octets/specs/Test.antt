@@ -37,3 +37,8 @@ pub data Outcome (A : Type 0) : Type 0 where
 unfoldable pub outcome : {A : Type 0} → ℕ → A → Outcome A
 outcome zero x = ok x
 outcome (suc n) x = refused (suc n)
+
+-- what a call answers: 0 is success
+unfoldable pub numberOf : {A : Type 0} → Outcome A → ℕ
+numberOf (refused n) = n
+numberOf (ok x) = 0

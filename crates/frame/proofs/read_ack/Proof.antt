@@ -40,7 +40,7 @@ returns-2 c =
     let st = c .before .before .before .before .before .before .before in
     let s = now (st .args .s) in
     let n : numbersOk 9 (field 4 1 s) (field 4 5 s) (field 4 9 s) ≡ false
-          = sym (λ i. numbersOk 9 (c .before .before .before .before .load32 .ensures i) (c .before .before .before .load322 .ensures i) (c .before .before .load323 .ensures i)) ∙ sym (c .before .numbers-ok .ensures) ∙ not-true (c .before .numbers-ok .result) (c .if2 .taken) in
+    = sym (λ i. numbersOk 9 (c .before .before .before .before .load32 .ensures i) (c .before .before .before .load322 .ensures i) (c .before .before .load323 .ensures i)) ∙ sym (c .before .numbers-ok .ensures) ∙ not-true (c .before .numbers-ok .result) (c .if2 .taken) in
     rw (ack-read s (st .pre), eq-eqb (length s) 13 (c .before .before .before .before .before .if1 .left), n) refl
 
 returns-3 : tie.Need-returns-3
@@ -49,7 +49,7 @@ returns-3 c =
     let st = c .before .before .before .before .before .before .before in
     let s = now (st .args .s) in
     let n : numbersOk 9 (field 4 1 s) (field 4 5 s) (field 4 9 s) ≡ true
-          = sym (λ i. numbersOk 9 (c .before .before .before .before .load32 .ensures i) (c .before .before .before .load322 .ensures i) (c .before .before .load323 .ensures i)) ∙ sym (c .before .numbers-ok .ensures) ∙ not-false (c .before .numbers-ok .result) (c .if2 .left) in
+    = sym (λ i. numbersOk 9 (c .before .before .before .before .load32 .ensures i) (c .before .before .before .load322 .ensures i) (c .before .before .load323 .ensures i)) ∙ sym (c .before .numbers-ok .ensures) ∙ not-false (c .before .numbers-ok .result) (c .if2 .left) in
     rw (ack-read s (st .pre), eq-eqb (length s) 13 (c .before .before .before .before .before .if1 .left), n)
     (λ i. ok (ackFrame (c .before .before .before .before .load32 .ensures i) (c .before .before .before .load322 .ensures i) (c .before .before .load323 .ensures i)))
 

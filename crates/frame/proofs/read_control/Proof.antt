@@ -38,7 +38,7 @@ returns-2 c =
     let s = now (st .args .s) in
     let k = st .args .kind in
     let n : numbersOk k (field 4 1 s) (field 4 5 s) 0 ≡ false
-          = sym (λ i. numbersOk k (c .before .before .before .load32 .ensures i) (c .before .before .load322 .ensures i) 0) ∙ sym (c .before .numbers-ok .ensures) ∙ not-true (c .before .numbers-ok .result) (c .if2 .taken) in
+    = sym (λ i. numbersOk k (c .before .before .before .load32 .ensures i) (c .before .before .load322 .ensures i) 0) ∙ sym (c .before .numbers-ok .ensures) ∙ not-true (c .before .numbers-ok .result) (c .if2 .taken) in
     rw (control-read s k (st .pre .0) (st .pre .1 .0) (st .pre .1 .1), eq-eqb (length s) 9 (c .before .before .before .before .if1 .left), n) refl
 
 control-header-requires : tie.Need-control-header-requires
@@ -51,7 +51,7 @@ returns-3 c =
     let s = now (st .args .s) in
     let k = st .args .kind in
     let n : numbersOk k (field 4 1 s) (field 4 5 s) 0 ≡ true
-          = sym (λ i. numbersOk k (c .before .before .before .before .load32 .ensures i) (c .before .before .before .load322 .ensures i) 0) ∙ sym (c .before .before .numbers-ok .ensures) ∙ not-false (c .before .before .numbers-ok .result) (c .before .if2 .left) in
+    = sym (λ i. numbersOk k (c .before .before .before .before .load32 .ensures i) (c .before .before .before .load322 .ensures i) 0) ∙ sym (c .before .before .numbers-ok .ensures) ∙ not-false (c .before .before .numbers-ok .result) (c .before .if2 .left) in
     rw (control-read s k (st .pre .0) (st .pre .1 .0) (st .pre .1 .1), eq-eqb (length s) 9 (c .before .before .before .before .before .if1 .left), n)
     (ap ok (c .control-header .ensures (drop 14 s) ∙ ap₂ (λ (a b : ℕ). control k a b) (c .before .before .before .before .load32 .ensures) (c .before .before .before .load322 .ensures)))
 

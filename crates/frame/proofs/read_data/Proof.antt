@@ -70,7 +70,7 @@ returns-4 c =
     let n : countOk (getD s 13 0) ≡ true = sym (c .before .before .before .before .before .before .before .before .count-ok .ensures) ∙ not-false (c .before .before .before .before .before .before .before .before .count-ok .result) (c .before .before .before .before .before .before .before .if2 .left) in
     let l : length s ≡ 14 + getD s 13 0 = c .before .before .before .before .before .if3 .left ∙ ap (λ (x : ℕ). 14 + x) (c .before .before .before .before .before .before .wide .ensures .0) in
     let m : numbersOk 8 (field 4 1 s) (field 4 5 s) (field 4 9 s) ≡ false
-          = sym (λ i. numbersOk 8 (c .before .before .before .before .load32 .ensures i) (c .before .before .before .load322 .ensures i) (c .before .before .load323 .ensures i)) ∙ sym (c .before .numbers-ok .ensures) ∙ not-true (c .before .numbers-ok .result) (c .if4 .taken) in
+    = sym (λ i. numbersOk 8 (c .before .before .before .before .load32 .ensures i) (c .before .before .before .load322 .ensures i) (c .before .before .load323 .ensures i)) ∙ sym (c .before .numbers-ok .ensures) ∙ not-true (c .before .numbers-ok .result) (c .if4 .taken) in
     rw (data-read s (st .pre), le-leb 14 (length s) (omega arith), n, eq-eqb (length s) (14 + getD s 13 0) l, m) refl
 
 returns-5 : tie.Need-returns-5
@@ -81,7 +81,7 @@ returns-5 c =
     let n : countOk (getD s 13 0) ≡ true = sym (c .before .before .before .before .before .before .before .before .count-ok .ensures) ∙ not-false (c .before .before .before .before .before .before .before .before .count-ok .result) (c .before .before .before .before .before .before .before .if2 .left) in
     let l : length s ≡ 14 + getD s 13 0 = c .before .before .before .before .before .if3 .left ∙ ap (λ (x : ℕ). 14 + x) (c .before .before .before .before .before .before .wide .ensures .0) in
     let m : numbersOk 8 (field 4 1 s) (field 4 5 s) (field 4 9 s) ≡ true
-          = sym (λ i. numbersOk 8 (c .before .before .before .before .load32 .ensures i) (c .before .before .before .load322 .ensures i) (c .before .before .load323 .ensures i)) ∙ sym (c .before .numbers-ok .ensures) ∙ not-false (c .before .numbers-ok .result) (c .if4 .left) in
+    = sym (λ i. numbersOk 8 (c .before .before .before .before .load32 .ensures i) (c .before .before .before .load322 .ensures i) (c .before .before .load323 .ensures i)) ∙ sym (c .before .numbers-ok .ensures) ∙ not-false (c .before .numbers-ok .result) (c .if4 .left) in
     rw (data-read s (st .pre), le-leb 14 (length s) (omega arith), n, eq-eqb (length s) (14 + getD s 13 0) l, m)
     (λ i. ok (dataFrame (c .before .before .before .before .load32 .ensures i) (c .before .before .before .load322 .ensures i) (c .before .before .load323 .ensures i) (drop 14 s)))
 

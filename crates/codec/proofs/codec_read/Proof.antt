@@ -1,0 +1,66 @@
+use mathlib.Core.Path.{_≡_, refl, sym, ap, _∙_}
+use lib.ListN.{drop}
+use denote.Ref.{now}
+use Rattle.octets.specs.Test.{numberOf}
+use Rattle.frame.specs.Answer.{inputRead}
+use Rattle.frame.specs.declared.InputRead.{InputRead}
+use Rattle.codec.specs.Calls.{shown}
+use native.Mathlib.Omega.{arith}
+use borrow.Author.Needs.{needs}
+use Rattle.codec.proofs.codec_read.Statement.{statement}
+use Rattle.codec.proofs.codec_read.Tie as tie
+
+read-known-requires : tie.Need-read-known-requires
+read-known-requires c κs = search needs
+
+enum-known-read : tie.Need-enum-known-read
+enum-known-read c = search needs
+
+values-of-requires : tie.Need-values-of-requires
+values-of-requires c κs = search needs
+
+returns : tie.Need-returns
+unfolding inputRead numberOf shown
+returns c =
+    let a = c .before .before .before .before .before .before .args in
+    let s = now (a .s) in
+    let e = sym (c .before .before .before .before .read-known .ensures) ∙ ap (λ (r : InputRead). inputRead r s) (c .before .before .read .given .1) in
+    rw e (refl, c .values-of .ensures (drop 14 s))
+
+enum-known-read-2 : tie.Need-enum-known-read-2
+enum-known-read-2 c = search needs
+
+request-number-requires : tie.Need-request-number-requires
+request-number-requires c κs = search needs
+
+returns-2 : tie.Need-returns-2
+unfolding inputRead numberOf shown
+returns-2 c =
+    let a = c .before .before .before .before .before .before .args in
+    let s = now (a .s) in
+    let e = sym (c .before .before .before .before .read-known .ensures) ∙ ap (λ (r : InputRead). inputRead r s) (c .before .before .read2 .given .1) in
+    rw e (refl, λ i. record { kind = c .request-number .ensures (drop 2 s) i; sender = 0; quoted = 0; number = 0 })
+
+enum-known-read-3 : tie.Need-enum-known-read-3
+enum-known-read-3 c = search needs
+
+returns-3 : tie.Need-returns-3
+unfolding inputRead numberOf shown
+returns-3 c =
+    let a = c .before .before .before .before .before .args in
+    let e = sym (c .before .before .before .read-known .ensures) ∙ ap (λ (r : InputRead). inputRead r (now (a .s))) (c .before .read3 .given .1) in
+    rw e (refl, refl)
+
+pub codec-read-spec : {M : Type 1} → statement M
+codec-read-spec =
+    tie.close
+    (tie.spec
+    read-known-requires
+    enum-known-read
+    values-of-requires
+    returns
+    enum-known-read-2
+    request-number-requires
+    returns-2
+    enum-known-read-3
+    returns-3)

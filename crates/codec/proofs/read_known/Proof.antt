@@ -1,0 +1,67 @@
+use mathlib.Core.Path.{_≡_, sym, ap, _∙_}
+use denote.Ref.{now}
+use Rattle.octets.specs.Test.{when, ifEq}
+use Rattle.octets.proofs.Test.{eq-no}
+use Rattle.frame.specs.Answer.{frameInput, requestInput, inputRead}
+use Rattle.codec.specs.Calls.{readKnown}
+use native.Mathlib.Omega.{arith}
+use borrow.Author.Needs.{needs}
+use Rattle.codec.proofs.read_known.Statement.{statement}
+use Rattle.codec.proofs.read_known.Tie as tie
+
+read-frame-requires : tie.Need-read-frame-requires
+read-frame-requires c κs = search needs
+
+frame-input-requires : tie.Need-frame-input-requires
+frame-input-requires c κs = search needs
+
+read-request-requires : tie.Need-read-request-requires
+read-request-requires c κs = search needs
+
+request-input-requires : tie.Need-request-input-requires
+request-input-requires c κs = search needs
+
+read-input-requires : tie.Need-read-input-requires
+read-input-requires c κs = search needs
+
+returns : tie.Need-returns
+unfolding readKnown ifEq when
+returns c =
+    let a = c .before .before .before .before .args in
+    let s = now (a .s) in
+    let e : a .known ≡ 1 = omega arith in
+    c .frame-input .ensures s ∙ rw e (ap frameInput (c .before .read-frame .ensures))
+
+returns-2 : tie.Need-returns-2
+unfolding readKnown ifEq when
+returns-2 c =
+    let a = c .before .before .before .before .args in
+    let s = now (a .s) in
+    let e : a .known ≡ 2 = omega arith in
+    c .request-input .ensures s ∙ rw e (ap requestInput (c .before .read-request .ensures))
+
+returns-3 : tie.Need-returns-3
+unfolding readKnown ifEq when
+returns-3 c =
+    let e : c .before .before .before .args .known ≡ 3 = omega arith in
+    rw e (c .read-input .ensures)
+
+returns-4 : tie.Need-returns-4
+unfolding readKnown inputRead
+returns-4 c =
+    let k = c .before .before .args .known in
+    sym (eq-no k 1 _ _ (λ e. omega arith) ∙ eq-no k 2 _ _ (λ e. omega arith) ∙ eq-no k 3 _ _ (λ e. omega arith))
+
+pub read-known-spec : {M : Type 1} → statement M
+read-known-spec =
+    tie.close
+    (tie.spec
+    read-frame-requires
+    frame-input-requires
+    read-request-requires
+    request-input-requires
+    read-input-requires
+    returns
+    returns-2
+    returns-3
+    returns-4)

@@ -1,0 +1,62 @@
+-- The codec's calls for C: what each answers, and every octet and number that it leaves.
+use Prim.Native.Nat.{ℕ, _*_}
+use mathlib.Core.Path.{_≡_}
+use mathlib.Core.Bool.{true}
+use mathlib.Core.List.{List, [], _∷_}
+use lib.ListN.{length}
+use lib.Dec.{leb}
+use Rattle.octets.specs.Test.{ifEq, first, Outcome, refused, ok, outcome, numberOf}
+use Rattle.octets.specs.Octets.{left}
+use Rattle.hexline.specs.Line.{hex, readInto}
+use Rattle.frame.specs.Frame.{Block, Frame, control, dataFrame, ackFrame, DATA, ACK}
+use Rattle.frame.specs.Layout.{isFrame, encode}
+use Rattle.frame.specs.Read.{countOk, readFrame, readRequest, Input, frame, request, readInput}
+use Rattle.frame.specs.Answer.{valuesOf, requestNumber, frameInput, requestInput}
+use Rattle.frame.specs.declared.Values.{Values}
+
+-- how many octets a success wrote; a refusal leaves the number lent
+unfoldable pub counted : Outcome (List ℕ) → ℕ → ℕ
+counted (refused n) c = c
+counted (ok s) c = length s
+
+-- a call that writes octets into a buffer, with their count
+pub record Filled (o : Outcome (List ℕ)) (out out′ : List ℕ) (c c′ number : ℕ) : Type 0 where
+  pub answer : number ≡ numberOf o
+  pub buffer : out′ ≡ left o out
+  pub count : c′ ≡ counted o c
+
+-- a line of the octets s; 11 where the buffer has no room for it
+unfoldable pub writeLine : List ℕ → List ℕ → Outcome (List ℕ)
+writeLine s out = outcome (first ((11, leb (2 * length s) (length out)) ∷ [])) (hex s)
+
+-- reading by a call that knows frames (1), requests (2) or both (3)
+unfoldable pub readKnown : ℕ → List ℕ → Outcome Input
+readKnown known s =
+    ifEq known 1 (frameInput (readFrame s))
+    (ifEq known 2 (requestInput (readRequest s))
+    (ifEq known 3 (readInput s)
+    (refused 3)))
+
+-- the numbers read; a refusal leaves those lent
+unfoldable pub shown : Outcome Input → Values → Values
+shown (refused n) v = v
+shown (ok (frame f)) v = valuesOf f
+shown (ok (request q)) v = record { kind = requestNumber q; sender = 0; quoted = 0; number = 0 }
+
+-- A frame of these values: only DATA has a block, only DATA and ACK have a number.
+unfoldable pub frameWith : Values → Block → Frame
+frameWith v b =
+    ifEq (v .kind) DATA (dataFrame (v .sender) (v .quoted) (v .number) b)
+    (ifEq (v .kind) ACK (ackFrame (v .sender) (v .quoted) (v .number))
+    (control (v .kind) (v .sender) (v .quoted)))
+
+-- writing it asks for the buffer, for a frame's kind, and for the count of a DATA's block
+unfoldable pub writeFrame : Values → Block → List ℕ → Outcome (List ℕ)
+writeFrame v b out =
+    outcome
+    (first
+    ((11, leb 78 (length out))
+    ∷ (3, isFrame (v .kind))
+    ∷ (5, ifEq (v .kind) DATA (countOk (length b)) true)
+    ∷ []))
+    (encode (frameWith v b))
