@@ -5,6 +5,7 @@ use mathlib.Core.Bool.{true}
 use mathlib.Core.List.{List, [], _∷_}
 use lib.ListN.{length}
 use lib.Dec.{leb}
+use Rattle.octets.specs.Sizes.{longestFrame}
 use Rattle.octets.specs.Test.{ifEq, first, Outcome, refused, ok, outcome, numberOf}
 use Rattle.octets.specs.Octets.{left}
 use Rattle.hexline.specs.Line.{hex, readInto}
@@ -55,7 +56,7 @@ unfoldable pub writeFrame : Values → Block → List ℕ → Outcome (List ℕ)
 writeFrame v b out =
     outcome
     (first
-    ((11, leb 78 (length out))
+    ((11, leb longestFrame (length out))
     ∷ (3, isFrame (v .kind))
     ∷ (5, ifEq (v .kind) DATA (countOk (length b)) true)
     ∷ []))

@@ -119,7 +119,7 @@ pub extern "C" fn codec_write(
 ) -> u8
     ensures { λ r. ⌜ Filled (writeFrame (record { kind = kind; sender = sender; quoted = quoted; number = number }) (now (block .entry)) (now (out .entry))) (now (out .entry)) (now (out .exit)) (now (length .entry)) (now (length .exit)) r ⌝ }
 {
-    if out.len() < 78 {
+    if out.len() < octets::LONGEST_FRAME {
         return 11;
     }
     if kind < 1 {
@@ -133,7 +133,7 @@ pub extern "C" fn codec_write(
         if block.len() < 1 {
             return 5;
         }
-        if 64 < block.len() {
+        if octets::LONGEST_BLOCK < block.len() {
             return 5;
         }
         *length = frame::write(header, block, out);

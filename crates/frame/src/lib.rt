@@ -4,6 +4,7 @@ ghost use mathlib.Core.List.{List, _∷_, _++_};
 ghost use mathlib.Core.Bool.{true, false};
 ghost use Prim.Native.Nat.{ℕ, _≤_, _<_};
 ghost use lib.ListN.{length, getD};
+ghost use Rattle.octets.specs.Sizes.{longestFrame, longestBlock};
 ghost use Rattle.octets.specs.Octets.{put, bytes};
 ghost use Rattle.frame.specs.Frame.{control, dataFrame, ackFrame};
 ghost use Rattle.frame.specs.Read.{kindOf, countOk, numbersOk, readFrame, readRequest, readInput};
@@ -112,7 +113,7 @@ fn class_of(s: &[u8]) -> Class
 fn count_ok(count: u8) -> bool
     ensures { λ r. ⌜ r ≡ countOk count ⌝ }
 {
-    (1 <= count) & (count <= 64)
+    (1 <= count) & (count <= octets::LONGEST_BLOCK as u8)
 }
 
 // Question 7.
@@ -417,7 +418,7 @@ fn write_control(kind: u8, sender: u32, quoted: u32, out: &mut [u8]) -> usize
 }
 
 fn write_data(sender: u32, quoted: u32, number: u32, block: &[u8], out: &mut [u8]) -> usize
-    requires { ⌜ (78 ≤ length (now out)) × (length (now block) ≤ 64) ⌝ }
+    requires { ⌜ (longestFrame ≤ length (now out)) × (length (now block) ≤ longestBlock) ⌝ }
     ensures { λ r. ⌜ Written (dataFrame sender quoted number (now (block .entry))) (now (out .entry)) (now (out .exit)) r ⌝ }
 {
     write_head(0x08, sender, quoted, out);
@@ -438,7 +439,7 @@ fn write_ack(sender: u32, quoted: u32, count: u32, out: &mut [u8]) -> usize
 
 // Writes a frame at the start of out, which has room for the longest, and answers its length. No other octet of out changes.
 pub fn write(header: Header, block: &[u8], out: &mut [u8]) -> usize
-    requires { ⌜ (78 ≤ length (now out)) × (length (now block) ≤ 64) ⌝ }
+    requires { ⌜ (longestFrame ≤ length (now out)) × (length (now block) ≤ longestBlock) ⌝ }
     ensures { λ r. ⌜ Written (frameOf header (now (block .entry))) (now (out .entry)) (now (out .exit)) r ⌝ }
 {
     match header {

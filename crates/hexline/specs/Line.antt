@@ -4,6 +4,7 @@ use mathlib.Core.Bool.{Bool, true, _&&_, _||_}
 use mathlib.Core.List.{List, [], _∷_}
 use lib.ListN.{length}
 use lib.Dec.{leb, eqb}
+use Rattle.octets.specs.Sizes.{longestFrame}
 use Rattle.octets.specs.Test.{ifLt, inRange, Question, first, Outcome, refused, ok, outcome}
 use Rattle.hexline.specs.declared.Line.{Line}
 use Rattle.hexline.specs.declared.Line.the-variants.{Decoded, Refused}
@@ -35,13 +36,9 @@ unfoldable pub all : (ℕ → Bool) → List ℕ → Bool
 all p [] = true
 all p (c ∷ l) = p c && all p l
 
--- The octets of the longest frame; a line has two digits for each.
-abbrev pub longest : ℕ
-longest = 78
-
--- has the line 2 to 156 characters, an even number?
+-- has the line 2 to 156 characters, two for each octet of the longest frame, and an even number?
 unfoldable pub lengthOk : ℕ → Bool
-lengthOk n = inRange 2 (2 * longest) n && eqb (n % 2) 0
+lengthOk n = inRange 2 (2 * longestFrame) n && eqb (n % 2) 0
 
 -- Questions 1 and 2 of a line.
 abbrev pub lineQuestions : List ℕ → List Question
@@ -56,7 +53,7 @@ readLine l = outcome (first (lineQuestions l)) (unhex l)
 
 -- the same into a lent buffer, which question 11 asks for first
 unfoldable pub readInto : List ℕ → List ℕ → Outcome (List ℕ)
-readInto l out = outcome (first ((11, leb longest (length out)) ∷ lineQuestions l)) (unhex l)
+readInto l out = outcome (first ((11, leb longestFrame (length out)) ∷ lineQuestions l)) (unhex l)
 
 -- the answer of the call: how many octets, or the refusal's number
 unfoldable pub lineOf : Outcome (List ℕ) → Line

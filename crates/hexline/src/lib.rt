@@ -6,9 +6,6 @@ ghost use lib.ListN.{length};
 ghost use Rattle.octets.specs.Octets.{put, left};
 ghost use Rattle.hexline.specs.Line.{digit, isDigit, value, hex, unhex, all, lengthOk, readInto, lineOf};
 
-// The octets of the longest frame.
-const LONGEST: usize = 78;
-
 // What a line is read as: so many octets at the start of the buffer, or document 01's number of the refusal.
 pub enum Line {
     Decoded(usize),
@@ -85,14 +82,14 @@ fn decode(line: &[u8], out: &mut [u8])
 fn length_ok(n: usize) -> bool
     ensures { λ r. ⌜ r ≡ lengthOk n ⌝ }
 {
-    (2 <= n) & (n <= 2 * LONGEST) & (n % 2 == 0)
+    (2 <= n) & (n <= 2 * octets::LONGEST_FRAME) & (n % 2 == 0)
 }
 
 // Reads a line into out, which has room for the longest frame. A refusal leaves every octet of out.
 pub fn read(line: &[u8], out: &mut [u8]) -> Line
     ensures { λ r. ⌜ (r ≡ lineOf (readInto (now (line .entry)) (now (out .entry)))) × (now (out .exit) ≡ left (readInto (now (line .entry)) (now (out .entry))) (now (out .entry))) ⌝ }
 {
-    if out.len() < LONGEST {
+    if out.len() < octets::LONGEST_FRAME {
         return Line::Refused(11);
     }
     if !length_ok(line.len()) {
