@@ -12,9 +12,9 @@ use Rattle.octets.proofs.Test.{eq-yes, eq-no}
 use Rattle.frame.specs.Frame.{Block, Frame, control, dataFrame, ackFrame}
 use Rattle.frame.specs.Layout.{isFrame, encode}
 use Rattle.frame.specs.Read.{countOk}
-use Rattle.frame.specs.Answer.{Written}
+use Rattle.frame.specs.Answer.{frameWith, Written}
 use Rattle.frame.specs.declared.Values.{Values}
-use Rattle.codec.specs.Calls.{Filled, counted, frameWith, writeFrame}
+use Rattle.codec.specs.Calls.{Filled, counted, writeFrame}
 
 -- a refusal leaves all, a success what writing the frame leaves
 pub refuses : (o : Outcome (List ℕ)) (out : List ℕ) (c : ℕ) {n : ℕ} → o ≡ refused n → Filled o out out c c n

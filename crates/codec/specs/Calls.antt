@@ -9,10 +9,10 @@ use Rattle.octets.specs.Sizes.{longestFrame}
 use Rattle.octets.specs.Test.{ifEq, first, Outcome, refused, ok, outcome, numberOf}
 use Rattle.octets.specs.Octets.{left}
 use Rattle.hexline.specs.Line.{hex, readInto}
-use Rattle.frame.specs.Frame.{Block, Frame, control, dataFrame, ackFrame, DATA, ACK}
+use Rattle.frame.specs.Frame.{Block, DATA}
 use Rattle.frame.specs.Layout.{isFrame, encode}
 use Rattle.frame.specs.Read.{countOk, readFrame, readRequest, Input, frame, request, readInput}
-use Rattle.frame.specs.Answer.{valuesOf, requestNumber, frameInput, requestInput}
+use Rattle.frame.specs.Answer.{valuesOf, frameWith, requestNumber, frameInput, requestInput}
 use Rattle.frame.specs.declared.Values.{Values}
 
 -- how many octets a success wrote; a refusal leaves the number lent
@@ -43,13 +43,6 @@ unfoldable pub shown : Outcome Input → Values → Values
 shown (refused n) v = v
 shown (ok (frame f)) v = valuesOf f
 shown (ok (request q)) v = record { kind = requestNumber q; sender = 0; quoted = 0; number = 0 }
-
--- A frame of these values: only DATA has a block, only DATA and ACK have a number.
-unfoldable pub frameWith : Values → Block → Frame
-frameWith v b =
-    ifEq (v .kind) DATA (dataFrame (v .sender) (v .quoted) (v .number) b)
-    (ifEq (v .kind) ACK (ackFrame (v .sender) (v .quoted) (v .number))
-    (control (v .kind) (v .sender) (v .quoted)))
 
 -- writing it asks for the buffer, for a frame's kind, and for the count of a DATA's block
 unfoldable pub writeFrame : Values → Block → List ℕ → Outcome (List ℕ)

@@ -8,8 +8,8 @@ ghost use Prim.Native.Nat.{ℕ, _≤_};
 ghost use Rattle.octets.specs.Octets.{left};
 ghost use Rattle.octets.specs.Test.{numberOf};
 ghost use Rattle.hexline.specs.Line.{readInto};
-ghost use Rattle.frame.specs.Answer.{frameOf, inputRead};
-ghost use Rattle.codec.specs.Calls.{Filled, writeLine, readKnown, shown, frameWith, writeFrame};
+ghost use Rattle.frame.specs.Answer.{frameOf, frameWith, inputRead};
+ghost use Rattle.codec.specs.Calls.{Filled, writeLine, readKnown, shown, writeFrame};
 
 // Reads a line into out, which has room for the longest frame; the count of its octets goes to length.
 #[no_mangle]

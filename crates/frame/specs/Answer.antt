@@ -3,9 +3,9 @@ use Prim.Native.Nat.{ℕ}
 use mathlib.Core.Path.{_≡_}
 use mathlib.Core.List.{List}
 use lib.ListN.{length, drop}
-use Rattle.octets.specs.Test.{when, Outcome, refused, ok}
+use Rattle.octets.specs.Test.{when, ifEq, Outcome, refused, ok}
 use Rattle.octets.specs.Octets.{put}
-use Rattle.frame.specs.Frame.{Block, Frame, control, dataFrame, ackFrame, CRAO, CRPO, CRACK, REJ, RESET, DR, DRACK, CONNECT, LISTEN, END_LISTENING, CLOSE, SEND, TIMER, Request, connect, listen, endListening, close, timer, send}
+use Rattle.frame.specs.Frame.{Block, Frame, control, dataFrame, ackFrame, CRAO, CRPO, CRACK, REJ, RESET, DR, DRACK, DATA, ACK, CONNECT, LISTEN, END_LISTENING, CLOSE, SEND, TIMER, Request, connect, listen, endListening, close, timer, send}
 use Rattle.frame.specs.Layout.{isFrame, isRequest, encode}
 use Rattle.frame.specs.Read.{Input, frame, request}
 use Rattle.frame.specs.declared.Header.{Header}
@@ -43,10 +43,18 @@ requestOf Close b = close
 requestOf Send b = send b
 requestOf Timer b = timer
 
--- the numbers of a frame, and the kind of a request
+-- the numbers of a frame
 unfoldable pub valuesOf : Frame → Values
 valuesOf f = record { kind = f .kind; sender = f .sender; quoted = f .quoted; number = f .number }
 
+-- and the frame of such numbers with a block: only DATA has a block, only DATA and ACK have a number
+unfoldable pub frameWith : Values → Block → Frame
+frameWith v b =
+    ifEq (v .kind) DATA (dataFrame (v .sender) (v .quoted) (v .number) b)
+    (ifEq (v .kind) ACK (ackFrame (v .sender) (v .quoted) (v .number))
+    (control (v .kind) (v .sender) (v .quoted)))
+
+-- the kind of a request
 unfoldable pub requestNumber : Request → ℕ
 requestNumber connect = CONNECT
 requestNumber listen = LISTEN

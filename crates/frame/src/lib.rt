@@ -442,23 +442,11 @@ pub fn write(header: Header, block: &[u8], out: &mut [u8]) -> usize
     requires { ⌜ (longestFrame ≤ length (now out)) × (length (now block) ≤ longestBlock) ⌝ }
     ensures { λ r. ⌜ Written (frameOf header (now (block .entry))) (now (out .entry)) (now (out .exit)) r ⌝ }
 {
-    match header {
-        Header::Crao { sender, quoted } => write_control(0x01, sender, quoted, out),
-        Header::Crpo { sender, quoted } => write_control(0x02, sender, quoted, out),
-        Header::Crack { sender, quoted } => write_control(0x03, sender, quoted, out),
-        Header::Rej { sender, quoted } => write_control(0x04, sender, quoted, out),
-        Header::Reset { sender, quoted } => write_control(0x05, sender, quoted, out),
-        Header::Dr { sender, quoted } => write_control(0x06, sender, quoted, out),
-        Header::Drack { sender, quoted } => write_control(0x07, sender, quoted, out),
-        Header::Data {
-            sender,
-            quoted,
-            number,
-        } => write_data(sender, quoted, number, block, out),
-        Header::Ack {
-            sender,
-            quoted,
-            count,
-        } => write_ack(sender, quoted, count, out),
+    let values = values_of(header);
+    let kind = values.kind;
+    match kind {
+        0x08 => write_data(values.sender, values.quoted, values.number, block, out),
+        0x09 => write_ack(values.sender, values.quoted, values.number, out),
+        _ => write_control(kind, values.sender, values.quoted, out),
     }
 }

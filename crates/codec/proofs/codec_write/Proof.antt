@@ -8,7 +8,8 @@ use Rattle.frame.specs.Layout.{isFrame}
 use Rattle.frame.specs.Read.{countOk}
 use Rattle.frame.specs.declared.Values.{Values}
 use Rattle.frame.proofs.Shape.{frame-kind}
-use Rattle.codec.specs.Calls.{frameWith, writeFrame}
+use Rattle.codec.specs.Calls.{writeFrame}
+use Rattle.frame.specs.Answer.{frameWith}
 use Rattle.codec.proofs.Writes.{refuses, fills, write-11, write-3, write-5, write-data, write-other, no-block}
 use native.Mathlib.Omega.{arith}
 use borrow.Author.Needs.{needs}

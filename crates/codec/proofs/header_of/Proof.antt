@@ -1,8 +1,7 @@
 use mathlib.Core.Path.{_≡_, refl, sym, _∙_}
 use Rattle.octets.specs.Test.{when, ifEq}
 use Rattle.octets.proofs.Test.{eq-no}
-use Rattle.frame.specs.Answer.{frameOf}
-use Rattle.codec.specs.Calls.{frameWith}
+use Rattle.frame.specs.Answer.{frameOf, frameWith}
 use native.Mathlib.Omega.{arith}
 use borrow.Author.Needs.{needs}
 use Rattle.codec.proofs.header_of.Statement.{statement}
