@@ -2,10 +2,11 @@
 -- Assumes nothing.
 use Prim.Native.Nat.{ℕ, zero, suc, _+_, _^_, _<_, _≤_}
 use mathlib.Core.Path.{_≡_, refl, sym, ap, subst, _∙_}
-use mathlib.Core.Bool.{Bool, true, false}
+use mathlib.Core.Logic.{_≢_, _⊎_, inl, inr, ⊎-elim}
+use mathlib.Core.Bool.{Bool, true, false, _||_, not, or-true}
 use mathlib.Core.List.{List, [], _∷_, _++_, append-nil}
 use native.Mathlib.Omega.{arith}
-use borrow.Author.Tests.{eq-eqb, le-leb, eqb-true, leb-true}
+use borrow.Author.Tests.{eq-eqb, ne-eqb, le-leb, eqb-true}
 use lib.Dec.{leb, eqb}
 use lib.ListN.{length, take, drop, getD, length-append, length-drop, take-append-drop, drop-of-length-le}
 use lib.Seq.{drop-length, drop-drop, drop-cons, drop-at}
@@ -14,6 +15,7 @@ use Rattle.octets.specs.Octets.{lay, field, fields, size, Octets}
 use Rattle.octets.proofs.Test.{accepted, all-yes, eq-no, by-eq, in-range}
 use Rattle.octets.proofs.Octets.{Fit, none, one, fields-lay, lay-fields, length-lay, field-one}
 use Rattle.frame.specs.Frame.{Block, Frame, control, dataFrame, ackFrame}
+use Rattle.frame.specs.Fits.{Fits, control-fits, data-fits, ack-fits}
 use Rattle.frame.specs.Layout.{isFrame, hasBlock, layout, fixed, numbers, encode}
 use Rattle.frame.specs.Read.{kindOf, countOf, numberAt, blockAt, frameAt, fixedOk, countOk, numbersOk, readable, questions, readFrame}
 use Rattle.frame.proofs.Classes.{some, frame-range}
@@ -55,20 +57,16 @@ module _ (k : ℕ) {ws vs : List ℕ} (fit : Fit ws vs) (b : Block) where
       frame-at written k refl ws block true sh
       ∙ rw (nth-written 0, nth-written 1, nth-written 2, e, drop-at (lay ws vs) b (size ws) (length-lay fit)) refl
 
--- A frame whose numbers and block have room: what an endpoint sends.
-pub data Fits : Frame → Type 0 where
-  short : {k s r : ℕ} → 1 ≤ k → k ≤ 7 → s < 4294967296 → r < 4294967296 → Fits (control k s r)
-  block : {s r n : ℕ} {b : Block} → s < 4294967296 → r < 4294967296 → n < 4294967296 → 1 ≤ length b → length b ≤ 64 → Fits (dataFrame s r n b)
-  count : {s r n : ℕ} → s < 4294967296 → r < 4294967296 → n < 4294967296 → Fits (ackFrame s r n)
-
 -- the octets of a frame, by the layout and the numbers of its kind
 encode-as : (f : Frame) {ws vs : List ℕ} → layout (f .kind) ≡ ws → numbers f ≡ vs → encode f ≡ f .kind ∷ (lay ws vs ++ f .block)
 unfolding encode
 encode-as f e n = rw (e, n) refl
 
-as-read : (f : Frame) {w : List ℕ} → encode f ≡ w → readFrame w ≡ when (readable f) (ok (frameAt w)) (refused 7) → frameAt w ≡ f
-    → readFrame (encode f) ≡ when (readable f) (ok f) (refused 7)
-as-read f e r a = ap readFrame e ∙ r ∙ ap (λ (x : Frame). when (readable f) (ok x) (refused 7)) a
+-- a frame that is written reads as what it was, where reading its octets asks question 7 only
+as-read : (f : Frame) {w : List ℕ} → encode f ≡ w → readFrame w ≡ when (readable f) (ok (frameAt w)) (refused 7) → frameAt w ≡ f → readable f ≡ true
+    → readFrame (encode f) ≡ ok f
+unfolding when
+as-read f e r a h = ap readFrame e ∙ rw h at r ∙ ap ok a
 
 fit-2 : {s r : ℕ} → s < 4294967296 → r < 4294967296 → Fit (4 ∷ 4 ∷ []) (s ∷ r ∷ [])
 fit-2 hs hr = one hs (one hr none)
@@ -86,24 +84,49 @@ unfolding fields size
 count-written b fit =
     sym (field-one 13 (written 8 fit b) (omega (arith, length-written 8 fit b))) ∙ nth-written 8 fit b 3
 
--- what is written is read again, and asked question 7
-pub read-written : {f : Frame} → Fits f → readFrame (encode f) ≡ when (readable f) (ok f) (refused 7)
-unfolding readable when size numbers layout ifEq
-read-written (short {k} {s} {r} lo hi hs hr) =
-    let sh = control-shape k lo hi in
-    let fit = fit-2 hs hr in
-    as-read (control k s r) (encode-as (control k s r) (sh .widths) (control-numbers k s r hi)) (written-plain k fit [] sh refl) (frame-written k fit [] false sh)
-read-written (block {s} {r} {n} {b} hs hr hn lo hi) =
-    let fit = fit-4 {c = length b} hs hr hn (omega arith) in
-    as-read (dataFrame s r n b) (encode-as (dataFrame s r n b) refl refl) (written-counted 8 fit b data-shape (count-written b fit) lo hi) (frame-written 8 fit b true data-shape)
-read-written (count {s} {r} {n} hs hr hn) =
-    let fit = fit-3 hs hr hn in
-    as-read (ackFrame s r n) (encode-as (ackFrame s r n) refl refl) (written-plain 9 fit [] ack-shape refl) (frame-written 9 fit [] false ack-shape)
+-- question 7
+either-first : {a : Bool} (b : Bool) → a ≡ true → (a || b) ≡ true
+either-first b h = rw h refl
+
+either-second : (a : Bool) {b : Bool} → b ≡ true → (a || b) ≡ true
+either-second a h = rw h (or-true a)
+
+sender-ok : (k s : ℕ) → (k ≢ 4 → k ≢ 7 → 1 ≤ s) → (leb 1 s || (eqb k 4 || eqb k 7)) ≡ true
+sender-ok k s h =
+    by-eq k 4
+    (λ e. either-second (leb 1 s) (either-first (eqb k 7) (eq-eqb k 4 e)))
+    (λ n. by-eq k 7
+    (λ e. either-second (leb 1 s) (either-second (eqb k 4) (eq-eqb k 7 e)))
+    (λ m. either-first (eqb k 4 || eqb k 7) (le-leb 1 s (h n m))))
+
+quoted-ok : (k r : ℕ) → (k ≢ 1 → 1 ≤ r) → (leb 1 r || eqb k 1) ≡ true
+quoted-ok k r h =
+    by-eq k 1
+    (λ e. either-second (leb 1 r) (eq-eqb k 1 e))
+    (λ n. either-first (eqb k 1) (le-leb 1 r (h n)))
+
+numbers-ok : (k s r n : ℕ) → (k ≢ 4 → k ≢ 7 → 1 ≤ s) → (k ≢ 1 → 1 ≤ r) → n ≤ 4294967294 ⊎ (k ≢ 8) → numbersOk k s r n ≡ true
+unfolding numbersOk
+numbers-ok k s r n hs hr hn =
+    rw (sender-ok k s hs, quoted-ok k r hr)
+    (⊎-elim (λ l. either-first (not (eqb k 8)) (le-leb n 4294967294 l)) (λ m. either-second (leb n 4294967294) (rw (ne-eqb k 8 m) refl)) hn)
 
 -- each written frame reads as what it was
-pub written-reads : {f : Frame} → Fits f → readable f ≡ true → readFrame (encode f) ≡ ok f
-unfolding when
-written-reads f h = read-written f ∙ rw h refl
+pub written-reads : {f : Frame} → Fits f → readFrame (encode f) ≡ ok f
+unfolding readable when size numbers layout ifEq
+written-reads (control-fits k {s} {r} lo hi s1 hs r1 hr) =
+    let sh = control-shape k lo hi in
+    let fit = fit-2 {s = s} {r = r} (omega arith) (omega arith) in
+    as-read (control k s r) (encode-as (control k s r) (sh .widths) (control-numbers k s r hi)) (written-plain k fit [] sh refl) (frame-written k fit [] false sh)
+    (numbers-ok k s r 0 s1 r1 (inl (omega arith)))
+written-reads (data-fits {s} {r} {n} {b} s1 hs r1 hr hn lo hi) =
+    let fit = fit-4 {s = s} {r = r} {n = n} {c = length b} (omega arith) (omega arith) (omega arith) (omega arith) in
+    as-read (dataFrame s r n b) (encode-as (dataFrame s r n b) refl refl) (written-counted 8 fit b data-shape (count-written b fit) lo hi)
+    (frame-written 8 fit b true data-shape) (numbers-ok 8 s r n (λ _ _. s1) (λ _. r1) (inl (omega arith)))
+written-reads (ack-fits {s} {r} {n} s1 hs r1 hr hn) =
+    let fit = fit-3 {s = s} {r = r} {n = n} (omega arith) (omega arith) (omega arith) in
+    as-read (ackFrame s r n) (encode-as (ackFrame s r n) refl refl) (written-plain 9 fit [] ack-shape refl) (frame-written 9 fit [] false ack-shape)
+    (numbers-ok 9 s r n (λ _ _. s1) (λ _. r1) (inr (λ e. omega arith)))
 
 -- What octets say, laid out again, over any layout.
 written-again : (s : List ℕ) → Octets s → 1 + size (layout (kindOf s)) ≤ length s → numbers (frameAt s) ≡ fields 1 (layout (kindOf s)) s

@@ -53,6 +53,9 @@ pub both : (a b : Bool) → (a && b) ≡ true → (a ≡ true) × (b ≡ true)
 both true b h = (refl, h)
 both false b h = (h, absurd (false≢true h))
 
+pub joined : {a b : Bool} → a ≡ true → b ≡ true → (a && b) ≡ true
+joined p q = rw (p, q) refl
+
 pub either : (a b : Bool) → (a || b) ≡ true → (a ≡ true) ⊎ (b ≡ true)
 either true b h = inl refl
 either false b h = inr h

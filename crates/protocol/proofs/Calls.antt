@@ -1,0 +1,136 @@
+-- The calls: when a request is allowed, and what each call does, as the facts say it.
+use Prim.Native.Nat.{ℕ, zero, suc, _-_, _<_}
+use mathlib.Core.Path.{_≡_, refl, sym, subst, ap, _∙_}
+use mathlib.Core.Logic.{⊎-elim}
+use mathlib.Core.Bool.{Bool, true, false}
+use mathlib.Core.List.{List, [], _∷_, _++_, List·Memᴰ, List·Memᴰ·cases-cons}
+use native.Mathlib.Omega.{arith}
+use borrow.Author.Tests.{eqb-true, ltb-true}
+use lib.Dec.{T}
+use lib.ListN.{length, getD, length-append}
+use lib.Seq.{getD-append-seam}
+use Rattle.octets.specs.Test.{Question, first, Outcome, refused, ok, outcome}
+use Rattle.octets.proofs.Test.{split, if-eq}
+use Rattle.frame.specs.Frame.{Block, Frame, control, dataFrame, Request, connect, listen, endListening, close, timer, send}
+use Rattle.protocol.specs.Endpoint.{Endpoint, waiting}
+use Rattle.protocol.specs.Table.{Sent, nothing, frame, Step}
+use Rattle.octets.specs.Sizes.{lastNumber, queueSize}
+use Rattle.protocol.specs.Requests.{questions, refusal, queueing, oldest, resent, accept, request}
+use Rattle.protocol.specs.Network.{Call, ask, deliver, perform, Event, History, now, also, sent, recorded, after, Due}
+use Rattle.protocol.specs.Claim.{blockSent}
+use Rattle.protocol.proofs.Facts.{alone, stays, hangs-up, drops, keeps, clears, queues, Sane, Laden}
+use Rattle.protocol.proofs.Facts.{Says, silence, crao, crpo, dr, datum, Fires, fires, heard}
+
+-- Questions: what holds of a refusal, and of the value where all answers are yes, holds of the outcome.
+abbrev Numbered : List Question → Type 0
+Numbered [] = Unit {0}
+Numbered ((zero, b) ∷ qs) = ⊥
+Numbered ((suc n, b) ∷ qs) = Numbered qs
+
+abbrev Yes : List Question → Type 0
+Yes [] = Unit {0}
+Yes ((n, b) ∷ qs) = (b ≡ true) × Yes qs
+
+asked : {A : Type 0} (P : Outcome A → Type 0) {x : A} (qs : List Question) → Numbered qs → ((n : ℕ) → P (refused n)) → (Yes qs → P (ok x))
+    → P (outcome (first qs) x)
+unfolding first outcome
+asked P [] t n y = y tt
+asked P ((zero, b) ∷ qs) t n y = absurd t
+asked P {x} ((suc m, b) ∷ qs) t n y = split (λ (k : ℕ). P (outcome k x)) b (λ e. asked P qs t n (λ z. y (e, z))) (λ e. n (suc m))
+
+-- the request begins no incarnation
+abbrev pub within : Request → Bool
+within connect = false
+within listen = false
+within endListening = true
+within close = true
+within timer = true
+within (send b) = true
+
+-- when a request is allowed
+abbrev pub Allowed : Request → Endpoint → Type 0
+Allowed connect e = (e .state ≡ 0) × (e .local < lastNumber)
+Allowed listen e = (e .state ≡ 0) × (e .local < lastNumber)
+Allowed endListening e = e .state ≡ 1
+Allowed close e = e .state ≡ 4
+Allowed (send b) e = (e .state ≡ 4) × (e .accepted < lastNumber) × (length (e .queue) < queueSize)
+Allowed timer e = Unit {0}
+
+pub requested : (P : Outcome Step → Type 0) (q : Request) (e : Endpoint) → ((n : ℕ) → P (refused n)) → (Allowed q e → P (ok (accept q e)))
+    → P (request q e)
+unfolding request refusal questions
+requested P connect e n y = asked P (questions connect e) tt n (λ z. y (omega (arith, eqb-true, ltb-true)))
+requested P listen e n y = asked P (questions listen e) tt n (λ z. y (omega (arith, eqb-true, ltb-true)))
+requested P endListening e n y = asked P (questions endListening e) tt n (λ z. y (omega (arith, eqb-true, ltb-true)))
+requested P close e n y = asked P (questions close e) tt n (λ z. y (omega (arith, eqb-true, ltb-true)))
+requested P (send b) e n y = asked P (questions (send b) e) tt n (λ z. y (omega (arith, eqb-true, ltb-true)))
+requested P timer e n y = asked P (questions timer e) tt n (λ z. y tt)
+
+-- The requests that begin no incarnation are as if some frame f were heard.
+module _ {e : Endpoint} (f : Frame) (s : Sane e) (l : Laden e) where
+  oldest-waits : e .state ≡ 4 → (q : List Block) → e .queue ≡ q → Says e f (oldest e q)
+  unfolding oldest
+  oldest-waits h [] p = silence
+  oldest-waits h (b ∷ bs) p =
+      datum (e .accepted - waiting e) b h (omega arith) (omega (arith, l .waits, ap length p))
+      (ap (λ (n : ℕ). getD (e .queue) n []) (omega arith) ∙ ap (λ (q : List Block). getD q 0 []) p)
+
+  timed : Says e f (resent e)
+  unfolding resent
+  timed = search (if-eq (Says e f), crao, crpo, dr, silence, oldest-waits) depth 10
+
+  newest : (b : Block) → e .state ≡ 4 → Says (queueing b e) f (frame (dataFrame (e .local) (e .remote) (e .accepted) b))
+  newest b h =
+      let len = length-append (e .queue) (b ∷ []) in
+      let w = l .waits in
+      datum (e .accepted) b h (omega arith) (omega arith)
+      (ap (λ (n : ℕ). getD (e .queue ++ (b ∷ [])) n []) (omega arith) ∙ getD-append-seam (e .queue) b [] [])
+
+  pub asks-on : (q : Request) → T (within q) → Allowed q e → Fires e f (blockSent (ask q)) (accept q e)
+  unfolding accept
+  asks-on connect t a = absurd t
+  asks-on listen t a = absurd t
+  asks-on endListening t a = fires (drops (omega arith) (alone (s .remote-none (omega arith)))) (clears tt tt) silence
+  asks-on close t a = fires (hangs-up (omega arith) (s .remote≥ (omega arith))) (clears tt tt) (dr refl)
+  asks-on (send b) t a = fires (stays refl refl refl) (queues b (a .0) (a .1) (a .2)) (newest b (a .0))
+  asks-on timer t a = fires (stays refl refl refl) (keeps tt) timed
+
+-- of the frame sent, if there is one
+abbrev pub Of : (Frame → Type 0) → Sent → Type 0
+Of P nothing = Unit {0}
+Of P (frame g) = P g
+
+-- of the frames sent before and the one sent now
+pub with-new : {P : Frame → Type 0} (o : Sent) {l : List Frame} → Of P o → ((g : Frame) → List·Memᴰ g l → P g)
+    → (g : Frame) → List·Memᴰ g (also o l) → P g
+with-new nothing p h g m = h g m
+with-new {P} (frame f) p h g m = ⊎-elim (λ e. subst P (sym e) p) (λ n. h g n) (List·Memᴰ·cases-cons m)
+
+-- a frame that the end b has sent, or none
+pub data Heard (b : History) : Frame → Type 0 where
+  no-frame : Heard b (control 0 0 0)
+  from : {f : Frame} → List·Memᴰ f (sent b) → Heard b f
+
+abbrev pub event : Call → History → Step → Event
+event c h x = record { call = c; before = now h; answer = x }
+
+-- What a call does at the end a, beside the end b.
+pub data Deed (a b : History) (c : Call) : History → Type 0 where
+  refuses : Deed a b c a
+  connects : now a .state ≡ 0 → now a .local < lastNumber → c ≡ ask connect → Deed a b c (event c a (accept connect (now a)) ∷ a)
+  listens : now a .state ≡ 0 → now a .local < lastNumber → blockSent c ≡ [] → Deed a b c (event c a (accept listen (now a)) ∷ a)
+  goes : {f : Frame} {x : Step} → Heard b f → Fires (now a) f (blockSent c) x → Deed a b c (event c a x ∷ a)
+
+module _ {a b : History} (s : Sane (now a)) (l : Laden (now a)) where
+  allowed : (q : Request) → Allowed q (now a) → Deed a b (ask q) (event (ask q) a (accept q (now a)) ∷ a)
+  allowed connect y = connects (y .0) (y .1) refl
+  allowed listen y = listens (y .0) (y .1) refl
+  allowed endListening y = goes no-frame (asks-on _ s l endListening tt y)
+  allowed close y = goes no-frame (asks-on _ s l close tt y)
+  allowed timer y = goes no-frame (asks-on _ s l timer tt y)
+  allowed (send c) y = goes no-frame (asks-on _ s l (send c) tt y)
+
+  pub deed : (c : Call) → Due b c → Deed a b c (after c a)
+  unfolding after recorded perform
+  deed (ask q) d = requested (λ (o : Outcome Step). Deed a b (ask q) (recorded (ask q) o a)) q (now a) (λ n. refuses) (λ y. allowed q y)
+  deed (deliver f) d = goes (from d) (heard (now a) f)

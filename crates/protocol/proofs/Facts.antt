@@ -1,0 +1,248 @@
+-- What the step table does, as far as the theorem needs to know: how the endpoint moves, what becomes of its blocks, and
+-- what it says. The rest of the proof sees these facts and not the table.
+use Prim.Native.Nat.{ℕ, _-_, _≤_, _<_}
+use mathlib.Core.Path.{_≡_, refl}
+use mathlib.Core.Logic.{_≢_}
+use mathlib.Core.Bool.{Bool, true, false, not}
+use mathlib.Core.List.{List, [], _∷_}
+use native.Mathlib.Omega.{arith}
+use lib.Dec.{T, eqb}
+use lib.ListN.{length, getD, length-append, length-drop}
+use Rattle.octets.specs.Test.{ifEq, ifLt}
+use Rattle.octets.proofs.Test.{if-eq, if-lt}
+use Rattle.frame.specs.Frame.{Block, CRAO, CRPO, CRACK, REJ, RESET, DR, DRACK, DATA, Frame, control, dataFrame, ackFrame}
+use Rattle.protocol.specs.declared.Rule.{Rule}
+use Rattle.protocol.specs.declared.Rule.the-variants.{Ignore, Refuse, AcceptDisconnect, Answer, Reset, OpenAndConfirm}
+use Rattle.protocol.specs.declared.Rule.the-variants.{CallAgain, Open, Rejected, RejectedByDisconnect, ListenAgain}
+use Rattle.protocol.specs.declared.Rule.the-variants.{ClosedByPartner, Confirm, HandUp, Acknowledge, Release}
+use Rattle.protocol.specs.declared.Rule.the-variants.{FinishedByDisconnect, Finished}
+use Rattle.protocol.specs.Endpoint.{Endpoint, waiting}
+use Rattle.protocol.specs.Table.{whenClosed, whenListening, whenActive, whenPassive, dataRow, ackRow, openRows}
+use Rattle.protocol.specs.Table.{whenEstablished, whenClosing, rule}
+use Rattle.protocol.specs.Table.{Indication, none, connected, rejected, closedByPartner, closeFinished, handedUp, Sent, nothing, frame, Step}
+use Rattle.protocol.specs.Table.{turned, delivering, releasing, apply, step}
+use Rattle.octets.specs.Sizes.{lastNumber, queueSize}
+use Rattle.protocol.specs.Requests.{queueing}
+
+-- Why an endpoint that hears f may give its partner up.
+pub data Excuse (e : Endpoint) (f : Frame) : Type 0 where
+  newer : e .remote < f .sender → Excuse e f
+  rejects : f .kind ≡ REJ → f .quoted ≡ e .local → e .remote ≤ f .sender → Excuse e f
+  hung-up : f .kind ≡ DR → e .remote ≤ f .sender → Excuse e f
+  ended : f .kind ≡ DRACK → f .quoted ≡ e .local → e .remote ≤ f .sender → e .state ≡ 5 → Excuse e f
+  alone : e .remote ≡ 0 → Excuse e f
+
+-- How the endpoint e moves on hearing f, within its incarnation.
+pub data Move (e : Endpoint) (f : Frame) : Endpoint → Type 0 where
+  stays : {x : Endpoint} → x .state ≡ e .state → x .local ≡ e .local → x .remote ≡ e .remote → Move e f x
+  answers : f .kind ≡ CRAO → e .remote ≤ f .sender → 1 ≤ e .state → e .state ≤ 3 → e .state ≢ 2 → Move e f (turned 3 (f .sender) e)
+  recalls : f .kind ≡ CRAO → e .remote ≤ f .sender → e .state ≡ 2 → Move e f (turned 2 (f .sender) e)
+  opens : 1 ≤ f .kind → f .kind ≤ 3 → f .quoted ≡ e .local → e .remote ≤ f .sender → e .state ≡ 2 → Move e f (turned 4 (f .sender) e)
+  joins : f .kind ≡ CRACK → f .quoted ≡ e .local → f .sender ≡ e .remote → e .state ≡ 3 → Move e f (turned 4 (f .sender) e)
+  relistens : f .kind ≡ REJ → f .quoted ≡ e .local → e .remote ≤ f .sender → e .state ≡ 3 → Move e f (turned 1 0 e)
+  resets : f .kind ≡ RESET → f .quoted ≡ e .local → e .remote ≤ f .sender → e .state ≡ 3 → Move e f (turned 1 0 e)
+  hangs-up : 1 ≤ e .state → 1 ≤ e .remote → Move e f (turned 5 (e .remote) e)
+  drops : 1 ≤ e .state → Excuse e f → Move e f (turned 0 0 e)
+
+abbrev pub silent : Indication → Bool
+silent none = true
+silent connected = true
+silent rejected = true
+silent closedByPartner = true
+silent closeFinished = true
+silent (handedUp b) = false
+
+-- What becomes of the blocks: e turns into x with the indication n, and accepts bs to send.
+pub data Carry (e : Endpoint) (f : Frame) : Endpoint → Indication → List Block → Type 0 where
+  keeps : {n : Indication} → T (silent n) → Carry e f e n []
+  clears : {st d : ℕ} {n : Indication} → T (not (eqb st 4)) → T (silent n) → Carry e f (turned st d e) n []
+  begins : {d : ℕ} {n : Indication} → 2 ≤ e .state → e .state ≤ 3 → T (silent n) → Carry e f (turned 4 d e) n []
+  takes : f .kind ≡ DATA → f .quoted ≡ e .local → f .sender ≡ e .remote → e .state ≡ 4 → f .number ≡ e .delivered
+      → Carry e f (delivering e) (handedUp (f .block)) []
+  releases : e .state ≡ 4 → e .accepted - waiting e < f .number → f .number ≤ e .accepted → Carry e f (releasing (f .number) e) none []
+  queues : (b : Block) → e .state ≡ 4 → e .accepted < lastNumber → waiting e < queueSize → Carry e f (queueing b e) none (b ∷ [])
+
+-- What holds of the numbers of a sound endpoint: its state and its incarnations, and its blocks.
+pub record Sane (e : Endpoint) : Type 0 where
+  pub known : e .state ≤ 5
+  pub local≥ : 1 ≤ e .state → 1 ≤ e .local
+  pub remote-none : e .state ≤ 1 → e .remote ≡ 0
+  pub remote≥ : 3 ≤ e .state → 1 ≤ e .remote
+
+pub record Laden (e : Endpoint) : Type 0 where
+  pub waits : length (e .queue) ≤ e .accepted
+  pub places : length (e .queue) ≤ 8
+  pub idle : e .state ≢ 4 → (e .accepted ≡ 0) × (e .delivered ≡ 0)
+
+-- What an endpoint that is x after hearing f says.
+pub data Says (x : Endpoint) (f : Frame) : Sent → Type 0 where
+  silence : Says x f nothing
+  crao : x .state ≡ 2 → Says x f (frame (control CRAO (x .local) (x .remote)))
+  crpo : x .state ≡ 3 → Says x f (frame (control CRPO (x .local) (x .remote)))
+  crack : x .state ≡ 4 → Says x f (frame (control CRACK (x .local) (x .remote)))
+  rej : x .state ≡ 0 → 1 ≤ f .kind → f .kind ≢ REJ → f .kind ≢ DRACK → Says x f (frame (control REJ (x .local) (f .sender)))
+  reset-said : 1 ≤ x .state → x .state ≤ 3 → x .state ≢ 2 → f .kind ≡ CRPO → Says x f (frame (control RESET (x .local) (f .sender)))
+  dr : x .state ≡ 5 → Says x f (frame (control DR (x .local) (x .remote)))
+  drack : f .kind ≡ DR → x .state ≤ 1 → Says x f (frame (control DRACK (x .local) (f .sender)))
+  drack-to-other : f .kind ≡ DR → 2 ≤ x .state → x .state ≤ 3 → f .quoted ≢ x .local → Says x f (frame (control DRACK (x .local) (f .sender)))
+  -- a DATA numbered m has the waiting block with that number
+  datum : (m : ℕ) (b : Block) → x .state ≡ 4 → x .accepted - waiting x ≤ m → m < x .accepted → getD (x .queue) (m - (x .accepted - waiting x)) [] ≡ b
+      → Says x f (frame (dataFrame (x .local) (x .remote) m b))
+  ack : (m : ℕ) → x .state ≡ 4 → m ≡ x .delivered → Says x f (frame (ackFrame (x .local) (x .remote) m))
+
+abbrev pub stepTo : Endpoint → Indication → Sent → Step
+stepTo x n o = record { endpoint = x; indication = n; sent = o }
+
+-- A step as a whole: how it moves, what becomes of the blocks, what it says.
+pub data Fires (e : Endpoint) (f : Frame) (bs : List Block) : Step → Type 0 where
+  fires : {x : Endpoint} {n : Indication} {o : Sent} → Move e f x → Carry e f x n bs → Says x f o → Fires e f bs (stepTo x n o)
+
+-- What the table has found where it chooses a rule; s < D has been passed.
+pub data Found (e : Endpoint) (f : Frame) : Rule → Type 0 where
+  ignore : Found e f Ignore
+  refuse-crao : e .state ≡ 0 → f .kind ≡ CRAO → Found e f Refuse
+  refuse-crpo : e .state ≡ 0 → f .kind ≡ CRPO → Found e f Refuse
+  accept-dr : e .state ≤ 1 → f .kind ≡ DR → Found e f AcceptDisconnect
+  accept-other : 2 ≤ e .state → e .state ≤ 3 → f .kind ≡ DR → f .quoted ≢ e .local → Found e f AcceptDisconnect
+  answer : 1 ≤ e .state → e .state ≤ 3 → e .state ≢ 2 → f .kind ≡ CRAO → e .remote ≤ f .sender → Found e f Answer
+  reset : 1 ≤ e .state → e .state ≤ 3 → e .state ≢ 2 → f .kind ≡ CRPO → Found e f Reset
+  open-crao : e .state ≡ 2 → f .kind ≡ CRAO → f .quoted ≡ e .local → e .remote ≤ f .sender → Found e f OpenAndConfirm
+  open-crpo : e .state ≡ 2 → f .kind ≡ CRPO → f .quoted ≡ e .local → e .remote ≤ f .sender → Found e f OpenAndConfirm
+  call : e .state ≡ 2 → f .kind ≡ CRAO → e .remote ≤ f .sender → Found e f CallAgain
+  open-active : e .state ≡ 2 → f .kind ≡ CRACK → f .quoted ≡ e .local → e .remote ≤ f .sender → Found e f Open
+  open-passive : e .state ≡ 3 → f .kind ≡ CRACK → f .sender ≡ e .remote → f .quoted ≡ e .local → Found e f Open
+  reject : 1 ≤ e .state → f .kind ≡ REJ → f .quoted ≡ e .local → e .remote ≤ f .sender → Found e f Rejected
+  reject-dr : 1 ≤ e .state → f .kind ≡ DR → e .remote ≤ f .sender → Found e f RejectedByDisconnect
+  listen-rej : e .state ≡ 3 → f .kind ≡ REJ → f .quoted ≡ e .local → e .remote ≤ f .sender → Found e f ListenAgain
+  listen-reset : e .state ≡ 3 → f .kind ≡ RESET → f .quoted ≡ e .local → e .remote ≤ f .sender → Found e f ListenAgain
+  partner : 1 ≤ e .state → f .kind ≡ DR → e .remote ≤ f .sender → Found e f ClosedByPartner
+  confirm : e .state ≡ 4 → Found e f Confirm
+  hand-up : e .state ≡ 4 → f .kind ≡ DATA → f .sender ≡ e .remote → f .quoted ≡ e .local → f .number ≡ e .delivered → Found e f HandUp
+  acknowledge : e .state ≡ 4 → Found e f Acknowledge
+  release : e .state ≡ 4 → e .accepted - waiting e < f .number → f .number ≤ e .accepted → Found e f Release
+  finish-dr : 1 ≤ e .state → f .kind ≡ DR → e .remote ≤ f .sender → Found e f FinishedByDisconnect
+  finish : 1 ≤ e .state → Excuse e f → Found e f Finished
+
+eq-found : {e : Endpoint} {f : Frame} (a b : ℕ) {x y : Rule} → (a ≡ b → Found e f x) → (a ≢ b → Found e f y) → Found e f (ifEq a b x y)
+eq-found {e} {f} = if-eq (Found e f)
+
+lt-found : {e : Endpoint} {f : Frame} (a b : ℕ) {x y : Rule} → (a < b → Found e f x) → (b ≤ a → Found e f y) → Found e f (ifLt a b x y)
+lt-found {e} {f} = if-lt (Found e f)
+
+ruleset opening = (refuse-crao, refuse-crpo, accept-dr, accept-other, answer, reset, open-crao, open-crpo, call, open-active, open-passive)
+
+ruleset ending = (reject, reject-dr, listen-rej, listen-reset, partner, finish-dr, finish, newer, rejects, ended)
+
+ruleset talking = (confirm, hand-up, acknowledge, release)
+
+-- what is found by a row, and by the rows below it
+ruleset row = (eq-found, lt-found, ignore, opening, ending, talking)
+
+-- A state at a time. s < D has been passed.
+module _ (e : Endpoint) (f : Frame) (d : e .remote ≤ f .sender) where
+  on-closed : e .state ≡ 0 → Found e f (whenClosed e f)
+  unfolding whenClosed
+  on-closed h =
+      let most : e .state ≤ 1 = omega arith in
+      search row depth 20
+
+  on-listening : e .state ≡ 1 → Found e f (whenListening e f)
+  unfolding whenListening
+  on-listening h =
+      let least : 1 ≤ e .state = omega arith in
+      let most : e .state ≤ 1 = omega arith in
+      let early : e .state ≤ 3 = omega arith in
+      let hearing : e .state ≢ 2 = omega arith in
+      search row depth 20
+
+  on-active : e .state ≡ 2 → Found e f (whenActive e f)
+  unfolding whenActive
+  on-active h =
+      let least : 1 ≤ e .state = omega arith in
+      let opening-state : 2 ≤ e .state = omega arith in
+      let early : e .state ≤ 3 = omega arith in
+      search row depth 20
+
+  on-passive : e .state ≡ 3 → Found e f (whenPassive e f)
+  unfolding whenPassive
+  on-passive h =
+      let least : 1 ≤ e .state = omega arith in
+      let opening-state : 2 ≤ e .state = omega arith in
+      let early : e .state ≤ 3 = omega arith in
+      let hearing : e .state ≢ 2 = omega arith in
+      search row depth 20
+
+  on-established : e .state ≡ 4 → Found e f (whenEstablished e f)
+  unfolding whenEstablished openRows dataRow ackRow
+  on-established h =
+      let least : 1 ≤ e .state = omega arith in
+      search row depth 20
+
+  on-closing : e .state ≡ 5 → Found e f (whenClosing e f)
+  unfolding whenClosing
+  on-closing h =
+      let least : 1 ≤ e .state = omega arith in
+      search row depth 20
+
+pub found : (e : Endpoint) (f : Frame) → Found e f (rule e f)
+unfolding rule
+found e f = search (eq-found, lt-found, ignore, on-closed, on-listening, on-active, on-passive, on-established, on-closing) depth 20
+
+does : {e : Endpoint} {f : Frame} {r : Rule} → Found e f r → Fires e f [] (apply r e f)
+unfolding apply
+does ignore = fires (stays refl refl refl) (keeps tt) silence
+does (refuse-crao h k) = fires (stays refl refl refl) (keeps tt) (rej h (omega arith) (omega arith) (omega arith))
+does (refuse-crpo h k) = fires (stays refl refl refl) (keeps tt) (rej h (omega arith) (omega arith) (omega arith))
+does (accept-dr h k) = fires (stays refl refl refl) (keeps tt) (drack k h)
+does (accept-other h i k r) = fires (stays refl refl refl) (keeps tt) (drack-to-other k h i r)
+does (answer h i j k d) = fires (answers k d h i j) (clears tt tt) (crpo refl)
+does (reset h i j k) = fires (stays refl refl refl) (keeps tt) (reset-said h i j k)
+does (open-crao h k r d) = fires (opens (omega arith) (omega arith) r d h) (begins (omega arith) (omega arith) tt) (crack refl)
+does (open-crpo h k r d) = fires (opens (omega arith) (omega arith) r d h) (begins (omega arith) (omega arith) tt) (crack refl)
+does (call h k d) = fires (recalls k d h) (clears tt tt) (crao refl)
+does (open-active h k r d) = fires (opens (omega arith) (omega arith) r d h) (begins (omega arith) (omega arith) tt) silence
+does (open-passive h k m r) = fires (joins k r m h) (begins (omega arith) (omega arith) tt) silence
+does (reject h k r d) = fires (drops h (rejects k r d)) (clears tt tt) silence
+does (reject-dr h k d) = fires (drops h (hung-up k d)) (clears tt tt) (drack k (omega arith))
+does (listen-rej h k r d) = fires (relistens k r d h) (clears tt tt) silence
+does (listen-reset h k r d) = fires (resets k r d h) (clears tt tt) silence
+does (partner h k d) = fires (drops h (hung-up k d)) (clears tt tt) (drack k (omega arith))
+does (confirm h) = fires (stays refl refl refl) (keeps tt) (crack h)
+does (hand-up h k m r n) = fires (stays refl refl refl) (takes k r m h n) (ack _ h refl)
+does (acknowledge h) = fires (stays refl refl refl) (keeps tt) (ack _ h refl)
+does (release h i j) = fires (stays refl refl refl) (releases h i j) silence
+does (finish-dr h k d) = fires (drops h (hung-up k d)) (clears tt tt) (drack k (omega arith))
+does (finish h x) = fires (drops h x) (clears tt tt) silence
+
+pub heard : (e : Endpoint) (f : Frame) → Fires e f [] (step e f)
+unfolding step
+heard e f = does (found e f)
+
+pub load : {e x : Endpoint} {f : Frame} {n : Indication} {bs : List Block} → Laden e → Carry e f x n bs → Laden x
+load l (keeps t) = l
+load l (clears t u) = record { waits = omega arith; places = omega arith; idle = λ n. (refl, refl) }
+load l (begins p q t) = record { waits = omega arith; places = omega arith; idle = λ n. (refl, refl) }
+load l (takes k r d p n) = record { waits = l .waits; places = l .places; idle = λ n. absurd (n p) }
+load {e} {f = f} l (releases p q r) =
+    let len = length-drop (f .number - (e .accepted - waiting e)) (e .queue) in
+    record { waits = omega (arith, l .waits); places = omega (arith, l .places); idle = λ n. absurd (n p) }
+load {e} l (queues b p t w) =
+    let len = length-append (e .queue) (b ∷ []) in
+    record { waits = omega (arith, l .waits); places = omega arith; idle = λ n. absurd (n p) }
+
+-- A move keeps the numbers sane, if a frame that may open has a sender.
+pub sane-on : {e x : Endpoint} {f : Frame} → Sane e → (1 ≤ f .kind → f .kind ≢ REJ → f .kind ≢ DRACK → 1 ≤ f .sender) → Move e f x → Sane x
+sane-on s u (stays p q r) = record {
+  known = omega (arith, s .known);
+  local≥ = λ a. omega (arith, s .local≥ (omega arith));
+  remote-none = λ a. omega (arith, s .remote-none (omega arith));
+  remote≥ = λ a. omega (arith, s .remote≥ (omega arith));
+}
+sane-on s u (answers k d p q n) = omega (arith, s .local≥ p, u (omega arith) (omega arith) (omega arith))
+sane-on s u (recalls k d p) = omega (arith, s .local≥ (omega arith))
+sane-on s u (opens k l r d p) = omega (arith, s .local≥ (omega arith), u k (omega arith) (omega arith))
+sane-on s u (joins k r d p) = omega (arith, s .local≥ (omega arith), s .remote≥ (omega arith))
+sane-on s u (relistens k r d p) = omega (arith, s .local≥ (omega arith))
+sane-on s u (resets k r d p) = omega (arith, s .local≥ (omega arith))
+sane-on s u (hangs-up p d) = omega (arith, s .local≥ p)
+sane-on s u (drops p y) = omega arith

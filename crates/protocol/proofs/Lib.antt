@@ -1,0 +1,12 @@
+pub mod Facts
+pub mod Sound
+pub mod Calls
+pub mod Invariant
+pub mod Opening
+pub mod Blocks
+pub mod Order
+pub mod Limits
+pub mod Theorem
+pub mod Told
+pub mod Edges
+pub mod Examples

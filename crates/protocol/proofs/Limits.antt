@@ -1,0 +1,175 @@
+-- Every endpoint that a list of calls reaches is sound, its numbers have 32 bits, and every frame sent fits.
+use Prim.Native.Nat.{ℕ, _+_, _-_, _≤_, _<_}
+use mathlib.Core.Path.{_≡_, refl, ap}
+use mathlib.Core.Logic.{_≢_}
+use mathlib.Core.Bool.{true}
+use mathlib.Core.List.{List, [], _∷_, List·Memᴰ, List·Memᴰ·not-nil}
+use native.Mathlib.Omega.{arith}
+use lib.ListN.{length}
+use Rattle.frame.specs.Frame.{Block, CRAO, CRPO, CRACK, REJ, RESET, DR, DRACK, DATA, Frame, control}
+use Rattle.frame.specs.Frame.{Request, connect, listen, endListening, close, timer, send}
+use Rattle.protocol.specs.Endpoint.{Endpoint, waiting, sized, sound}
+use Rattle.protocol.specs.Table.{Indication, Sent, frame, Step}
+use Rattle.octets.specs.Sizes.{lastNumber}
+use Rattle.protocol.specs.Requests.{begun, accept}
+use Rattle.protocol.specs.Network.{Call, ask, deliver, perform, History, now, sent}
+use Rattle.protocol.specs.Claim.{blockSent}
+use Rattle.protocol.specs.Limits.{Bounded, Readable, LeavesSound}
+use Rattle.frame.specs.Fits.{Fits, control-fits, data-fits, ack-fits}
+use Rattle.protocol.proofs.Facts.{Move, stays, answers, recalls, opens, joins, relistens, resets, hangs-up, drops}
+use Rattle.protocol.proofs.Facts.{Carry, keeps, clears, begins, takes, releases, queues, Fires, fires, heard}
+use Rattle.protocol.proofs.Facts.{Says, silence, crao, crpo, crack, rej, reset-said, dr, drack, drack-to-other, datum, ack}
+use Rattle.protocol.proofs.Facts.{Sane, sane-on, Laden, load}
+use Rattle.protocol.proofs.Sound.{sized-append, sized-drop, sized-at, sounds, Sound, sound-so}
+use Rattle.protocol.proofs.Calls.{Of, with-new, Heard, no-frame, from, Deed, refuses, connects, listens, goes, Allowed, requested, asks-on}
+use Rattle.protocol.proofs.Invariant.{back}
+
+-- what is known of the frame that a call hears
+record Small (f : Frame) : Type 0 where
+  sender≥ : 1 ≤ f .kind → f .kind ≢ REJ → f .kind ≢ DRACK → 1 ≤ f .sender
+  sender≤ : f .sender ≤ lastNumber
+  number< : f .kind ≡ DATA → f .number < lastNumber
+
+small : {f : Frame} → Fits f → Small f
+small (control-fits k a b c d e g) = record { sender≥ = λ _ p q. c p q; sender≤ = d; number< = λ z. absurd (omega arith) }
+small (data-fits a b c d e g i) = record { sender≥ = λ _ _ _. a; sender≤ = b; number< = λ _. e }
+small (ack-fits a b c d e) = record { sender≥ = λ _ _ _. a; sender≤ = b; number< = λ k. absurd (omega arith) }
+
+small-none : Small (control 0 0 0)
+small-none = omega arith
+
+sized-none : sized [] ≡ true
+unfolding sized
+sized-none = refl
+
+-- within an incarnation
+bounded-on : {e x : Endpoint} {f : Frame} {n : Indication} {bs : List Block} → Small f → Bounded e → Move e f x → Carry e f x n bs → Bounded x
+bounded-on {e} {x} {f} u v m k = record {
+  local≤ = omega (arith, v .local≤, back m .local);
+  remote≤ = remote m;
+  accepted≤ = accepted k;
+  delivered≤ = delivered k;
+}
+  where
+    remote : {x : Endpoint} → Move e f x → x .remote ≤ lastNumber
+    remote (stays p q r) = omega (arith, v .remote≤)
+    remote (answers k d p q n) = u .sender≤
+    remote (recalls k d p) = u .sender≤
+    remote (opens k l r d p) = u .sender≤
+    remote (joins k r d p) = u .sender≤
+    remote (relistens k r d p) = omega arith
+    remote (resets k r d p) = omega arith
+    remote (hangs-up p d) = v .remote≤
+    remote (drops p y) = omega arith
+
+    accepted : {x : Endpoint} {n : Indication} {bs : List Block} → Carry e f x n bs → x .accepted ≤ lastNumber
+    accepted (keeps t) = v .accepted≤
+    accepted (clears t t′) = omega arith
+    accepted (begins p q t) = omega arith
+    accepted (takes k r d p n) = v .accepted≤
+    accepted (releases p q r) = v .accepted≤
+    accepted (queues b p q r) = omega arith
+
+    delivered : {x : Endpoint} {n : Indication} {bs : List Block} → Carry e f x n bs → x .delivered ≤ lastNumber
+    delivered (keeps t) = v .delivered≤
+    delivered (clears t t′) = omega arith
+    delivered (begins p q t) = omega arith
+    delivered (takes k r d p n) = omega (arith, u .number< k)
+    delivered (releases p q r) = v .delivered≤
+    delivered (queues b p q r) = v .delivered≤
+
+sized-on : {e x : Endpoint} {f : Frame} {n : Indication} {bs : List Block} → sized (e .queue) ≡ true → sized bs ≡ true → Carry e f x n bs
+    → sized (x .queue) ≡ true
+sized-on q t (keeps p) = q
+sized-on q t (clears p r) = t
+sized-on q t (begins p r u) = t
+sized-on q t (takes k r d p n) = q
+sized-on {e} {f = f} q t (releases p r u) = sized-drop (f .number - (e .accepted - waiting e)) (e .queue) q
+sized-on {e} q t (queues b p r u) = sized-append (e .queue) (b ∷ []) q t
+
+-- what is said fits
+module _ {x : Endpoint} {f : Frame} (u : Small f) (s : Sane x) (l : Laden x) (v : Bounded x) (q : sized (x .queue) ≡ true) where
+  -- kind(L, D), of an end that knows its partner
+  to-partner : (k : ℕ) → 1 ≤ k → k ≤ DRACK → 2 ≤ x .state → (k ≢ CRAO → 3 ≤ x .state) → Fits (control k (x .local) (x .remote))
+  to-partner k lo hi p r = control-fits k lo hi (λ _ _. s .local≥ (omega arith)) (v .local≤) (λ n. s .remote≥ (r n)) (v .remote≤)
+
+  -- kind(L, s)
+  to-sender : (k : ℕ) → 1 ≤ k → k ≤ DRACK → (k ≢ REJ → k ≢ DRACK → 1 ≤ x .state) → 1 ≤ f .kind → f .kind ≢ REJ → f .kind ≢ DRACK
+      → Fits (control k (x .local) (f .sender))
+  to-sender k lo hi p a b c = control-fits k lo hi (λ m n. s .local≥ (p m n)) (v .local≤) (λ _. u .sender≥ a b c) (u .sender≤)
+
+  fits-on : {o : Sent} → Says x f o → Of Fits o
+  fits-on silence = tt
+  fits-on (crao p) = to-partner CRAO (omega arith) (omega arith) (omega arith) (λ n. absurd (n refl))
+  fits-on (crpo p) = to-partner CRPO (omega arith) (omega arith) (omega arith) (λ _. omega arith)
+  fits-on (crack p) = to-partner CRACK (omega arith) (omega arith) (omega arith) (λ _. omega arith)
+  fits-on (rej p a b c) = to-sender REJ (omega arith) (omega arith) (λ n _. absurd (n refl)) a b c
+  fits-on (reset-said a b c k) = to-sender RESET (omega arith) (omega arith) (λ _ _. a) (omega arith) (omega arith) (omega arith)
+  fits-on (dr p) = to-partner DR (omega arith) (omega arith) (omega arith) (λ _. omega arith)
+  fits-on (drack k p) = to-sender DRACK (omega arith) (omega arith) (λ _ n. absurd (n refl)) (omega arith) (omega arith) (omega arith)
+  fits-on (drack-to-other k a b c) = to-sender DRACK (omega arith) (omega arith) (λ _ n. absurd (n refl)) (omega arith) (omega arith) (omega arith)
+  fits-on (datum m b p a c e) =
+      let z = sized-at (m - (x .accepted - waiting x)) (x .queue) q (omega (arith, l .waits)) in
+      let w = ap length e in
+      data-fits {n = m} {b = b} (s .local≥ (omega arith)) (v .local≤) (s .remote≥ (omega arith)) (v .remote≤)
+      (omega (arith, v .accepted≤)) (omega arith) (omega arith)
+  fits-on (ack m p e) = ack-fits {n = m} (s .local≥ (omega arith)) (v .local≤) (s .remote≥ (omega arith)) (v .remote≤) (omega (arith, v .delivered≤))
+
+-- Every call of a sound endpoint leaves it sound.
+sound-on : {e : Endpoint} {f : Frame} {bs : List Block} {x : Step} → Sound e → Small f → sized bs ≡ true → Fires e f bs x → sound (x .endpoint) ≡ true
+sound-on s u t (fires m k _) =
+    sounds _ (record { sane = sane-on (s .sane) (u .sender≥) m; laden = load (s .laden) k; blocks = sized-on (s .blocks) t k })
+
+begun-sound : (st : ℕ) (e : Endpoint) → 1 ≤ st → st ≤ 2 → sound (begun st e) ≡ true
+begun-sound st e a b = sounds (begun st e) (record {
+  sane = omega arith;
+  laden = record { waits = omega arith; places = omega arith; idle = λ _. (refl, refl) };
+  blocks = sized-none;
+})
+
+allowed-sound : (q : Request) (e : Endpoint) → Sound e → sized (blockSent (ask q)) ≡ true → Allowed q e → sound (accept q e .endpoint) ≡ true
+unfolding accept
+allowed-sound connect e s t y = begun-sound 2 e (omega arith) (omega arith)
+allowed-sound listen e s t y = begun-sound 1 e (omega arith) (omega arith)
+allowed-sound endListening e s t y = sound-on s small-none t (asks-on (control 0 0 0) (s .sane) (s .laden) endListening tt y)
+allowed-sound close e s t y = sound-on s small-none t (asks-on (control 0 0 0) (s .sane) (s .laden) close tt y)
+allowed-sound timer e s t y = sound-on s small-none t (asks-on (control 0 0 0) (s .sane) (s .laden) timer tt y)
+allowed-sound (send b) e s t y = sound-on s small-none t (asks-on (control 0 0 0) (s .sane) (s .laden) (send b) tt y)
+
+pub call-sound : (c : Call) (e : Endpoint) → sound e ≡ true → Readable c → LeavesSound (perform c e)
+unfolding perform
+call-sound (ask q) e p t = requested LeavesSound q e (λ n. tt) (λ y. allowed-sound q e (sound-so e p) t y)
+call-sound (deliver f) e p t = sound-on (sound-so e p) (small t) sized-none (heard e f)
+
+-- What is kept of one end.
+pub record Room (h : History) : Type 0 where
+  pub bounded : Bounded (now h)
+  pub blocks : sized (now h .queue) ≡ true
+  pub fits : (g : Frame) → List·Memᴰ g (sent h) → Fits g
+
+pub no-room : Room []
+unfolding now sent sized
+no-room = record { bounded = omega arith; blocks = refl; fits = λ g m. absurd (List·Memᴰ·not-nil m) }
+
+begun-bounded : (st : ℕ) {e : Endpoint} → Bounded e → e .local < lastNumber → Bounded (begun st e)
+begun-bounded st v p = omega arith
+
+-- a call at the end a, which is sane and laden afterwards
+pub room-on : {a b : History} {c : Call} {a′ : History} → Room a → Room b → sized (blockSent c) ≡ true → Sane (now a′) → Laden (now a′)
+    → Deed a b c a′ → Room a′
+unfolding now sent accept
+room-on h k t s l refuses = h
+room-on {a} h k t s l (connects z p e) =
+    let v = begun-bounded 2 (h .bounded) p in
+    let new : Fits (control CRAO (now a .local + 1) 0) = fits-on small-none s l v sized-none (crao refl) in
+    record { bounded = v; blocks = sized-none; fits = with-new (frame (control CRAO (now a .local + 1) 0)) new (h .fits) }
+room-on h k t s l (listens z p e) = record { bounded = begun-bounded 1 (h .bounded) p; blocks = sized-none; fits = h .fits }
+room-on {a} {b} h k t s l (goes {f = f} r (fires {o = o} m w x)) =
+    let u : Small f = hears r in
+    let v = bounded-on u (h .bounded) m w in
+    let q = sized-on (h .blocks) t w in
+    record { bounded = v; blocks = q; fits = with-new o (fits-on u s l v q x) (h .fits) }
+  where
+    hears : {f : Frame} → Heard b f → Small f
+    hears no-frame = small-none
+    hears (from m) = small (k .fits _ m)

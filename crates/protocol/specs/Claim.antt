@@ -1,0 +1,111 @@
+-- Demand 3 of document 01, and what is claimed beside it, about every list of calls.
+use Prim.Native.Nat.{ℕ, _≤_}
+use mathlib.Core.Path.{_≡_}
+use mathlib.Core.Logic.{_⊎_, _≢_}
+use mathlib.Core.List.{List, [], _∷_, _++_, List·Memᴰ}
+use Rattle.octets.specs.Test.{ifEq, ok}
+use Rattle.frame.specs.Frame.{Block, Frame, connect, listen, endListening, close, timer, send}
+use Rattle.protocol.specs.Endpoint.{closed, activeOpening, established, closing, Endpoint}
+use Rattle.protocol.specs.Table.{Indication, none, connected, rejected, closedByPartner, closeFinished, handedUp}
+use Rattle.protocol.specs.Table.{frame, quiet, says, turned, step}
+use Rattle.protocol.specs.Requests.{request}
+use Rattle.protocol.specs.Network.{Call, ask, deliver, Event, History, now, Network, start, Entry, made, run}
+
+-- An incarnation is one L of one end. It is begun by connect where the connect request raised L to it.
+abbrev pub BegunByConnect : History → ℕ → Type 0
+BegunByConnect h l = (x : Event) × List·Memᴰ x h × (x .call ≡ ask connect) × (x .answer .endpoint .local ≡ l)
+
+-- An end opens in a call that finds it in another state and leaves it open.
+abbrev pub Opens : Endpoint → Endpoint → Type 0
+Opens before after = (before .state ≢ established) × (after .state ≡ established)
+
+-- What holds as this end opens.
+pub record Met (this other : History) : Type 0 where
+  -- the other end's L is this one's D: the incarnation named
+  pub named : now other .local ≡ now this .remote
+  -- its D is this one's L: it names back
+  pub named-back : now other .remote ≡ now this .local
+  -- its state is 2 to 5
+  pub at-least : activeOpening ≤ now other .state
+  pub at-most : now other .state ≤ closing
+  -- at least one of the two incarnations was begun by connect
+  pub called : BegunByConnect this (now this .local) ⊎ BegunByConnect other (now other .local)
+
+-- (a) of one call, which turns the network n into n′
+pub record Meets (n n′ : Network) : Type 0 where
+  pub at-a : Opens (now (n .a)) (now (n′ .a)) → Met (n′ .a) (n′ .b)
+  pub at-b : Opens (now (n .b)) (now (n′ .b)) → Met (n′ .b) (n′ .a)
+
+-- each call of the list
+abbrev pub EachCall : (Network → Network → Type 0) → Network → List Entry → Type 0
+EachCall P n [] = Unit {0}
+EachCall P n (c ∷ cs) = P n (made c n) × EachCall P (made c n) cs
+
+-- the block of a call answered with notice 5
+abbrev pub blockUp : Indication → List Block
+blockUp none = []
+blockUp connected = []
+blockUp rejected = []
+blockUp closedByPartner = []
+blockUp closeFinished = []
+blockUp (handedUp b) = b ∷ []
+
+-- handed up in the incarnation l: the blocks of the calls answered with notice 5 and that L, in the order of the list
+unfoldable pub handedUpIn : ℕ → History → List Block
+handedUpIn l [] = []
+handedUpIn l (x ∷ earlier) = handedUpIn l earlier ++ ifEq (x .answer .endpoint .local) l (blockUp (x .answer .indication)) []
+
+-- the block of an accepted send request
+abbrev pub blockSent : Call → List Block
+blockSent (ask connect) = []
+blockSent (ask listen) = []
+blockSent (ask endListening) = []
+blockSent (ask close) = []
+blockSent (ask timer) = []
+blockSent (ask (send b)) = b ∷ []
+blockSent (deliver f) = []
+
+-- accepted to send: the blocks of the accepted send requests answered with L = l and D = d, in the order of the list
+unfoldable pub acceptedFor : ℕ → ℕ → History → List Block
+acceptedFor l d [] = []
+acceptedFor l d (x ∷ earlier) =
+    acceptedFor l d earlier
+    ++ ifEq (x .answer .endpoint .local) l (ifEq (x .answer .endpoint .remote) d (blockSent (x .call)) []) []
+
+-- the end opened in its incarnation l, and D named d as it did
+abbrev pub OpenedWith : History → ℕ → ℕ → Type 0
+OpenedWith h l d =
+    (x : Event)
+    × List·Memᴰ x h
+    × Opens (x .before) (x .answer .endpoint)
+    × (x .answer .endpoint .local ≡ l)
+    × (x .answer .endpoint .remote ≡ d)
+
+-- xs are the first of ys, in their order
+abbrev pub Prefix : List Block → List Block → Type 0
+Prefix xs ys = (zs : List Block) × (xs ++ zs ≡ ys)
+
+-- (b) of one end: its partner in an incarnation l that opened is the other end in the incarnation d that D named
+pub record InOrder (this other : History) : Type 0 where
+  pub opened : (l d : ℕ) → OpenedWith this l d → Prefix (handedUpIn l this) (acceptedFor d l other)
+  pub never : (l : ℕ) → ((d : ℕ) → OpenedWith this l d → ⊥) → handedUpIn l this ≡ []
+
+-- Demand 3, of a list of calls at two fresh ends.
+pub record Demand (calls : List Entry) : Type 0 where
+  pub meets : EachCall Meets start calls
+  pub to-a : InOrder (run start calls .a) (run start calls .b)
+  pub to-b : InOrder (run start calls .b) (run start calls .a)
+
+-- Demand 3 says nothing of an end that is never told. So it is claimed too that a call to a closed end is turned away: the
+-- caller's timer call sends a frame, the partner answers it, and that answer, delivered, closes the caller with notice 2.
+pub record TurnedAway (caller partner : Endpoint) : Type 0 where
+  pub call : Frame
+  pub reply : Frame
+  pub calls : request timer caller ≡ ok (says caller none call)
+  pub replies : step partner call .sent ≡ frame reply
+  pub told : step caller reply ≡ quiet (turned closed 0 caller) rejected
+
+-- of two ends, whichever of them calls
+pub record Told (n : Network) : Type 0 where
+  pub a-calls : now (n .a) .state ≡ activeOpening → now (n .b) .state ≡ closed → TurnedAway (now (n .a)) (now (n .b))
+  pub b-calls : now (n .b) .state ≡ activeOpening → now (n .a) .state ≡ closed → TurnedAway (now (n .b)) (now (n .a))

@@ -1,0 +1,78 @@
+-- Requests and the timer call: questions 8, 9 and 10 of document 01, and what a request does where all answers are yes.
+use Prim.Native.Nat.{ℕ, _+_, _-_}
+use mathlib.Core.List.{List, [], _∷_, _++_}
+use lib.Dec.{ltb, eqb}
+use Rattle.octets.specs.Sizes.{lastNumber, queueSize}
+use Rattle.octets.specs.Test.{ifEq, Question, first, Outcome, outcome}
+use Rattle.frame.specs.Frame.{Block, CRAO, CRPO, DR, control, dataFrame}
+use Rattle.frame.specs.Frame.{Request, connect, listen, endListening, close, timer, send}
+use Rattle.protocol.specs.Endpoint.{closed, listening, activeOpening, passiveOpening, established, closing, Endpoint, waiting}
+use Rattle.protocol.specs.Table.{none, Sent, nothing, frame, Step, quiet, says, turned}
+
+-- 8: does the state allow the request?
+abbrev pub stateIs : ℕ → Endpoint → Question
+stateIs n e = (8, eqb (e .state) n)
+
+-- 9: is a number left?
+abbrev pub numberLeft : ℕ → Question
+numberLeft n = (9, ltb n lastNumber)
+
+-- 10: send: is w below 8?
+abbrev pub placeLeft : Endpoint → Question
+placeLeft e = (10, ltb (waiting e) queueSize)
+
+-- the questions of each request, in document 01's order
+unfoldable pub questions : Request → Endpoint → List Question
+questions connect e = stateIs closed e ∷ numberLeft (e .local) ∷ []
+questions listen e = stateIs closed e ∷ numberLeft (e .local) ∷ []
+questions endListening e = stateIs listening e ∷ []
+questions close e = stateIs established e ∷ []
+questions (send b) e = stateIs established e ∷ numberLeft (e .accepted) ∷ placeLeft e ∷ []
+questions timer e = []
+
+-- the number of the refusal, 0 where there is none
+unfoldable pub refusal : Request → Endpoint → ℕ
+refusal q e = first (questions q e)
+
+-- the next incarnation, in state st, with no partner known
+abbrev pub begun : ℕ → Endpoint → Endpoint
+begun st e = record { state = st; local = e .local + 1; remote = 0; accepted = 0; delivered = 0; queue = [] }
+
+-- the block joins the waiting ones as number t, then t + 1
+abbrev pub queueing : Block → Endpoint → Endpoint
+queueing b e =
+    record {
+      state = e .state;
+      local = e .local;
+      remote = e .remote;
+      accepted = e .accepted + 1;
+      delivered = e .delivered;
+      queue = e .queue ++ (b ∷ []);
+    }
+
+-- the DATA of the oldest waiting block, which has number t - w, if there is one
+unfoldable pub oldest : Endpoint → List Block → Sent
+oldest e [] = nothing
+oldest e (b ∷ bs) = frame (dataFrame (e .local) (e .remote) (e .accepted - waiting e) b)
+
+-- what the timer call sends
+unfoldable pub resent : Endpoint → Sent
+resent e =
+    ifEq (e .state) activeOpening (frame (control CRAO (e .local) (e .remote)))
+    (ifEq (e .state) passiveOpening (frame (control CRPO (e .local) (e .remote)))
+    (ifEq (e .state) established (oldest e (e .queue))
+    (ifEq (e .state) closing (frame (control DR (e .local) (e .remote)))
+    nothing)))
+
+-- what a request does that is allowed
+unfoldable pub accept : Request → Endpoint → Step
+accept connect e = says (begun activeOpening e) none (control CRAO (e .local + 1) 0)
+accept listen e = quiet (begun listening e) none
+accept endListening e = quiet (turned closed 0 e) none
+accept close e = says (turned closing (e .remote) e) none (control DR (e .local) (e .remote))
+accept (send b) e = says (queueing b e) none (dataFrame (e .local) (e .remote) (e .accepted) b)
+accept timer e = record { endpoint = e; indication = none; sent = resent e }
+
+-- what a request answers: its refusal, or the step
+unfoldable pub request : Request → Endpoint → Outcome Step
+request q e = outcome (refusal q e) (accept q e)

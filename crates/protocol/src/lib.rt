@@ -1,0 +1,21 @@
+// The effects of the step table, by name. specs/Table.antt says which row has which effect, and what each effect is.
+pub enum Rule {
+    Ignore,
+    Refuse,
+    AcceptDisconnect,
+    Answer,
+    Reset,
+    OpenAndConfirm,
+    CallAgain,
+    Open,
+    Rejected,
+    RejectedByDisconnect,
+    ListenAgain,
+    ClosedByPartner,
+    Confirm,
+    HandUp,
+    Acknowledge,
+    Release,
+    FinishedByDisconnect,
+    Finished,
+}
