@@ -3,7 +3,6 @@ use Prim.Native.Nat.{ℕ}
 use mathlib.Core.Path.{_≡_, refl}
 use mathlib.Core.List.{List}
 use native.Mathlib.Omega.{arith}
-use lib.ListN.{length}
 use Rattle.octets.specs.Test.{Outcome, refused, ok, numberOf}
 use Rattle.hexline.specs.Line.{lineOf}
 use Rattle.hexline.specs.declared.Line.the-variants.{Decoded, Refused}

@@ -1,15 +1,15 @@
 -- Which question refuses a frame to be written, and what a success leaves. Assumes nothing.
 use Prim.Native.Nat.{ℕ, _<_, _≤_}
-use mathlib.Core.Path.{_≡_, refl, sym, ap, _∙_}
+use mathlib.Core.Path.{_≡_, refl, sym, _∙_}
 use mathlib.Core.Logic.{_≢_}
 use mathlib.Core.Bool.{true, false}
 use mathlib.Core.List.{List, []}
 use borrow.Author.Tests.{le-leb, lt-leb}
 use lib.ListN.{length}
-use Rattle.octets.specs.Test.{when, ifEq, first, Outcome, refused, ok, outcome, numberOf}
+use Rattle.octets.specs.Test.{when, first, Outcome, refused, ok, outcome, numberOf}
 use Rattle.octets.specs.Octets.{left}
 use Rattle.octets.proofs.Test.{eq-yes, eq-no}
-use Rattle.frame.specs.Frame.{Block, Frame, control, dataFrame, ackFrame}
+use Rattle.frame.specs.Frame.{Block, Frame}
 use Rattle.frame.specs.Layout.{isFrame, encode}
 use Rattle.frame.specs.Read.{countOk}
 use Rattle.frame.specs.Answer.{frameWith, Written}

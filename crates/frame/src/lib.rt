@@ -1,9 +1,9 @@
 // Frames and requests in octets: reading, with questions 3 to 7, and writing.
 ghost use mathlib.Core.Path.{_≡_};
 ghost use mathlib.Core.List.{List, _∷_, _++_};
-ghost use mathlib.Core.Bool.{true, false};
+ghost use mathlib.Core.Bool.{true};
 ghost use Prim.Native.Nat.{ℕ, _≤_, _<_};
-ghost use lib.ListN.{length, getD};
+ghost use lib.ListN.{length};
 ghost use Rattle.octets.specs.Sizes.{longestFrame, longestBlock};
 ghost use Rattle.octets.specs.Octets.{put, bytes};
 ghost use Rattle.frame.specs.Frame.{control, dataFrame, ackFrame};

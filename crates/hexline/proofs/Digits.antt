@@ -2,7 +2,7 @@
 use Prim.Native.Nat.{ℕ, zero, suc, _+_, _-_, _*_, _/_, _%_, _<_, _≤_}
 use mathlib.Core.Path.{_≡_, refl, sym, ap, ap₂, _∙_}
 use mathlib.Core.Logic.{⊎-elim}
-use mathlib.Core.Bool.{Bool, true, false, _&&_, _||_, and-comm, and-assoc, or-true}
+use mathlib.Core.Bool.{Bool, true, _&&_, and-comm, and-assoc, or-true}
 use mathlib.Core.List.{List, [], _∷_, _++_}
 use native.Mathlib.Nat.{div-add-mod'}
 use native.Mathlib.Omega.{arith}
@@ -10,9 +10,8 @@ use native.Mathlib.Numerals.{add-one}
 use lib.Dec.{eqb}
 use borrow.Author.Tests.{eqb-true}
 use lib.Arith.{digits-div, digits-mod}
-use lib.ListN.{length, take, drop, getD}
-use lib.Seq.{take-suc}
-use Rattle.octets.specs.Test.{ifLt, inRange}
+use lib.ListN.{length, take, getD}
+use Rattle.octets.specs.Test.{inRange}
 use Rattle.octets.specs.Octets.{Octets}
 use Rattle.octets.proofs.Test.{if-lt, lt-yes, lt-no, both, either, within, in-range}
 use Rattle.hexline.specs.Line.{digit, isDigit, value, hex, unhex, all, lengthOk}

@@ -1,16 +1,15 @@
 -- A written line reads as its octets; a readable line, written again, is the same line; the edges. Assumes nothing.
-use Prim.Native.Nat.{ℕ, suc, _*_, _/_, _%_, _≤_}
+use Prim.Native.Nat.{ℕ, _*_, _/_, _%_, _≤_}
 use mathlib.Core.Path.{_≡_, refl, sym, ap, _∙_}
-use mathlib.Core.Bool.{true, _&&_}
+use mathlib.Core.Bool.{true}
 use mathlib.Core.List.{List, [], _∷_}
 use native.Mathlib.Omega.{arith}
 use borrow.Author.Tests.{eq-eqb}
-use lib.Dec.{eqb}
 use lib.ListN.{length, replicate}
-use Rattle.octets.specs.Test.{inRange, first, when, outcome, Outcome, refused, ok}
+use Rattle.octets.specs.Test.{inRange, first, when, outcome, ok}
 use Rattle.octets.specs.Octets.{Octets}
 use Rattle.octets.proofs.Test.{accepted, all-yes, in-range}
-use Rattle.hexline.specs.Line.{isDigit, value, hex, unhex, all, lengthOk, lineQuestions, readLine}
+use Rattle.hexline.specs.Line.{isDigit, hex, unhex, all, lengthOk, lineQuestions, readLine}
 use Rattle.hexline.proofs.Digits.{right-length, length-hex, hex-digits, unhex-hex, hex-unhex}
 
 even-length : (n : ℕ) → 1 ≤ n → n ≤ 78 → lengthOk (2 * n) ≡ true

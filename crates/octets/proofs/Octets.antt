@@ -1,14 +1,14 @@
 -- Laws of writes and of numbers in octets. Assumes nothing.
 use Prim.Native.Nat.{ℕ, zero, suc, _+_, _*_, _/_, _%_, _^_, _<_, _≤_}
 use mathlib.Core.Path.{_≡_, refl, sym, ap, ap₂, _∙_}
-use mathlib.Core.List.{List, [], _∷_, _++_, append-nil, append-assoc}
+use mathlib.Core.List.{List, [], _∷_, _++_, append-assoc}
 use native.Mathlib.Nat.{div-add-mod', add-zero}
 use native.Mathlib.Numerals.{add-one}
 use native.Mathlib.Omega.{arith}
 use lib.Dec.{lit<}
 use lib.Arith.{digits-div, digits-mod}
-use lib.ListN.{length, take, drop, getD, set, length-append, length-take, length-drop, take-append-drop}
-use lib.Seq.{take-length, take-suc, take-add, getD-drop, getD-take, length-take-le, take-at, drop-at, drop-drop, sets, sets-eq}
+use lib.ListN.{length, take, drop, getD, set, length-append, length-drop, take-append-drop}
+use lib.Seq.{take-length, take-suc, take-add, getD-drop, length-take-le, take-at, drop-at, drop-drop, sets, sets-eq}
 use Rattle.octets.specs.Octets.{put, bytes, more, number, field, lay, fields, size, Octets}
 
 pub length-bytes : (n v : ℕ) → length (bytes n v) ≡ n

@@ -3,11 +3,11 @@ use Prim.Native.Nat.{ℕ, zero, suc, _<_, _≤_}
 use mathlib.Core.Path.{_≡_, refl}
 use mathlib.Core.Logic.{_≢_, _⊎_, inl, inr}
 use mathlib.Core.Bool.{Bool, true, false, _&&_, _||_, not, false≢true, and-false}
-use mathlib.Core.List.{List, [], _∷_}
+use mathlib.Core.List.{List, _∷_}
 use native.Mathlib.Omega.{arith}
 use lib.Dec.{ltb, leb, eqb, T, T-not}
 use borrow.Author.Tests.{ltb-true, ltb-false, leb-true, eqb-true, eqb-false, le-ltb, lt-ltb, le-leb, lt-leb, eq-eqb, ne-eqb}
-use Rattle.octets.specs.Test.{when, ifEq, ifLt, inRange, Question, first, Outcome, refused, ok, outcome}
+use Rattle.octets.specs.Test.{when, ifEq, ifLt, inRange, Question, first, ok, outcome}
 
 -- What holds of both choices, each under its test, holds of what is chosen.
 module _ {A : Type 0} (P : A → Type 0) where

@@ -1,11 +1,10 @@
-use mathlib.Core.Path.{_≡_, refl, sym, ap, _∙_}
+use mathlib.Core.Path.{refl, sym, ap, _∙_}
 use lib.ListN.{drop}
 use denote.Ref.{now}
 use Rattle.octets.specs.Test.{numberOf}
 use Rattle.frame.specs.Answer.{inputRead}
 use Rattle.frame.specs.declared.InputRead.{InputRead}
 use Rattle.codec.specs.Calls.{shown}
-use native.Mathlib.Omega.{arith}
 use borrow.Author.Needs.{needs}
 use Rattle.codec.proofs.codec_read.Statement.{statement}
 use Rattle.codec.proofs.codec_read.Tie as tie

@@ -2,7 +2,6 @@ use mathlib.Core.Path.{sym, _∙_}
 use denote.Ref.{now}
 use Rattle.hexline.specs.Line.{readInto}
 use Rattle.codec.proofs.Lines.{decoded, declined}
-use native.Mathlib.Omega.{arith}
 use borrow.Author.Needs.{needs}
 use Rattle.codec.proofs.codec_read_line.Statement.{statement}
 use Rattle.codec.proofs.codec_read_line.Tie as tie

@@ -1,7 +1,6 @@
 use mathlib.Core.Path.{sym, ap}
 use Rattle.frame.specs.declared.FrameRead.{FrameRead}
 use Rattle.frame.specs.Answer.{frameRead, frameInput, inputRead}
-use native.Mathlib.Omega.{arith}
 use borrow.Author.Needs.{needs}
 use Rattle.frame.proofs.frame_input.Statement.{statement}
 use Rattle.frame.proofs.frame_input.Tie as tie

@@ -1,6 +1,5 @@
 use Rattle.frame.specs.Read.{numbersOk}
 use borrow.Author.Needs.{needs}
-use native.Mathlib.Omega.{arith}
 use Rattle.frame.proofs.numbers_ok.Statement.{statement}
 use Rattle.frame.proofs.numbers_ok.Tie as tie
 

@@ -1,8 +1,7 @@
-use Prim.Native.Nat.{ℕ, _+_}
-use mathlib.Core.Path.{_≡_, refl, sym, ap, ap₂, _∙_}
+use mathlib.Core.Path.{_≡_, refl, sym, _∙_}
 use mathlib.Core.Bool.{true, false}
-use borrow.Author.Tests.{eq-eqb, ne-eqb, le-leb, lt-leb, not-true, not-false}
-use lib.ListN.{length, getD, drop}
+use borrow.Author.Tests.{eq-eqb, ne-eqb, not-true, not-false}
+use lib.ListN.{length}
 use denote.Ref.{now}
 use Rattle.octets.specs.Test.{when, ok}
 use Rattle.octets.specs.Octets.{field}
@@ -10,7 +9,6 @@ use Rattle.frame.specs.Frame.{ackFrame}
 use Rattle.frame.specs.Read.{numbersOk}
 use Rattle.frame.specs.Answer.{frameOf, frameRead}
 use Rattle.frame.proofs.Reading.{ack-read}
-use native.Mathlib.Omega.{arith}
 use borrow.Author.Needs.{needs}
 use Rattle.frame.proofs.read_ack.Statement.{statement}
 use Rattle.frame.proofs.read_ack.Tie as tie

@@ -1,8 +1,8 @@
-use Prim.Native.Nat.{ℕ, _+_}
+use Prim.Native.Nat.{ℕ}
 use mathlib.Core.Path.{_≡_, refl, sym, ap, ap₂, _∙_}
 use mathlib.Core.Bool.{true, false}
-use borrow.Author.Tests.{eq-eqb, ne-eqb, le-leb, lt-leb, not-true, not-false}
-use lib.ListN.{length, getD, drop}
+use borrow.Author.Tests.{eq-eqb, ne-eqb, not-true, not-false}
+use lib.ListN.{length, drop}
 use denote.Ref.{now}
 use Rattle.octets.specs.Test.{when, ok}
 use Rattle.octets.specs.Octets.{field}
@@ -10,7 +10,6 @@ use Rattle.frame.specs.Frame.{control}
 use Rattle.frame.specs.Read.{numbersOk}
 use Rattle.frame.specs.Answer.{frameRead}
 use Rattle.frame.proofs.Reading.{control-read}
-use native.Mathlib.Omega.{arith}
 use borrow.Author.Needs.{needs}
 use Rattle.frame.proofs.read_control.Statement.{statement}
 use Rattle.frame.proofs.read_control.Tie as tie

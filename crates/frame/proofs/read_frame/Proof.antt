@@ -4,7 +4,6 @@ use Rattle.frame.specs.Read.{kindOf}
 use Rattle.frame.specs.Answer.{frameRead}
 use Rattle.frame.proofs.Classes.{of-frame, of-request, of-unknown}
 use Rattle.frame.proofs.Reading.{unknown-frame}
-use native.Mathlib.Omega.{arith}
 use borrow.Author.Needs.{needs}
 use Rattle.frame.proofs.read_frame.Statement.{statement}
 use Rattle.frame.proofs.read_frame.Tie as tie

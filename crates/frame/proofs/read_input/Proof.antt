@@ -4,7 +4,6 @@ use Rattle.frame.specs.Read.{kindOf}
 use Rattle.frame.specs.Answer.{inputRead, frameInput, requestInput}
 use Rattle.frame.proofs.Classes.{of-frame, of-request, of-unknown}
 use Rattle.frame.proofs.Reading.{unknown-input, frame-read, other-read}
-use native.Mathlib.Omega.{arith}
 use borrow.Author.Needs.{needs}
 use Rattle.frame.proofs.read_input.Statement.{statement}
 use Rattle.frame.proofs.read_input.Tie as tie

@@ -4,7 +4,6 @@ use Rattle.frame.specs.Read.{kindOf}
 use Rattle.frame.specs.Answer.{requestRead}
 use Rattle.frame.proofs.Classes.{of-frame, of-request, of-unknown, frame-no-request}
 use Rattle.frame.proofs.Reading.{unknown-request}
-use native.Mathlib.Omega.{arith}
 use borrow.Author.Needs.{needs}
 use Rattle.frame.proofs.read_request.Statement.{statement}
 use Rattle.frame.proofs.read_request.Tie as tie

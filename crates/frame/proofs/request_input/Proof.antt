@@ -1,7 +1,6 @@
 use mathlib.Core.Path.{sym, ap}
 use Rattle.frame.specs.Answer.{requestRead, requestInput, inputRead}
 use Rattle.frame.specs.declared.RequestRead.{RequestRead}
-use native.Mathlib.Omega.{arith}
 use borrow.Author.Needs.{needs}
 use Rattle.frame.proofs.request_input.Statement.{statement}
 use Rattle.frame.proofs.request_input.Tie as tie

@@ -1,7 +1,6 @@
 use Rattle.octets.specs.Test.{inRange}
 use Rattle.hexline.specs.Line.{isDigit}
 use borrow.Author.Needs.{needs}
-use native.Mathlib.Omega.{arith}
 use Rattle.hexline.proofs.is_digit.Statement.{statement}
 use Rattle.hexline.proofs.is_digit.Tie as tie
 

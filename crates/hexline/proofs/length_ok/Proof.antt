@@ -1,6 +1,5 @@
 use Rattle.octets.specs.Test.{inRange}
 use Rattle.hexline.specs.Line.{lengthOk}
-use native.Mathlib.Omega.{arith}
 use borrow.Author.Needs.{needs}
 use Rattle.hexline.proofs.length_ok.Statement.{statement}
 use Rattle.hexline.proofs.length_ok.Tie as tie
