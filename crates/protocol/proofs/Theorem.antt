@@ -29,7 +29,7 @@ call-at h c d =
     let x = deed (h .joint .ends-a .sane) (h .joint .laden-a) c d in
     record { joint = acts (h .joint) x .joint; flow = flows (h .flow) (h .joint .laden-a) x }
 
-met-at : {a b : History} → Reached a b → (c : Call) → Due b c → Opens (now a) (now (after c a)) → Met (after c a) b
+pub met-at : {a b : History} → Reached a b → (c : Call) → Due b c → Opens (now a) (now (after c a)) → Met (after c a) b
 met-at h c d = acts (h .joint) (deed (h .joint .ends-a .sane) (h .joint .laden-a) c d) .met
 
 -- one call at either end
@@ -57,15 +57,15 @@ demand-3 calls d =
     record { meets = each start fresh-reached calls d; to-a = in-order (h .flow); to-b = in-order (swap-flow (h .flow)) }
 
 -- Every endpoint that the list reaches is sound, and what it holds and has sent fits.
-record Roomy (a b : History) : Type 0 where
-  reached-both : Reached a b
-  room-a : Room a
-  room-b : Room b
+pub record Roomy (a b : History) : Type 0 where
+  pub reached-both : Reached a b
+  pub room-a : Room a
+  pub room-b : Room b
 
-swap-roomy : {a b : History} → Roomy a b → Roomy b a
+pub swap-roomy : {a b : History} → Roomy a b → Roomy b a
 swap-roomy h = record { reached-both = swap-reached (h .reached-both); room-a = h .room-b; room-b = h .room-a }
 
-roomy-at : {a b : History} → Roomy a b → (c : Call) → sized (blockSent c) ≡ true → Due b c → Roomy (after c a) b
+pub roomy-at : {a b : History} → Roomy a b → (c : Call) → sized (blockSent c) ≡ true → Due b c → Roomy (after c a) b
 roomy-at h c t d =
     let r = h .reached-both in
     let k = call-at r c d in
@@ -75,12 +75,15 @@ roomy-at h c t d =
       room-b = h .room-b;
     }
 
+pub fresh-roomy : Roomy [] []
+fresh-roomy = record { reached-both = fresh-reached; room-a = no-room; room-b = no-room }
+
 roomy : (n : Network) → Roomy (n .a) (n .b) → (cs : List Entry) → AllSized cs → AllDue n cs → Roomy (run n cs .a) (run n cs .b)
 roomy n h [] t d = h
 roomy n h (atA c ∷ cs) t d = roomy (made (atA c) n) (roomy-at h c (t .0) (d .0)) cs (t .1) (d .1)
 roomy n h (atB c ∷ cs) t d = roomy (made (atB c) n) (swap-roomy (roomy-at (swap-roomy h) c (t .0) (d .0))) cs (t .1) (d .1)
 
-limited : {a b : History} → Roomy a b → Limited a
+pub limited : {a b : History} → Roomy a b → Limited a
 limited h = record {
   is-sound = sounds _ (record {
     sane = h .reached-both .joint .ends-a .sane;
@@ -93,5 +96,5 @@ limited h = record {
 
 pub limits : (calls : List Entry) → AllSized calls → AllDue start calls → Limited (run start calls .a) × Limited (run start calls .b)
 limits calls t d =
-    let h = roomy start (record { reached-both = fresh-reached; room-a = no-room; room-b = no-room }) calls t d in
+    let h = roomy start fresh-roomy calls t d in
     (limited h, limited (swap-roomy h))
