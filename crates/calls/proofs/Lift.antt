@@ -142,7 +142,7 @@ module _ (format : Format) (law : Lawful format) where
       record {
         roomy = r;
         mine = tied format (x .history) (x .rec) p (first ((11, leb (format .size) (length (x .rec))) ∷ [])) (first (ownQuestions (format .sound (x .rec)) c)) (said c) (h .mine)
-          (law .long (now (after format c x .history)) (n .is-sound) (n .bounded) ∙ sym (law .long (now (x .history)) (m .is-sound) (m .bounded)));
+            (law .long (now (after format c x .history)) (n .is-sound) (n .bounded) ∙ sym (law .long (now (x .history)) (m .is-sound) (m .bounded)));
         other = h .other;
       }
 

@@ -6,13 +6,13 @@ use mathlib.Core.List.{List, [], _∷_}
 use lib.ListN.{length}
 use lib.Dec.{leb}
 use Rattle.octets.specs.Sizes.{longestFrame}
-use Rattle.octets.specs.Test.{ifEq, first, Outcome, refused, ok, outcome, numberOf}
+use Rattle.octets.specs.Test.{ifEq, first, Outcome, refused, ok, outcome, mapped, numberOf}
 use Rattle.octets.specs.Octets.{left}
 use Rattle.hexline.specs.Line.{hex}
 use Rattle.frame.specs.Frame.{Block, DATA}
 use Rattle.frame.specs.Layout.{isFrame, encode}
 use Rattle.frame.specs.Read.{countOk, readFrame, readRequest, Input, frame, request, readInput}
-use Rattle.frame.specs.Answer.{valuesOf, frameWith, requestNumber, frameInput, requestInput}
+use Rattle.frame.specs.Answer.{valuesOf, frameWith, requestNumber}
 use Rattle.frame.specs.declared.Values.{Values}
 
 -- how many octets a success wrote; a refusal leaves the number lent
@@ -33,8 +33,8 @@ writeLine s out = outcome (first ((11, leb (2 * length s) (length out)) ∷ []))
 -- reading by a call that knows frames (1), requests (2) or both (3)
 unfoldable pub readKnown : ℕ → List ℕ → Outcome Input
 readKnown known s =
-    ifEq known 1 (frameInput (readFrame s))
-    (ifEq known 2 (requestInput (readRequest s))
+    ifEq known 1 (mapped frame (readFrame s))
+    (ifEq known 2 (mapped request (readRequest s))
     (ifEq known 3 (readInput s)
     (refused 3)))
 

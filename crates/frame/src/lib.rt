@@ -5,11 +5,12 @@ ghost use mathlib.Core.Bool.{true};
 ghost use Prim.Native.Nat.{ℕ, _≤_, _<_};
 ghost use lib.ListN.{length};
 ghost use Rattle.octets.specs.Sizes.{longestFrame, longestBlock};
+ghost use Rattle.octets.specs.Test.{mapped};
 ghost use Rattle.octets.specs.Octets.{put, bytes};
 ghost use Rattle.frame.specs.Frame.{control, dataFrame, ackFrame};
-ghost use Rattle.frame.specs.Read.{kindOf, countOk, numbersOk, readFrame, readRequest, readInput};
+ghost use Rattle.frame.specs.Read.{kindOf, countOk, numbersOk, readFrame, readRequest, frame, request, readInput};
 ghost use Rattle.frame.specs.Layout.{isFrame, isRequest};
-ghost use Rattle.frame.specs.Answer.{classOf, frameOf, requestOf, valuesOf, requestNumber, frameRead, requestRead, frameInput, requestInput, inputRead, Written};
+ghost use Rattle.frame.specs.Answer.{classOf, frameOf, requestOf, valuesOf, requestNumber, frameRead, requestRead, inputRead, Written};
 
 // A frame without its block, one variant for each kind. The block of a DATA stays where it is: octets 14 on of the caller's slice.
 pub enum Header {
@@ -285,7 +286,7 @@ pub fn read_request(s: &[u8]) -> RequestRead
 
 // What a call that knows requests too makes of a frame.
 pub fn frame_input(f: FrameRead) -> InputRead
-    ensures { λ r. ⌜ ((s : List ℕ) → inputRead r s ≡ frameInput (frameRead f s)) ⌝ }
+    ensures { λ r. ⌜ ((s : List ℕ) → inputRead r s ≡ mapped frame (frameRead f s)) ⌝ }
 {
     match f {
         FrameRead::Frame(h) => InputRead::Frame(h),
@@ -295,7 +296,7 @@ pub fn frame_input(f: FrameRead) -> InputRead
 
 // What a call that knows frames too makes of a request.
 pub fn request_input(q: RequestRead) -> InputRead
-    ensures { λ r. ⌜ ((s : List ℕ) → inputRead r s ≡ requestInput (requestRead q s)) ⌝ }
+    ensures { λ r. ⌜ ((s : List ℕ) → inputRead r s ≡ mapped request (requestRead q s)) ⌝ }
 {
     match q {
         RequestRead::Request(k) => InputRead::Request(k),

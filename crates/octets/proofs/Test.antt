@@ -7,7 +7,7 @@ use mathlib.Core.List.{List, _∷_}
 use native.Mathlib.Omega.{arith}
 use lib.Dec.{ltb, leb, eqb, T, T-not}
 use borrow.Author.Tests.{ltb-true, ltb-false, leb-true, eqb-true, eqb-false, le-ltb, lt-ltb, le-leb, lt-leb, eq-eqb, ne-eqb}
-use Rattle.octets.specs.Test.{when, ifEq, ifLt, inRange, Question, first, ok, outcome}
+use Rattle.octets.specs.Test.{when, ifEq, ifLt, inRange, Question, first, ok, outcome, mapped}
 
 -- What holds of both choices, each under its test, holds of what is chosen.
 module _ {A : Type 0} (P : A → Type 0) where
@@ -87,6 +87,11 @@ pub outcome-when : {A : Type 0} (b : Bool) (n m : ℕ) (x : A) → outcome (when
 unfolding when
 outcome-when true n m x = refl
 outcome-when false n m x = refl
+
+pub outcome-mapped : {A B : Type 0} (f : A → B) (n : ℕ) (x : A) → outcome n (f x) ≡ mapped f (outcome n x)
+unfolding outcome mapped
+outcome-mapped f zero x = refl
+outcome-mapped f (suc n) x = refl
 
 -- questions that are all answered yes
 pub all-yes : (n : ℕ) (b : Bool) (qs : List Question) → first ((n, b) ∷ qs) ≡ 0 → T (not (eqb n 0)) → (b ≡ true) × (first qs ≡ 0)

@@ -1,8 +1,9 @@
+use Rattle.frame.specs.Read.{frame, request}
 use mathlib.Core.Path.{_≡_, sym, ap, _∙_}
 use denote.Ref.{now}
-use Rattle.octets.specs.Test.{when, ifEq}
+use Rattle.octets.specs.Test.{when, ifEq, mapped}
 use Rattle.octets.proofs.Test.{eq-no}
-use Rattle.frame.specs.Answer.{frameInput, requestInput, inputRead}
+use Rattle.frame.specs.Answer.{inputRead}
 use Rattle.codec.specs.Calls.{readKnown}
 use native.Mathlib.Omega.{arith}
 use borrow.Author.Needs.{needs}
@@ -30,7 +31,7 @@ returns c =
     let a = c .before .before .before .before .args in
     let s = now (a .s) in
     let e : a .known ≡ 1 = omega arith in
-    c .frame-input .ensures s ∙ rw e (ap frameInput (c .before .read-frame .ensures))
+    c .frame-input .ensures s ∙ rw e (ap (mapped frame) (c .before .read-frame .ensures))
 
 returns-2 : tie.Need-returns-2
 unfolding readKnown ifEq when
@@ -38,7 +39,7 @@ returns-2 c =
     let a = c .before .before .before .before .args in
     let s = now (a .s) in
     let e : a .known ≡ 2 = omega arith in
-    c .request-input .ensures s ∙ rw e (ap requestInput (c .before .read-request .ensures))
+    c .request-input .ensures s ∙ rw e (ap (mapped request) (c .before .read-request .ensures))
 
 returns-3 : tie.Need-returns-3
 unfolding readKnown ifEq when

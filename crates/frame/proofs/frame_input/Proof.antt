@@ -1,6 +1,8 @@
+use Rattle.octets.specs.Test.{mapped}
+use Rattle.frame.specs.Read.{frame}
 use mathlib.Core.Path.{sym, ap}
 use Rattle.frame.specs.declared.FrameRead.{FrameRead}
-use Rattle.frame.specs.Answer.{frameRead, frameInput, inputRead}
+use Rattle.frame.specs.Answer.{frameRead, inputRead}
 use borrow.Author.Needs.{needs}
 use Rattle.frame.proofs.frame_input.Statement.{statement}
 use Rattle.frame.proofs.frame_input.Tie as tie
@@ -12,12 +14,12 @@ enum-known-f-2 : tie.Need-enum-known-f-2
 enum-known-f-2 c = search needs
 
 returns : tie.Need-returns
-unfolding inputRead frameInput frameRead
-returns c = λ s. ap (λ (x : FrameRead). frameInput (frameRead x s)) (sym (c .before .f .given .1))
+unfolding inputRead frameRead mapped
+returns c = λ s. ap (λ (x : FrameRead). mapped frame (frameRead x s)) (sym (c .before .f .given .1))
 
 returns-2 : tie.Need-returns-2
-unfolding inputRead frameInput frameRead
-returns-2 c = λ s. ap (λ (x : FrameRead). frameInput (frameRead x s)) (sym (c .before .f2 .given .1))
+unfolding inputRead frameRead mapped
+returns-2 c = λ s. ap (λ (x : FrameRead). mapped frame (frameRead x s)) (sym (c .before .f2 .given .1))
 
 pub frame-input-spec : {M : Type 1} → statement M
 frame-input-spec = tie.close (tie.spec enum-known-f enum-known-f-2 returns returns-2)

@@ -1,7 +1,8 @@
+use Rattle.octets.specs.Test.{mapped}
 use mathlib.Core.Path.{sym, ap, _∙_}
 use denote.Ref.{now}
-use Rattle.frame.specs.Read.{kindOf}
-use Rattle.frame.specs.Answer.{inputRead, frameInput, requestInput}
+use Rattle.frame.specs.Read.{kindOf, frame, request}
+use Rattle.frame.specs.Answer.{inputRead}
 use Rattle.frame.proofs.Classes.{of-frame, of-request, of-unknown}
 use Rattle.frame.proofs.Reading.{unknown-input, frame-read, other-read}
 use borrow.Author.Needs.{needs}
@@ -36,13 +37,13 @@ returns : tie.Need-returns
 returns c =
     let s = now (c .before .before .before .before .before .before .args .s) in
     let f = of-frame (kindOf s) (sym (c .before .before .before .before .class-of .ensures) ∙ c .before .before .enum-told .given .1) in
-    c .frame-input .ensures s ∙ ap frameInput (c .before .known-frame .ensures) ∙ sym (frame-read s f)
+    c .frame-input .ensures s ∙ ap (mapped frame) (c .before .known-frame .ensures) ∙ sym (frame-read s f)
 
 returns-2 : tie.Need-returns-2
 returns-2 c =
     let s = now (c .before .before .before .before .before .before .args .s) in
     let f = of-request (kindOf s) (sym (c .before .before .before .before .class-of .ensures) ∙ c .before .before .enum-told2 .given .1) in
-    c .request-input .ensures s ∙ ap requestInput (c .before .known-request .ensures) ∙ sym (other-read s (f .0) (f .1))
+    c .request-input .ensures s ∙ ap (mapped request) (c .before .known-request .ensures) ∙ sym (other-read s (f .0) (f .1))
 
 returns-3 : tie.Need-returns-3
 unfolding inputRead
