@@ -1,19 +1,19 @@
--- The block of a send request that is read has 1 to 64 octets. Assumes nothing.
+-- Blocks that are read: that of a send request has 1 to 64 octets, that of a DATA is what follows octet 14. Assumes nothing.
 use Prim.Native.Nat.{ℕ, _+_, _≤_}
-use mathlib.Core.Path.{_≡_, sym, _∙_}
+use mathlib.Core.Path.{_≡_, sym, ap, _∙_}
 use mathlib.Core.Bool.{true, false}
 use mathlib.Core.List.{List, [], _∷_}
 use native.Mathlib.Omega.{arith}
-use borrow.Author.Tests.{eqb-true}
+use borrow.Author.Tests.{eqb-true, leb-true}
 use lib.Dec.{eqb}
 use lib.ListN.{length, drop, getD, length-drop}
 use Rattle.octets.specs.Test.{when, ifEq, first, ok}
 use Rattle.octets.specs.Octets.{size}
 use Rattle.octets.proofs.Test.{if-eq, accepted, all-yes, within}
-use Rattle.frame.specs.Frame.{Block, Request, connect, listen, endListening, close, timer, send}
-use Rattle.frame.specs.Layout.{hasBlock, layout, fixed, isRequest}
-use Rattle.frame.specs.Read.{kindOf, countOf, blockAt, requestAt, countOk, questions, readRequest}
-use Rattle.frame.proofs.Shape.{block-at, send-shape}
+use Rattle.frame.specs.Frame.{Block, Frame, Request, connect, listen, endListening, close, timer, send}
+use Rattle.frame.specs.Layout.{hasBlock, layout, fixed, isFrame, isRequest}
+use Rattle.frame.specs.Read.{kindOf, countOf, blockAt, frameAt, requestAt, fixedOk, countOk, questions, readFrame, readRequest}
+use Rattle.frame.proofs.Shape.{block-at, data-shape, send-shape}
 
 -- only kind 44 is a send
 module _ (s : List ℕ) (b : Block) where
@@ -54,3 +54,12 @@ send-sized s b h =
     let q6 = all-yes 6 _ _ (q5 .1) tt in
     let e : drop 2 s ≡ b = sym (block-at s 68 (k .0) (1 ∷ []) true false send-shape) ∙ k .1 in
     rw e at (counted s (k .0) (q5 .0) (q6 .0))
+
+pub data-block : (s : List ℕ) {f : Frame} → readFrame s ≡ ok f → f .kind ≡ 8 → (f .block ≡ drop 14 s) × (14 ≤ length s)
+unfolding readFrame frameAt when size fixedOk hasBlock fixed layout ifEq
+data-block s {f} h k =
+    let a = accepted (first (questions isFrame s)) (frameAt s) h in
+    let e : kindOf s ≡ 8 = ap (λ (x : Frame). x .kind) (a .1) ∙ k in
+    let q3 = all-yes 3 _ _ (a .0) tt in
+    let q4 = all-yes 4 _ _ (q3 .1) tt in
+    (sym (ap (λ (x : Frame). x .block) (a .1)) ∙ block-at s 8 e (4 ∷ 4 ∷ 4 ∷ 1 ∷ []) true true data-shape, leb-true 14 (length s) (rw e at (q4 .0)))

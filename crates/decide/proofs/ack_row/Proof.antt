@@ -1,0 +1,26 @@
+use Rattle.protocol.specs.Table.{ackRow}
+use Rattle.octets.proofs.Test.{picks}
+use borrow.Author.Needs.{needs}
+use Rattle.decide.proofs.ack_row.Statement.{statement}
+use Rattle.decide.proofs.ack_row.Tie as tie
+
+cast-if1 : tie.Need-cast-if1
+cast-if1 c = search needs
+
+sub-if1 : tie.Need-sub-if1
+sub-if1 c = search needs
+
+returns : tie.Need-returns
+unfolding ackRow
+returns c = λ q b h. rw h (search picks)
+
+returns-2 : tie.Need-returns-2
+unfolding ackRow
+returns-2 c = λ q b h. rw h (search picks)
+
+returns-3 : tie.Need-returns-3
+unfolding ackRow
+returns-3 c = λ q b h. rw h (search picks)
+
+pub ack-row-spec : {M : Type 1} → statement M
+ack-row-spec = tie.close (tie.spec cast-if1 sub-if1 returns returns-2 returns-3)

@@ -1,0 +1,251 @@
+-- The struct that a list of blocks is packed into. Assumes nothing.
+use mathlib.Core.Path.{_≡_, refl, sym, ap, ap₂, _∙_}
+use mathlib.Core.List.{List, [], _∷_, _++_, append-nil, append-assoc}
+use Prim.Native.Nat.{ℕ, zero, suc, _+_, _-_, _*_, _/_, _%_, _≤_, _<_}
+use native.Mathlib.Nat.{zero-mul, suc-mul, zero-add, add-zero}
+use native.Mathlib.Numerals.{add-one}
+use native.Mathlib.Omega.{arith}
+use borrow.Author.Tests.{eq-eqb, lt-ltb}
+use lib.ListN.{length, take, drop, getD, set, replicate, length-append, length-drop, length-take, List·getD-append}
+use lib.Seq.{take-at, drop-at, take-length, take-suc, take-add, take-take, drop-cons, drop-drop, drop-nil, getD-take, getD-drop, drop-append-le, length-take-le}
+use Rattle.octets.specs.Octets.{put}
+use Rattle.octets.proofs.Octets.{put-sets}
+use Rattle.frame.specs.Frame.{Block, dataFrame}
+use Rattle.protocol.specs.Endpoint as abstract
+use Rattle.protocol.specs.Table.{nothing, frame, delivering, releasing}
+use Rattle.protocol.specs.Requests.{queueing, oldest}
+use Rattle.endpoint.specs.declared.Endpoint.{Endpoint}
+use Rattle.endpoint.specs.View.{padded, places, lengthsOf, pack, tab, blockAt, view}
+use Rattle.endpoint.proofs.Queue.{dropped, added}
+use Rattle.endpoint.proofs.Pad.{length-padded, put-padded, padded-padded, drop-padded, padded-is}
+
+-- every block has at most 64 bytes
+abbrev pub Small : List Block → Type 0
+Small [] = Unit {0}
+Small (b ∷ q) = (length b ≤ 64) × Small q
+
+small-append : (q : List Block) (b : Block) → Small q → length b ≤ 64 → Small (q ++ (b ∷ []))
+small-append [] b h k = (k, tt)
+small-append (c ∷ q) b h k = (h .0, small-append q b (h .1) k)
+
+pub length-lengths : (q : List Block) → length (lengthsOf q) ≡ length q
+unfolding lengthsOf
+length-lengths [] = refl
+length-lengths (b ∷ q) = ap suc (length-lengths q)
+
+pub length-places : (q : List Block) → Small q → length (places q) ≡ length q * 64
+unfolding places
+length-places [] h = refl
+length-places (b ∷ q) h = rw (length-append, length-padded 64 b (h .0), length-places q (h .1)) (omega arith)
+
+lengths-append : (q r : List Block) → lengthsOf (q ++ r) ≡ lengthsOf q ++ lengthsOf r
+unfolding lengthsOf
+lengths-append [] r = refl
+lengths-append (b ∷ q) r = ap (λ (l : List ℕ). length b ∷ l) (lengths-append q r)
+
+places-append : (q r : List Block) → places (q ++ r) ≡ places q ++ places r
+unfolding places
+places-append [] r = refl
+places-append (b ∷ q) r = rw (places-append q r) (sym (append-assoc (padded 64 b) (places q) (places r)))
+
+drop-lengths : (k : ℕ) (q : List Block) → drop k (lengthsOf q) ≡ lengthsOf (drop k q)
+unfolding lengthsOf
+drop-lengths zero q = refl
+drop-lengths (suc k) [] = refl
+drop-lengths (suc k) (b ∷ q) = drop-lengths k q
+
+pub drop-places : (k : ℕ) (q : List Block) → Small q → drop (k * 64) (places q) ≡ places (drop k q)
+unfolding places
+drop-places zero q h = refl
+drop-places (suc k) [] h = drop-nil (suc k * 64)
+drop-places (suc k) (b ∷ q) h =
+    let e : suc k * 64 ≡ 64 + k * 64 = omega arith in
+    rw (e, ← drop-drop (k * 64) 64 (padded 64 b ++ places q), drop-at (padded 64 b) (places q) 64 (length-padded 64 b (h .0)))
+    (drop-places k q (h .1))
+
+-- a block joins
+pub pack-added : (a : abstract.Endpoint) (b : Block) → Small (a .queue) → length (a .queue) < 8 → length b ≤ 64 → added b (pack a) ≡ pack (queueing b a)
+unfolding added pack lengthsOf places
+pack-added a b s h k =
+    let q = a .queue in
+    let n = length q in
+    let ll : length (lengthsOf q) ≡ n = length-lengths q in
+    let lp : length (places q) ≡ n * 64 = length-places q s in
+    let el : set (padded 8 (lengthsOf q)) n (length b) ≡ padded 8 (lengthsOf (q ++ (b ∷ []))) =
+    put-sets (padded 8 (lengthsOf q)) (length b ∷ []) n (rw (length-padded 8 (lengthsOf q) (omega arith)) (omega arith))
+    ∙ rw (← ll) (put-padded 8 (lengthsOf q) (length b ∷ []) (omega arith))
+    ∙ ap (padded 8) (sym (lengths-append q (b ∷ []))) in
+    let eb : put (padded 512 (places q)) (n * 64) b ≡ padded 512 (places (q ++ (b ∷ []))) =
+    rw (← lp) (put-padded 512 (places q) b (omega arith))
+    ∙ sym (padded-padded 512 64 (places q) b k (omega arith))
+    ∙ ap (λ (l : List ℕ). padded 512 (places q ++ l)) (sym (append-nil (padded 64 b)))
+    ∙ ap (padded 512) (sym (places-append q (b ∷ []))) in
+    let en : n + 1 ≡ length (q ++ (b ∷ [])) = sym (length-append q (b ∷ [])) in
+    λ i. record { state = a .state; local = a .local; remote = a .remote; accepted = a .accepted + 1; delivered = a .delivered; waiting = en i; lengths = el i; blocks = eb i }
+
+-- the abstract endpoint without its k oldest blocks
+unfoldable pub without : ℕ → abstract.Endpoint → abstract.Endpoint
+without k a = record { state = a .state; local = a .local; remote = a .remote; accepted = a .accepted; delivered = a .delivered; queue = drop k (a .queue) }
+
+pub pack-dropped : (a : abstract.Endpoint) (k : ℕ) → Small (a .queue) → length (a .queue) ≤ 8 → k ≤ length (a .queue) → dropped k (pack a) ≡ pack (without k a)
+unfolding dropped pack without
+pack-dropped a k s h m =
+    let q = a .queue in
+    let ll : length (lengthsOf q) ≡ length q = length-lengths q in
+    let lp : length (places q) ≡ length q * 64 = length-places q s in
+    let el : drop k (padded 8 (lengthsOf q)) ++ replicate k 0 ≡ padded 8 (lengthsOf (drop k q)) =
+    drop-padded 8 k (lengthsOf q) (omega arith) (omega arith) ∙ ap (padded 8) (drop-lengths k q) in
+    let eb : drop (k * 64) (padded 512 (places q)) ++ replicate (k * 64) 0 ≡ padded 512 (places (drop k q)) =
+    drop-padded 512 (k * 64) (places q) (omega arith) (omega arith) ∙ ap (padded 512) (drop-places k q s) in
+    let en : length q - k ≡ length (drop k q) = sym (length-drop k q) in
+    λ i. record { state = a .state; local = a .local; remote = a .remote; accepted = a .accepted; delivered = a .delivered; waiting = en i; lengths = el i; blocks = eb i }
+
+-- view
+pub length-tab : (n : ℕ) (f : ℕ → Block) → length (tab n f) ≡ n
+unfolding tab
+length-tab zero f = refl
+length-tab (suc n) f = rw (length-append, length-tab n f) (omega arith)
+
+tab-is : (q : List Block) (f : ℕ → Block) (n : ℕ) → n ≤ length q → ((i : ℕ) → i < length q → f i ≡ getD q i []) → tab n f ≡ take n q
+unfolding tab
+tab-is q f zero h e = refl
+tab-is q f (suc n) h e = rw (tab-is q f n (omega arith) e, e n h) (sym (take-suc q n [] h))
+
+pub getD-lengths : (q : List Block) (i : ℕ) → getD (lengthsOf q) i 0 ≡ length (getD q i [])
+unfolding lengthsOf
+getD-lengths [] i = refl
+getD-lengths (b ∷ q) zero = refl
+getD-lengths (b ∷ q) (suc i) = getD-lengths q i
+
+block-is : (q : List Block) (i : ℕ) → Small q → i < length q → blockAt (padded 8 (lengthsOf q)) (padded 512 (places q)) i ≡ getD q i []
+unfolding blockAt padded places
+block-is q i s h =
+    let b : Block = getD q i [] in
+    let zl : List ℕ = replicate (8 - length (lengthsOf q)) 0 in
+    let zp : List ℕ = replicate (512 - length (places q)) 0 in
+    let zb : List ℕ = replicate (64 - length b) 0 in
+    let x : getD (lengthsOf q ++ zl) i 0 ≡ length b = List·getD-append (lengthsOf q) zl 0 i (omega (arith, length-lengths q)) ∙ getD-lengths q i in
+    let y : drop (i * 64) (places q ++ zp) ≡ ((b ++ zb) ++ places (drop (suc i) q)) ++ zp =
+    drop-append-le (i * 64) (places q) zp (omega (arith, length-places q s)) ∙ ap (λ (l : List ℕ). l ++ zp) (drop-places i q s ∙ ap places (drop-cons q i [] h)) in
+    ap₂ (λ (n : ℕ) (l : List ℕ). take n l) x y
+    ∙ simp append-assoc (take-at b (zb ++ (places (drop (suc i) q) ++ zp)) (length b) refl)
+
+pub view-pack : (a : abstract.Endpoint) → Small (a .queue) → view (pack a) ≡ a
+unfolding view pack
+view-pack a s =
+    let q = a .queue in
+    let eq : tab (length q) (blockAt (padded 8 (lengthsOf q)) (padded 512 (places q))) ≡ q =
+    tab-is q (blockAt (padded 8 (lengthsOf q)) (padded 512 (places q))) (length q) (omega arith) (λ i h. block-is q i s h) ∙ take-length q in
+    λ i. record { state = a .state; local = a .local; remote = a .remote; accepted = a .accepted; delivered = a .delivered; queue = eq i }
+
+-- what soundness says of the arrays
+pub record Tidy (w : ℕ) (l b : List ℕ) : Type 0 where
+  pub eight : length l ≡ 8
+  pub bytes : length b ≡ 512
+  pub few : w ≤ 8
+  pub some : (i : ℕ) → i < w → 1 ≤ getD l i 0
+  pub short : (i : ℕ) → i < w → getD l i 0 ≤ 64
+  pub unused : (i : ℕ) → w ≤ i → i < 8 → getD l i 0 ≡ 0
+  pub clear : (k : ℕ) → k < 512 → getD l (k / 64) 0 ≤ k % 64 → getD b k 0 ≡ 0
+
+module _ (l b : List ℕ) (W : ℕ) (T : Tidy W l b) where
+  pub length-block : (i : ℕ) → i < W → length (blockAt l b i) ≡ getD l i 0
+  unfolding blockAt
+  length-block i h = length-take-le (getD l i 0) (drop (i * 64) b) (rw length-drop (omega (arith, T .short i h)))
+
+  lengths-tab : (w : ℕ) → w ≤ W → lengthsOf (tab w (blockAt l b)) ≡ take w l
+  unfolding tab lengthsOf
+  lengths-tab zero h = refl
+  lengths-tab (suc w) h =
+      rw (lengths-append (tab w (blockAt l b)) (blockAt l b w ∷ []), lengths-tab w (omega arith), length-block w h)
+      (sym (take-suc l w 0 (omega arith)))
+
+  pub small-tab : (w : ℕ) → w ≤ W → Small (tab w (blockAt l b))
+  unfolding tab
+  small-tab zero h = tt
+  small-tab (suc w) h = small-append (tab w (blockAt l b)) (blockAt l b w) (small-tab w (omega arith)) (rw (length-block w h) (T .short w h))
+
+  place-is : (w : ℕ) → w < W → padded 64 (blockAt l b w) ≡ take 64 (drop (w * 64) b)
+  unfolding blockAt
+  place-is w h =
+      let d : List ℕ = drop (w * 64) b in
+      let x = getD l w 0 in
+      let hx : x ≤ 64 = T .short w h in
+      let ld : length (take 64 d) ≡ 64 = length-take-le 64 d (rw length-drop (omega arith)) in
+      rw (← take-take x 64 d hx)
+      (padded-is 64 (take 64 d) x ld hx
+      (λ i v u.
+      let k1 : (w * 64 + i) / 64 ≡ w = omega arith in
+      let k2 : (w * 64 + i) % 64 ≡ i = omega arith in
+      rw (getD-take 64 d i 0 u, getD-drop) (T .clear (w * 64 + i) (omega arith) (rw (k1, k2) v))))
+
+  places-tab : (w : ℕ) → w ≤ W → places (tab w (blockAt l b)) ≡ take (w * 64) b
+  unfolding tab places
+  places-tab zero h = refl
+  places-tab (suc w) h =
+      let e : suc w * 64 ≡ w * 64 + 64 = omega arith in
+      rw (places-append (tab w (blockAt l b)) (blockAt l b w ∷ []), places-tab w (omega arith), append-nil (padded 64 (blockAt l b w)), place-is w h, e)
+      (sym (take-add (w * 64) 64 b))
+
+  pub lengths-back : padded 8 (lengthsOf (tab W (blockAt l b))) ≡ l
+  lengths-back = rw (lengths-tab W (omega arith)) (padded-is 8 l W (T .eight) (T .few) (T .unused))
+
+  pub blocks-back : padded 512 (places (tab W (blockAt l b))) ≡ b
+  blocks-back =
+      rw (places-tab W (omega arith))
+      (padded-is 512 b (W * 64) (T .bytes) (omega arith)
+      (λ k v u. T .clear k u (omega (arith, T .unused (k / 64) (omega arith) (omega arith)))))
+
+pub pack-view : (e : Endpoint) → Tidy (e .waiting) (e .lengths) (e .blocks) → pack (view e) ≡ e
+unfolding pack view
+pack-view e T =
+    let n : length (tab (e .waiting) (blockAt (e .lengths) (e .blocks))) ≡ e .waiting = length-tab (e .waiting) (blockAt (e .lengths) (e .blocks)) in
+    let el = lengths-back (e .lengths) (e .blocks) (e .waiting) T in
+    let eb = blocks-back (e .lengths) (e .blocks) (e .waiting) T in
+    λ i. record { state = e .state; local = e .local; remote = e .remote; accepted = e .accepted; delivered = e .delivered; waiting = n i; lengths = el i; blocks = eb i }
+
+pub count : (e : Endpoint) → length (view e .queue) ≡ e .waiting
+unfolding view
+count e = length-tab (e .waiting) (blockAt (e .lengths) (e .blocks))
+
+-- the three laws that the code cites: a send, an acknowledgement, a count of blocks delivered up
+module _ (e : Endpoint) (T : Tidy (e .waiting) (e .lengths) (e .blocks)) where
+  pub small : Small (view e .queue)
+  unfolding view
+  small = small-tab (e .lengths) (e .blocks) (e .waiting) T (e .waiting) (omega arith)
+
+  pub added-view : (b : Block) → e .waiting < 8 → length b ≤ 64 → added b e ≡ pack (queueing b (view e))
+  added-view b h k = ap (added b) (sym (pack-view e T)) ∙ pack-added (view e) b small (rw (count e) h) k
+
+  pub acked-view : (n k : ℕ) → k ≡ n - (e .accepted - e .waiting) → k ≤ e .waiting → dropped k e ≡ pack (releasing n (view e))
+  unfolding without view
+  acked-view n k h m =
+      ap (dropped k) (sym (pack-view e T))
+      ∙ pack-dropped (view e) k small (rw (count e) (T .few)) (rw (count e) m)
+      ∙ ap (λ (j : ℕ). pack (without j (view e))) (h ∙ sym (ap (λ (j : ℕ). n - (e .accepted - j)) (count e)))
+
+  pub heard-view : record { state = e .state; local = e .local; remote = e .remote; accepted = e .accepted; delivered = e .delivered + 1; waiting = e .waiting; lengths = e .lengths; blocks = e .blocks } ≡ pack (delivering (view e))
+  unfolding pack view
+  heard-view =
+      let p = sym (pack-view e T) in
+      λ i. record { state = e .state; local = e .local; remote = e .remote; accepted = e .accepted; delivered = e .delivered + 1; waiting = p i .waiting; lengths = p i .lengths; blocks = p i .blocks }
+
+tab-head : (n : ℕ) (f : ℕ → Block) → tab (suc n) f ≡ f 0 ∷ tab n (λ i. f (suc i))
+unfolding tab
+tab-head zero f = refl
+tab-head (suc n) f = ap (λ (q : List Block). q ++ (f (suc n) ∷ [])) (tab-head n f)
+
+-- the oldest waiting block is at place 0 and has number t - w
+pub oldest-view : (e : Endpoint) → 1 ≤ e .waiting
+    → oldest (view e) (view e .queue) ≡ frame (dataFrame (e .local) (e .remote) (e .accepted - e .waiting) (blockAt (e .lengths) (e .blocks) 0))
+unfolding view oldest
+oldest-view e h =
+    let f = blockAt (e .lengths) (e .blocks) in
+    let w = e .waiting in
+    let k : w ≡ suc (w - 1) = omega arith in
+    let q : tab w f ≡ f 0 ∷ tab (w - 1) (λ i. f (suc i)) = ap (λ (n : ℕ). tab n f) k ∙ tab-head (w - 1) f in
+    ap (oldest (view e)) q ∙ ap (λ (n : ℕ). frame (dataFrame (e .local) (e .remote) (e .accepted - n) (f 0))) (length-tab w f)
+
+pub oldest-none : (e : Endpoint) → e .waiting ≡ 0 → oldest (view e) (view e .queue) ≡ nothing
+unfolding view tab oldest
+oldest-none e h = rw (h, tab) refl

@@ -1,0 +1,83 @@
+-- The record in octets: what the stores leave, and both round trips. Assumes nothing.
+use Prim.Native.Nat.{ℕ, _+_, _%_, _≤_, _<_, _^_}
+use mathlib.Core.Path.{_≡_, refl, sym, ap, ap₂, _∙_}
+use mathlib.Core.List.{List, [], _∷_, _++_, append-nil, append-assoc}
+use native.Mathlib.Omega.{arith}
+use lib.ListN.{length, take, drop, getD, length-append, length-drop, drop-of-length-le}
+use lib.Seq.{take-at, drop-at, take-add, drop-drop, length-take-le}
+use Rattle.octets.specs.Octets.{put, bytes, field, lay, fields, size, Octets}
+use Rattle.octets.proofs.Octets.{then-put, Fit, none, one, fields-lay, lay-fields, length-lay}
+use Rattle.endpoint.specs.declared.Endpoint.{Endpoint}
+use Rattle.endpoint.specs.Record.{numbersLayout, encode, decode, Fits}
+
+pub put-whole : (d s : List ℕ) → length d ≡ length s → put d 0 s ≡ s
+unfolding put
+put-whole d s h = ap (λ (x : List ℕ). s ++ x) (drop-of-length-le d {i = 0 + length s} (omega arith)) ∙ append-nil s
+
+byte : (v : ℕ) → v < 256 → v % 256 ≡ v
+byte v h = omega arith
+
+pub encode-puts : (e : Endpoint) (d : List ℕ) → Fits e → 538 ≤ length d
+    → {a b c f g h i j : List ℕ} → a ≡ put d 0 (e .state ∷ []) → b ≡ put a 1 (bytes 4 (e .local)) → c ≡ put b 5 (bytes 4 (e .remote))
+    → f ≡ put c 9 (bytes 4 (e .accepted)) → g ≡ put f 13 (bytes 4 (e .delivered)) → h ≡ put g 17 (e .waiting ∷ []) → i ≡ put h 18 (e .lengths)
+    → j ≡ put i 26 (e .blocks) → j ≡ put d 0 (encode e)
+unfolding encode lay bytes
+encode-puts e d r n {a} {b} {c} {f} {g} {h} {i} {j} ea eb ec ef eg eh ei ej =
+    let p1 : List ℕ = e .state ∷ [] in
+    let p2 : List ℕ = p1 ++ bytes 4 (e .local) in
+    let p3 : List ℕ = p2 ++ bytes 4 (e .remote) in
+    let p4 : List ℕ = p3 ++ bytes 4 (e .accepted) in
+    let p5 : List ℕ = p4 ++ bytes 4 (e .delivered) in
+    let p6 : List ℕ = p5 ++ (e .waiting ∷ []) in
+    let p7 : List ℕ = p6 ++ e .lengths in
+    let s2 : b ≡ put d 0 p2 = then-put d p1 (bytes 4 (e .local)) 1 refl (omega arith) ea eb in
+    let s3 : c ≡ put d 0 p3 = then-put d p2 (bytes 4 (e .remote)) 5 refl (omega arith) s2 ec in
+    let s4 : f ≡ put d 0 p4 = then-put d p3 (bytes 4 (e .accepted)) 9 refl (omega arith) s3 ef in
+    let s5 : g ≡ put d 0 p5 = then-put d p4 (bytes 4 (e .delivered)) 13 refl (omega arith) s4 eg in
+    let s6 : h ≡ put d 0 p6 = then-put d p5 (e .waiting ∷ []) 17 refl (omega arith) s5 eh in
+    let s7 : i ≡ put d 0 p7 = then-put d p6 (e .lengths) 18 refl (omega arith) s6 ei in
+    let l7 : length p7 ≡ 26 = length-append p6 (e .lengths) ∙ ap (λ (n : ℕ). 18 + n) (r .lengths) in
+    let s8 : j ≡ put d 0 (p7 ++ e .blocks) = then-put d p7 (e .blocks) 26 l7 (omega arith) s7 ej in
+    rw (byte (e .state) (r .state), byte (e .waiting) (r .waiting)) s8
+
+-- what was laid out is read again
+fit : (e : Endpoint) → Fits e → Fit numbersLayout (e .state ∷ e .local ∷ e .remote ∷ e .accepted ∷ e .delivered ∷ e .waiting ∷ [])
+fit e r =
+    one {w = 1} {v = e .state} (omega (arith, r .state))
+    (one {w = 4} {v = e .local} (r .local)
+    (one {w = 4} {v = e .remote} (r .remote)
+    (one {w = 4} {v = e .accepted} (r .accepted)
+    (one {w = 4} {v = e .delivered} (r .delivered)
+    (one {w = 1} {v = e .waiting} (omega (arith, r .waiting)) none)))))
+
+pub decode-encode : (e : Endpoint) (d : List ℕ) → Fits e → decode (encode e ++ d) ≡ e
+unfolding decode encode fields size
+decode-encode e d r =
+    let vs = e .state ∷ e .local ∷ e .remote ∷ e .accepted ∷ e .delivered ∷ e .waiting ∷ [] in
+    let h = lay numbersLayout vs in
+    let t = e .lengths ++ (e .blocks ++ d) in
+    let whole : encode e ++ d ≡ h ++ t = append-assoc h (e .lengths ++ e .blocks) d ∙ ap (λ (x : List ℕ). h ++ x) (append-assoc (e .lengths) (e .blocks) d) in
+    let all : fields 0 numbersLayout (h ++ t) ≡ vs = fields-lay [] t 0 refl (fit e r) in
+    let l : length h ≡ 18 = length-lay (fit e r) in
+    let m : length (h ++ e .lengths) ≡ 26 = length-append h (e .lengths) ∙ omega (arith, l, r .lengths) in
+    let ls : take 8 (drop 18 (h ++ t)) ≡ e .lengths = rw (drop-at h t 18 l) (take-at (e .lengths) (e .blocks ++ d) 8 (r .lengths)) in
+    let bs : take 512 (drop 26 (h ++ t)) ≡ e .blocks =
+    rw (← append-assoc h (e .lengths) (e .blocks ++ d), drop-at (h ++ e .lengths) (e .blocks ++ d) 26 m) (take-at (e .blocks) d 512 (r .blocks)) in
+    ap decode whole
+    ∙ (λ i. record {
+      state = getD (all i) 0 0;
+      local = getD (all i) 1 0;
+      remote = getD (all i) 2 0;
+      accepted = getD (all i) 3 0;
+      delivered = getD (all i) 4 0;
+      waiting = getD (all i) 5 0;
+      lengths = ls i;
+      blocks = bs i;
+    })
+
+-- what was read is laid out again
+pub encode-decode : (s : List ℕ) → Octets s → 538 ≤ length s → encode (decode s) ≡ take 538 s
+unfolding decode encode fields size
+encode-decode s o n =
+    ap (λ (x : List ℕ). x ++ (take 8 (drop 18 s) ++ take 512 (drop 26 s))) (lay-fields numbersLayout s 0 (omega arith) o)
+    ∙ sym (take-add 18 520 s ∙ ap (λ (x : List ℕ). take 18 s ++ x) (take-add 8 512 (drop 18 s) ∙ ap (λ (x : List ℕ). take 8 (drop 18 s) ++ take 512 x) (drop-drop 8 18 s)))

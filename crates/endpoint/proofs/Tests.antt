@@ -1,0 +1,90 @@
+-- Laws of the tests of soundness. Assumes nothing.
+use Prim.Native.Nat.{ℕ, zero, suc, _+_, _≤_, _<_}
+use mathlib.Core.Path.{_≡_, refl, sym, ap, _∙_}
+use mathlib.Core.Logic.{⊎-elim}
+use mathlib.Core.Bool.{Bool, true, false, _&&_, and-false, true≢false}
+use mathlib.Core.List.{List, [], _∷_, _++_}
+use native.Mathlib.Nat.{le-of-suc-le-suc, not-suc-le-zero, eq-or-lt-of-le}
+use native.Mathlib.Numerals.{add-one}
+use native.Mathlib.Omega.{arith}
+use lib.Dec.{eqb}
+use lib.ListN.{length, take, getD}
+use lib.Seq.{take-suc}
+use borrow.Author.Tests.{eqb-true, eq-eqb}
+use Rattle.octets.proofs.Test.{both, joined}
+use Rattle.endpoint.specs.Sound.{allBelow, zeros}
+
+-- one number more
+pub all-step : (p : ℕ → Bool) (i : ℕ) (ok r : Bool) → ok ≡ allBelow i p → r ≡ p i → (ok && r) ≡ allBelow (i + 1) p
+unfolding allBelow
+all-step p i ok r h k = rw (add-one, h, k) refl
+
+pub all-at : (p : ℕ → Bool) (n i : ℕ) → i < n → allBelow n p ≡ true → p i ≡ true
+unfolding allBelow
+all-at p zero i h k = absurd (not-suc-le-zero h)
+all-at p (suc n) i h k =
+    let b = both (allBelow n p) (p n) k in
+    ⊎-elim (λ (e : i ≡ n). rw e (b .1)) (λ (l : i < n). all-at p n i l (b .0)) (eq-or-lt-of-le (le-of-suc-le-suc h))
+
+pub all-hold : (p : ℕ → Bool) (n : ℕ) → ((i : ℕ) → i < n → p i ≡ true) → allBelow n p ≡ true
+unfolding allBelow
+all-hold p zero h = refl
+all-hold p (suc n) h = joined (all-hold p n (λ i k. h i (omega arith))) (h n (omega arith))
+
+-- what two tests mean alike, they are
+pub alike : (a b : Bool) → (a ≡ true → b ≡ true) → (b ≡ true → a ≡ true) → a ≡ b
+alike true b f g = sym (f refl)
+alike false true f g = g refl
+alike false false f g = refl
+
+-- the sum of a list
+unfoldable pub total : List ℕ → ℕ
+total [] = 0
+total (x ∷ s) = x + total s
+
+total-append : (s t : List ℕ) → total (s ++ t) ≡ total s + total t
+unfolding total
+total-append [] t = omega arith
+total-append (x ∷ s) t = rw (total-append s t) (omega arith)
+
+pub total-more : (s : List ℕ) (i : ℕ) → i < length s → total (take (i + 1) s) ≡ total (take i s) + getD s i 0
+unfolding total
+total-more s i h = rw (add-one, take-suc s i 0 h) (total-append (take i s) (getD s i 0 ∷ []) ∙ omega arith)
+
+-- a sum is 0 where each element is
+none-left : (s : List ℕ) → total s ≡ 0 → zeros s ≡ true
+unfolding total zeros
+none-left [] h = refl
+none-left (x ∷ s) h = joined (eq-eqb x 0 (omega arith)) (none-left s (omega arith))
+
+sums-none : (s : List ℕ) → zeros s ≡ true → total s ≡ 0
+unfolding total zeros
+sums-none [] h = refl
+sums-none (x ∷ s) h = let b = both (eqb x 0) (zeros s) h in omega (arith, eqb-true x 0 (b .0), sums-none s (b .1))
+
+pub zeros-total : (s : List ℕ) → eqb (total s) 0 ≡ zeros s
+zeros-total s = alike (eqb (total s) 0) (zeros s) (λ h. none-left s (eqb-true (total s) 0 h)) (λ h. eq-eqb (total s) 0 (sums-none s h))
+
+pub zeros-at : (s : List ℕ) (i : ℕ) → zeros s ≡ true → getD s i 0 ≡ 0
+unfolding zeros
+zeros-at [] i h = refl
+zeros-at (x ∷ s) zero h = eqb-true x 0 (both (eqb x 0) (zeros s) h .0)
+zeros-at (x ∷ s) (suc i) h = zeros-at s i (both (eqb x 0) (zeros s) h .1)
+
+pub zeros-of : (s : List ℕ) → ((i : ℕ) → i < length s → getD s i 0 ≡ 0) → zeros s ≡ true
+unfolding zeros
+zeros-of [] h = refl
+zeros-of (x ∷ s) h = joined (eq-eqb x 0 (h 0 (omega arith))) (zeros-of s (λ i k. h (suc i) (omega arith)))
+
+-- the tests of the numbers first
+swapped : (p r : Bool) → (p && r) ≡ (r && p)
+swapped true true = refl
+swapped true false = refl
+swapped false r = sym (and-false r)
+
+pub regroup : (a b c l p r : Bool) → (a && (b && (c && (l && (p && r))))) ≡ ((a && (b && (c && r))) && (l && p))
+regroup false b c l p r = refl
+regroup true false c l p r = refl
+regroup true true false l p r = refl
+regroup true true true false p r = sym (and-false r)
+regroup true true true true p r = swapped p r

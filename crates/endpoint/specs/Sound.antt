@@ -1,0 +1,63 @@
+-- Question 12 of document 01: is the record sound?
+use Prim.Native.Nat.{ℕ, zero, suc, _+_, _-_, _*_}
+use mathlib.Core.Bool.{Bool, true, _&&_}
+use mathlib.Core.List.{List, [], _∷_}
+use lib.ListN.{take, drop, getD}
+use lib.Dec.{ltb, leb, eqb}
+use Rattle.octets.specs.Sizes.{longestBlock, queueSize}
+use Rattle.octets.specs.Test.{when, inRange}
+use Rattle.protocol.specs.Endpoint.{closed, listening, passiveOpening, established, allOf}
+use Rattle.endpoint.specs.declared.Endpoint.{Endpoint}
+
+-- the test holds of each number below n
+unfoldable pub allBelow : ℕ → (ℕ → Bool) → Bool
+allBelow zero p = true
+allBelow (suc n) p = allBelow n p && p n
+
+-- each element is 0
+unfoldable pub zeros : List ℕ → Bool
+zeros [] = true
+zeros (x ∷ s) = eqb x 0 && zeros s
+
+-- the length x at place i: a waiting one is 1 to 64, an unused one is 0
+unfoldable pub lengthOk : ℕ → ℕ → ℕ → Bool
+lengthOk w i x = when (ltb i w) (inRange 1 longestBlock x) (eqb x 0)
+
+unfoldable pub lengthsOk : ℕ → List ℕ → Bool
+lengthsOk w lengths = allBelow queueSize (λ i. lengthOk w i (getD lengths i 0))
+
+-- the octets of place i after its block
+unfoldable pub unusedAt : List ℕ → List ℕ → ℕ → List ℕ
+unusedAt lengths blocks i = take (longestBlock - getD lengths i 0) (drop (i * longestBlock + getD lengths i 0) blocks)
+
+unfoldable pub unusedOk : List ℕ → List ℕ → Bool
+unusedOk lengths blocks = allBelow queueSize (λ i. zeros (unusedAt lengths blocks i))
+
+-- A record is sound if its state is 0 to 5, w ≤ 8 and w ≤ t, each waiting length is 1 to 64, what is unused is 0, and: closed
+-- and listening have D = 0; L ≥ 1 in all states but closed; D ≥ 1 in states 3, 4, 5; t = w = e = 0 outside open.
+unfoldable pub sound : Endpoint → Bool
+sound e =
+    allOf
+    (inRange 0 5 (e .state)
+    ∷ leb (e .waiting) queueSize
+    ∷ leb (e .waiting) (e .accepted)
+    ∷ lengthsOk (e .waiting) (e .lengths)
+    ∷ unusedOk (e .lengths) (e .blocks)
+    ∷ when (leb (e .state) listening) (eqb (e .remote) 0) true
+    ∷ when (eqb (e .state) closed) true (leb 1 (e .local))
+    ∷ when (leb passiveOpening (e .state)) (leb 1 (e .remote)) true
+    ∷ when (eqb (e .state) established) true (allOf (eqb (e .accepted) 0 ∷ eqb (e .waiting) 0 ∷ eqb (e .delivered) 0 ∷ []))
+    ∷ [])
+
+-- the tests of the numbers alone
+unfoldable pub numbersOk : ℕ → ℕ → ℕ → ℕ → ℕ → ℕ → Bool
+numbersOk st l d t e w =
+    allOf
+    (inRange 0 5 st
+    ∷ leb w queueSize
+    ∷ leb w t
+    ∷ when (leb st listening) (eqb d 0) true
+    ∷ when (eqb st closed) true (leb 1 l)
+    ∷ when (leb passiveOpening st) (leb 1 d) true
+    ∷ when (eqb st established) true (allOf (eqb t 0 ∷ eqb w 0 ∷ eqb e 0 ∷ []))
+    ∷ [])

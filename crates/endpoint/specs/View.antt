@@ -1,0 +1,60 @@
+-- The struct and the endpoint of the step table that it stands for.
+use Prim.Native.Nat.{ℕ, zero, suc, _-_, _*_}
+use mathlib.Core.List.{List, [], _∷_, _++_}
+use lib.ListN.{length, take, drop, getD, replicate}
+use Rattle.octets.specs.Sizes.{longestBlock, queueSize}
+use Rattle.frame.specs.Frame.{Block}
+use Rattle.protocol.specs.Endpoint as abstract
+use Rattle.endpoint.specs.declared.Endpoint.{Endpoint}
+
+-- the octets of all places
+abbrev pub placesSize : ℕ
+placesSize = 512
+
+-- s, then zeros up to n elements
+unfoldable pub padded : ℕ → List ℕ → List ℕ
+padded n s = s ++ replicate (n - length s) 0
+
+-- the blocks one after the other, each in a place of 64
+unfoldable pub places : List Block → List ℕ
+places [] = []
+places (b ∷ q) = padded longestBlock b ++ places q
+
+unfoldable pub lengthsOf : List Block → List ℕ
+lengthsOf [] = []
+lengthsOf (b ∷ q) = length b ∷ lengthsOf q
+
+-- the struct that holds an endpoint: the oldest block is first, unused octets and lengths are 0
+unfoldable pub pack : abstract.Endpoint → Endpoint
+pack a =
+    record {
+      state = a .state;
+      local = a .local;
+      remote = a .remote;
+      accepted = a .accepted;
+      delivered = a .delivered;
+      waiting = length (a .queue);
+      lengths = padded queueSize (lengthsOf (a .queue));
+      blocks = padded placesSize (places (a .queue));
+    }
+
+-- f 0, f 1, .., as many as n
+unfoldable pub tab : ℕ → (ℕ → Block) → List Block
+tab zero f = []
+tab (suc n) f = tab n f ++ (f n ∷ [])
+
+-- the block at place i: as many octets as its length says
+unfoldable pub blockAt : List ℕ → List ℕ → ℕ → Block
+blockAt lengths blocks i = take (getD lengths i 0) (drop (i * longestBlock) blocks)
+
+-- the endpoint that a struct holds
+unfoldable pub view : Endpoint → abstract.Endpoint
+view e =
+    record {
+      state = e .state;
+      local = e .local;
+      remote = e .remote;
+      accepted = e .accepted;
+      delivered = e .delivered;
+      queue = tab (e .waiting) (blockAt (e .lengths) (e .blocks));
+    }

@@ -1,0 +1,35 @@
+use mathlib.Core.Path.{refl, ap, _∙_}
+use borrow.Author.Tests.{le-leb, lt-leb}
+use lib.ListN.{length}
+use denote.Ref.{now}
+use Rattle.octets.specs.Test.{when, first, outcome, numberOf}
+use Rattle.octets.specs.Octets.{put, left}
+use Rattle.endpoint.specs.declared.Endpoint.{Endpoint}
+use Rattle.endpoint.specs.Record.{encode}
+use Rattle.link.specs.Lent.{freshIn}
+use native.Mathlib.Omega.{arith}
+use borrow.Author.Needs.{needs}
+use Rattle.link.proofs.dock_fresh.Statement.{statement}
+use Rattle.link.proofs.dock_fresh.Tie as tie
+
+returns : tie.Need-returns
+unfolding freshIn first when outcome numberOf left
+returns c = rw (lt-leb 538 (length (now (c .before .before .args .rec))) (omega arith)) (refl, refl)
+
+fresh-requires : tie.Need-fresh-requires
+fresh-requires c κs = search needs
+
+encode-requires : tie.Need-encode-requires
+encode-requires c κs = search needs
+
+same-length : tie.Need-same-length
+same-length c = search needs
+
+returns-2 : tie.Need-returns-2
+unfolding freshIn first when outcome numberOf left
+returns-2 c =
+    let d = now (c .before .before .before .before .before .before .before .args .rec) in
+    rw (le-leb 538 (length d) (omega arith)) (refl, c .before .before .encode .ensures ∙ ap (λ (e : Endpoint). put d 0 (encode e)) (c .before .before .before .before .fresh .ensures))
+
+pub dock-fresh-spec : {M : Type 1} → statement M
+dock-fresh-spec = tie.close (tie.spec returns fresh-requires encode-requires same-length returns-2)
