@@ -1,10 +1,22 @@
 // Which row of the step table applies to a frame: the rules in code, one function for a state.
 use frame::Values;
 use protocol::Rule;
-ghost use mathlib.Core.Path.{_≡_};
 ghost use Prim.Native.Nat.{_≤_};
 ghost use Rattle.protocol.specs.Table.{whenClosed, whenListening, whenActive, whenPassive, dataRow, ackRow, openRows, whenEstablished, whenClosing, rule};
 ghost use Rattle.decide.specs.Rows.{Chosen};
+
+// The states; document 01 calls 2 calling, 3 answering and 4 open.
+pub const CLOSED: u8 = 0;
+
+pub const LISTENING: u8 = 1;
+
+pub const ACTIVE_OPENING: u8 = 2;
+
+pub const PASSIVE_OPENING: u8 = 3;
+
+pub const ESTABLISHED: u8 = 4;
+
+pub const CLOSING: u8 = 5;
 
 // The numbers of an endpoint: its record without the waiting blocks.
 pub struct Numbers {
@@ -231,22 +243,22 @@ pub fn choose(e: Numbers, f: Values) -> Rule
     if f.sender < e.remote {
         return Rule::Ignore;
     }
-    if e.state == 0 {
+    if e.state == CLOSED {
         return when_closed(e, f);
     }
-    if e.state == 1 {
+    if e.state == LISTENING {
         return when_listening(e, f);
     }
-    if e.state == 2 {
+    if e.state == ACTIVE_OPENING {
         return when_active(e, f);
     }
-    if e.state == 3 {
+    if e.state == PASSIVE_OPENING {
         return when_passive(e, f);
     }
-    if e.state == 4 {
+    if e.state == ESTABLISHED {
         return when_established(e, f);
     }
-    if e.state == 5 {
+    if e.state == CLOSING {
         return when_closing(e, f);
     }
     Rule::Ignore

@@ -1,8 +1,8 @@
 -- The struct that holds a sound endpoint is sound. Assumes nothing.
-use Prim.Native.Nat.{ℕ, zero, suc, _+_, _-_, _*_, _/_, _%_, _≤_, _<_}
+use Prim.Native.Nat.{ℕ, zero, suc, _+_, _-_, _*_, _≤_, _<_}
 use mathlib.Core.Path.{_≡_, refl, sym, ap, _∙_}
 use mathlib.Core.Bool.{Bool, true, _&&_}
-use mathlib.Core.List.{List, [], _∷_, _++_}
+use mathlib.Core.List.{List, [], _∷_}
 use native.Mathlib.Nat.{min-le-left}
 use native.Mathlib.Omega.{arith}
 use borrow.Author.Tests.{lt-ltb, le-ltb, eq-eqb}
@@ -14,9 +14,10 @@ use Rattle.octets.proofs.Test.{both, joined, in-range}
 use Rattle.frame.specs.Frame.{Block}
 use Rattle.protocol.specs.Endpoint as abstract
 use Rattle.protocol.specs.Endpoint.{sized, allOf}
-use Rattle.protocol.proofs.Sound.{sized-at, Sound, sound-so}
+use Rattle.protocol.proofs.Sound.{sized-at, sound-so}
 use Rattle.endpoint.specs.View.{padded, places, lengthsOf, pack, view}
-use Rattle.endpoint.specs.Sound.{zeros, lengthOk, lengthsOk, unusedAt, unusedOk, sound, numbersOk}
+use Rattle.endpoint.specs.Sound.{zeros, lengthOk, lengthsOk, unusedAt, unusedOk, sound}
+use Rattle.endpoint.specs.Parts.{numbersOk}
 use Rattle.endpoint.proofs.Tests.{all-hold, zeros-of}
 use Rattle.endpoint.proofs.Pad.{length-padded}
 use Rattle.endpoint.proofs.Packs.{Small, view-pack, length-lengths, length-places, drop-places, getD-lengths}

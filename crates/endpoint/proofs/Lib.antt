@@ -1,13 +1,7 @@
 pub mod Tests
 pub mod Pad
-pub mod Shift
 pub mod Queue
 pub mod Packs
 pub mod Sounds
 pub mod Held
 pub mod Record
-pub mod Calls
-pub mod Requests
-pub mod Reading
-pub mod Ready
-pub mod Found

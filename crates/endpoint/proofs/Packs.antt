@@ -2,11 +2,8 @@
 use mathlib.Core.Path.{_≡_, refl, sym, ap, ap₂, _∙_}
 use mathlib.Core.List.{List, [], _∷_, _++_, append-nil, append-assoc}
 use Prim.Native.Nat.{ℕ, zero, suc, _+_, _-_, _*_, _/_, _%_, _≤_, _<_}
-use native.Mathlib.Nat.{zero-mul, suc-mul, zero-add, add-zero}
-use native.Mathlib.Numerals.{add-one}
 use native.Mathlib.Omega.{arith}
-use borrow.Author.Tests.{eq-eqb, lt-ltb}
-use lib.ListN.{length, take, drop, getD, set, replicate, length-append, length-drop, length-take, List·getD-append}
+use lib.ListN.{length, take, drop, getD, set, replicate, length-append, length-drop, List·getD-append}
 use lib.Seq.{take-at, drop-at, take-length, take-suc, take-add, take-take, drop-cons, drop-drop, drop-nil, getD-take, getD-drop, drop-append-le, length-take-le}
 use Rattle.octets.specs.Octets.{put}
 use Rattle.octets.proofs.Octets.{put-sets}
@@ -214,19 +211,19 @@ module _ (e : Endpoint) (T : Tidy (e .waiting) (e .lengths) (e .blocks)) where
   unfolding view
   small = small-tab (e .lengths) (e .blocks) (e .waiting) T (e .waiting) (omega arith)
 
-  pub added-view : (b : Block) → e .waiting < 8 → length b ≤ 64 → added b e ≡ pack (queueing b (view e))
-  added-view b h k = ap (added b) (sym (pack-view e T)) ∙ pack-added (view e) b small (rw (count e) h) k
+  pub queueing-view : (b : Block) → e .waiting < 8 → length b ≤ 64 → added b e ≡ pack (queueing b (view e))
+  queueing-view b h k = ap (added b) (sym (pack-view e T)) ∙ pack-added (view e) b small (rw (count e) h) k
 
-  pub acked-view : (n k : ℕ) → k ≡ n - (e .accepted - e .waiting) → k ≤ e .waiting → dropped k e ≡ pack (releasing n (view e))
+  pub releasing-view : (n k : ℕ) → k ≡ n - (e .accepted - e .waiting) → k ≤ e .waiting → dropped k e ≡ pack (releasing n (view e))
   unfolding without view
-  acked-view n k h m =
+  releasing-view n k h m =
       ap (dropped k) (sym (pack-view e T))
       ∙ pack-dropped (view e) k small (rw (count e) (T .few)) (rw (count e) m)
       ∙ ap (λ (j : ℕ). pack (without j (view e))) (h ∙ sym (ap (λ (j : ℕ). n - (e .accepted - j)) (count e)))
 
-  pub heard-view : record { state = e .state; local = e .local; remote = e .remote; accepted = e .accepted; delivered = e .delivered + 1; waiting = e .waiting; lengths = e .lengths; blocks = e .blocks } ≡ pack (delivering (view e))
+  pub delivering-view : record { state = e .state; local = e .local; remote = e .remote; accepted = e .accepted; delivered = e .delivered + 1; waiting = e .waiting; lengths = e .lengths; blocks = e .blocks } ≡ pack (delivering (view e))
   unfolding pack view
-  heard-view =
+  delivering-view =
       let p = sym (pack-view e T) in
       λ i. record { state = e .state; local = e .local; remote = e .remote; accepted = e .accepted; delivered = e .delivered + 1; waiting = p i .waiting; lengths = p i .lengths; blocks = p i .blocks }
 

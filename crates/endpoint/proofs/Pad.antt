@@ -1,15 +1,13 @@
--- Lists with zeros after them, and blocks in places of 64. Assumes nothing.
-use mathlib.Core.Path.{_≡_, refl, sym, ap, ap₂, _∙_}
-use mathlib.Core.List.{List, [], _∷_, _++_, append-nil, append-assoc}
-use Prim.Native.Nat.{ℕ, zero, suc, _+_, _-_, _*_, _≤_, _<_}
-use native.Mathlib.Nat.{sub-zero, zero-sub, suc-sub-suc, add-zero, zero-add, le-of-suc-le-suc, not-suc-le-zero}
-use native.Mathlib.Numerals.{add-one}
+-- Lists with zeros after them. Assumes nothing.
+use mathlib.Core.Path.{_≡_, refl, sym, ap, _∙_}
+use mathlib.Core.List.{List, _++_, append-assoc}
+use Prim.Native.Nat.{ℕ, zero, suc, _+_, _-_, _≤_, _<_}
+use native.Mathlib.Nat.{sub-zero, zero-sub, suc-sub-suc}
 use native.Mathlib.Omega.{arith}
-use lib.ListN.{length, take, drop, getD, set, replicate, length-append, take-append-drop, length-take, length-drop, length-replicate, getD-replicate, replicate-append-replicate, List·getD-append, List·getD-eq-default}
-use lib.Seq.{take-at, drop-at, take-all, take-length, take-suc, take-add, drop-cons, drop-drop, drop-nil, getD-take, getD-drop, ext-getD, drop-append-le, take-append-le, getD-append-add, length-take-le}
+use lib.ListN.{length, take, drop, getD, replicate, length-append, take-append-drop, length-drop, length-replicate, getD-replicate, replicate-append-replicate}
+use lib.Seq.{take-all, take-at, drop-at, drop-drop, getD-drop, ext-getD, drop-append-le, length-take-le}
 use Rattle.octets.specs.Octets.{put}
-use Rattle.frame.specs.Frame.{Block}
-use Rattle.endpoint.specs.View.{padded, places, lengthsOf, tab, blockAt}
+use Rattle.endpoint.specs.View.{padded}
 
 drop-zeros : (m n : ℕ) → drop {A = ℕ} m (replicate n 0) ≡ replicate (n - m) 0
 drop-zeros zero n = rw sub-zero refl
@@ -55,3 +53,13 @@ padded-is n l m e h z =
     (λ i v. let v′ : i < n - m = omega (arith, length-drop m l) in
     rw (getD-drop, getD-replicate {A = ℕ} (n - m) i 0 0 v′) (z (m + i) (omega arith) (omega arith))) in
     rw (k, ← d) (take-append-drop m l)
+
+-- a list moved to the front, and zeros after it
+pub shift : (n m : ℕ) (l : List ℕ) → length l ≡ n → m ≤ n → put (replicate n 0) 0 (take (n - m) (drop m l)) ≡ drop m l ++ replicate m 0
+unfolding put
+shift n m l e h =
+    let s : take (n - m) (drop m l) ≡ drop m l = take-all (n - m) (drop m l) (rw length-drop (omega arith)) in
+    let k : 0 + length (drop m l) ≡ n - m = rw length-drop (omega arith) in
+    let j : n - (n - m) ≡ m = omega arith in
+    ap (λ (x : List ℕ). put (replicate n 0) 0 x) s
+    ∙ ap (λ (x : List ℕ). drop m l ++ x) (rw (k, drop-zeros (n - m) n, j) refl)

@@ -1,6 +1,6 @@
 -- What becomes of the flat arrays as blocks join and leave.
 use Prim.Native.Nat.{ℕ, _+_, _-_, _*_}
-use mathlib.Core.List.{List, _++_}
+use mathlib.Core.List.{_++_}
 use lib.ListN.{length, drop, set, replicate}
 use Rattle.octets.specs.Sizes.{longestBlock}
 use Rattle.octets.specs.Octets.{put}

@@ -1,11 +1,11 @@
 -- The record in octets: what the stores leave, and both round trips. Assumes nothing.
-use Prim.Native.Nat.{ℕ, _+_, _%_, _≤_, _<_, _^_}
-use mathlib.Core.Path.{_≡_, refl, sym, ap, ap₂, _∙_}
+use Prim.Native.Nat.{ℕ, _+_, _%_, _≤_, _<_}
+use mathlib.Core.Path.{_≡_, refl, sym, ap, _∙_}
 use mathlib.Core.List.{List, [], _∷_, _++_, append-nil, append-assoc}
 use native.Mathlib.Omega.{arith}
-use lib.ListN.{length, take, drop, getD, length-append, length-drop, drop-of-length-le}
-use lib.Seq.{take-at, drop-at, take-add, drop-drop, length-take-le}
-use Rattle.octets.specs.Octets.{put, bytes, field, lay, fields, size, Octets}
+use lib.ListN.{length, take, drop, getD, length-append, drop-of-length-le}
+use lib.Seq.{take-at, drop-at, take-add, drop-drop}
+use Rattle.octets.specs.Octets.{put, bytes, lay, fields, size, Octets}
 use Rattle.octets.proofs.Octets.{then-put, Fit, none, one, fields-lay, lay-fields, length-lay}
 use Rattle.endpoint.specs.declared.Endpoint.{Endpoint}
 use Rattle.endpoint.specs.Record.{numbersLayout, encode, decode, Fits}

@@ -1,26 +1,24 @@
 -- What a sound struct is known to be, and that soundness means the same of the struct and of the endpoint that it holds.
 -- Assumes nothing.
 use Prim.Native.Nat.{ℕ, zero, suc, _+_, _-_, _*_, _/_, _%_, _≤_, _<_}
-use mathlib.Core.Path.{_≡_, refl, sym, ap, _∙_}
-use mathlib.Core.Logic.{⊎-elim}
+use mathlib.Core.Path.{_≡_, refl, sym, _∙_}
 use mathlib.Core.Bool.{Bool, true, false, _&&_}
-use mathlib.Core.List.{List, [], _∷_, _++_}
-use native.Mathlib.Nat.{add-assoc}
+use mathlib.Core.List.{List, [], _∷_}
 use native.Mathlib.Omega.{arith}
-use lib.Dec.{ltb, leb, eqb}
-use lib.ListN.{length, take, drop, getD, List·getD-eq-default, List·getD-append}
-use lib.Seq.{getD-drop, getD-take, drop-cons, getD-append-add}
-use borrow.Author.Tests.{lt-ltb, le-ltb, eqb-true, eq-eqb, leb-true}
+use lib.Dec.{leb}
+use lib.ListN.{length, take, drop, getD, List·getD-eq-default}
+use lib.Seq.{getD-drop, getD-take}
+use borrow.Author.Tests.{lt-ltb, le-ltb, eqb-true, leb-true}
 use Rattle.octets.specs.Test.{when, inRange}
 use Rattle.octets.proofs.Test.{both, joined, within, in-range, if-lt}
-use Rattle.frame.specs.Frame.{Block}
 use Rattle.protocol.specs.Endpoint as abstract
 use Rattle.protocol.specs.Endpoint.{sized, allOf}
-use Rattle.protocol.proofs.Sound.{sized-append, sized-at, Sound, sound-so}
+use Rattle.protocol.proofs.Sound.{sized-append, Sound, sound-so}
 use Rattle.endpoint.specs.declared.Endpoint.{Endpoint}
-use Rattle.endpoint.specs.View.{padded, places, lengthsOf, pack, tab, blockAt, view}
-use Rattle.endpoint.specs.Sound.{zeros, lengthOk, lengthsOk, unusedAt, unusedOk, sound, numbersOk}
-use Rattle.endpoint.proofs.Tests.{all-at, all-hold, zeros-at, zeros-of, regroup}
+use Rattle.endpoint.specs.View.{tab, blockAt, view}
+use Rattle.endpoint.specs.Sound.{zeros, lengthOk, lengthsOk, unusedAt, unusedOk, sound}
+use Rattle.endpoint.specs.Parts.{numbersOk}
+use Rattle.endpoint.proofs.Tests.{all-at, zeros-at, regroup}
 use Rattle.endpoint.proofs.Packs.{Tidy, length-tab, length-block}
 
 abbrev pub Numbers : Endpoint → Bool

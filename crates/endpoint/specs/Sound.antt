@@ -48,16 +48,3 @@ sound e =
     ∷ when (leb passiveOpening (e .state)) (leb 1 (e .remote)) true
     ∷ when (eqb (e .state) established) true (allOf (eqb (e .accepted) 0 ∷ eqb (e .waiting) 0 ∷ eqb (e .delivered) 0 ∷ []))
     ∷ [])
-
--- the tests of the numbers alone
-unfoldable pub numbersOk : ℕ → ℕ → ℕ → ℕ → ℕ → ℕ → Bool
-numbersOk st l d t e w =
-    allOf
-    (inRange 0 5 st
-    ∷ leb w queueSize
-    ∷ leb w t
-    ∷ when (leb st listening) (eqb d 0) true
-    ∷ when (eqb st closed) true (leb 1 l)
-    ∷ when (leb passiveOpening st) (leb 1 d) true
-    ∷ when (eqb st established) true (allOf (eqb t 0 ∷ eqb w 0 ∷ eqb e 0 ∷ []))
-    ∷ [])

@@ -1,9 +1,8 @@
 -- What a call on a lent record answers, from what the call by value answers. Assumes nothing.
 use Prim.Native.Nat.{ℕ, _≤_, _<_}
-use mathlib.Core.Path.{_≡_, refl, sym, ap, subst, _∙_}
+use mathlib.Core.Path.{_≡_, refl, sym, ap, _∙_}
 use mathlib.Core.Logic.{_≢_}
-use mathlib.Core.List.{List, [], _∷_}
-use native.Mathlib.Omega.{arith}
+use mathlib.Core.List.{List, []}
 use borrow.Author.Tests.{le-leb, lt-leb}
 use lib.ListN.{length, take, drop, take-append-drop}
 use lib.Seq.{length-take-le}
@@ -12,11 +11,11 @@ use Rattle.octets.specs.Octets.{put, left, Octets}
 use Rattle.protocol.specs.Endpoint.{fresh}
 use Rattle.protocol.specs.Table.{Step}
 use Rattle.endpoint.specs.declared.Endpoint.{Endpoint}
-use Rattle.endpoint.specs.declared.Answer.{Answer}
+use Rattle.machine.specs.declared.Answer.{Answer}
 use Rattle.endpoint.specs.View.{pack, view}
 use Rattle.endpoint.specs.Sound.{sound}
 use Rattle.endpoint.specs.Record.{encode, decode}
-use Rattle.endpoint.specs.Calls.{answerOf, Answered}
+use Rattle.machine.specs.Calls.{answerOf, Answered}
 use Rattle.endpoint.proofs.Record.{encode-decode}
 use Rattle.calls.specs.Calls.{Call, buffer, asked, performed, recordAfter, bufferAfter}
 use Rattle.link.specs.Record.{format}

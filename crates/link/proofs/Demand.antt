@@ -1,8 +1,8 @@
 -- The record's format is lawful, so demand 3 holds of the calls in octets. Assumes nothing.
-use Prim.Native.Nat.{ℕ, _+_, _≤_}
-use mathlib.Core.Path.{_≡_, refl, ap, _∙_}
+use Prim.Native.Nat.{ℕ, _≤_}
+use mathlib.Core.Path.{_≡_, ap, _∙_}
 use mathlib.Core.Bool.{true}
-use mathlib.Core.List.{List, _++_}
+use mathlib.Core.List.{List}
 use native.Mathlib.Omega.{arith}
 use lib.ListN.{length, length-append}
 use Rattle.octets.specs.Octets.{bytes, lay}
@@ -11,7 +11,7 @@ use Rattle.protocol.specs.Limits.{Bounded}
 use Rattle.protocol.proofs.Sound.{sound-so}
 use Rattle.endpoint.specs.View.{places, lengthsOf, pack, view}
 use Rattle.endpoint.specs.Sound.{sound}
-use Rattle.endpoint.specs.Record.{encode, decode, Fits}
+use Rattle.endpoint.specs.Record.{encode, Fits}
 use Rattle.endpoint.proofs.Pad.{length-padded}
 use Rattle.endpoint.proofs.Packs.{length-lengths, length-places}
 use Rattle.endpoint.proofs.Held.{small-of, held, pack-sound}

@@ -1,6 +1,6 @@
 -- The block handed up is what follows octet 14 of the frame received. Assumes nothing.
 use Prim.Native.Nat.{ℕ, zero, suc, _≤_}
-use mathlib.Core.Path.{_≡_, refl, subst, _∙_}
+use mathlib.Core.Path.{_≡_, refl, subst}
 use mathlib.Core.Logic.{_≢_}
 use mathlib.Core.Bool.{Bool}
 use mathlib.Core.List.{List, []}
@@ -15,7 +15,7 @@ use Rattle.protocol.specs.declared.Rule.the-variants.{Ignore, Refuse, AcceptDis
 use Rattle.protocol.specs.declared.Rule.the-variants.{RejectedByDisconnect, ListenAgain, ClosedByPartner, Confirm, HandUp, Acknowledge, Release}
 use Rattle.protocol.specs.declared.Rule.the-variants.{FinishedByDisconnect, Finished}
 use Rattle.protocol.specs.Endpoint.{Endpoint}
-use Rattle.protocol.specs.Table.{Indication, notice, rule, Step, apply, step}
+use Rattle.protocol.specs.Table.{notice, rule, Step, apply, step}
 use Rattle.protocol.specs.Network.{deliver, Call, perform}
 use Rattle.protocol.proofs.Facts.{Found, hand-up, found}
 use Rattle.calls.specs.Calls.{receive, said, asked, ownQuestions}

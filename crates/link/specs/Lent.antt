@@ -10,7 +10,7 @@ use Rattle.protocol.specs.Endpoint.{fresh}
 use Rattle.protocol.specs.Table.{Indication, none, connected, rejected, closedByPartner, closeFinished, handedUp, notice, Step}
 use Rattle.endpoint.specs.declared.Endpoint.{Endpoint}
 use Rattle.endpoint.specs.View.{pack}
-use Rattle.endpoint.specs.Record.{recordSize, encode, decode}
+use Rattle.endpoint.specs.Record.{recordSize, decode}
 use Rattle.calls.specs.Calls.{wire, recordAfter, bufferAfter}
 use Rattle.link.specs.Record.{format}
 

@@ -1,5 +1,4 @@
 -- How an end's record lies in its 538 octets.
-use mathlib.Core.List.{List}
 use Rattle.endpoint.specs.View.{pack, view}
 use Rattle.endpoint.specs.Sound.{sound}
 use Rattle.endpoint.specs.Record.{recordSize, encode, decode}

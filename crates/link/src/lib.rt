@@ -46,7 +46,7 @@ pub extern "C" fn dock_request(
         *sent = 0;
         return 11;
     }
-    let answer = endpoint::request(endpoint::decode(rec), s, out);
+    let answer = machine::request(endpoint::decode(rec), s, out);
     let e = answer.endpoint;
     *state = e.state;
     *notice = answer.notice;
@@ -84,7 +84,7 @@ pub fn receive<'a>(
         *sent = 0;
         return &s[..0];
     }
-    let answer = endpoint::receive(endpoint::decode(rec), s, out);
+    let answer = machine::receive(endpoint::decode(rec), s, out);
     let e = answer.endpoint;
     *number = answer.number;
     *state = e.state;

@@ -3,7 +3,6 @@ use Prim.Native.Nat.{_≤_}
 use lib.ListN.{length, take, drop, replicate, length-drop}
 use lib.Seq.{length-take-le}
 use denote.Ref.{now}
-use Rattle.octets.specs.Octets.{put}
 use Rattle.octets.proofs.Octets.{field-one}
 use Rattle.endpoint.specs.Record.{decode}
 use Rattle.endpoint.proofs.Record.{put-whole}

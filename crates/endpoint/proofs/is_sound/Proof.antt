@@ -3,7 +3,6 @@ use lib.ListN.{length}
 use mathlib.Core.Path.{_≡_, refl, sym, _∙_}
 use borrow.Author.Tests.{not-true, not-false}
 use Rattle.endpoint.proofs.Sounds.{Numbers, parts, short}
-use native.Mathlib.Omega.{arith}
 use borrow.Author.Needs.{needs}
 use Rattle.endpoint.proofs.is_sound.Statement.{statement}
 use Rattle.endpoint.proofs.is_sound.Tie as tie

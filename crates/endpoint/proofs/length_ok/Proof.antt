@@ -4,6 +4,9 @@ use borrow.Author.Needs.{needs}
 use Rattle.endpoint.proofs.length_ok.Statement.{statement}
 use Rattle.endpoint.proofs.length_ok.Tie as tie
 
+cast-when : tie.Need-cast-when
+cast-when c = search needs
+
 when-requires : tie.Need-when-requires
 when-requires c κs = search needs
 
@@ -12,4 +15,4 @@ unfolding lengthOk inRange
 returns c = cc
 
 pub length-ok-spec : {M : Type 1} → statement M
-length-ok-spec = tie.close (tie.spec when-requires returns)
+length-ok-spec = tie.close (tie.spec cast-when when-requires returns)

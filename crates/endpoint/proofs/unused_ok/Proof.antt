@@ -19,20 +19,17 @@ loop-holds : tie.Need-loop-holds Inv-loop μ-loop
 unfolding allBelow
 loop-holds c = search needs
 
+mul-at : tie.Need-mul-at Inv-loop μ-loop
+mul-at c = search needs
+
 shared-slice-read-wide : tie.Need-shared-slice-read-wide Inv-loop μ-loop
 shared-slice-read-wide c = search needs
 
 wide-requires : tie.Need-wide-requires Inv-loop μ-loop
 wide-requires c κs = search needs
 
-mul-is-clear : tie.Need-mul-is-clear Inv-loop μ-loop
-mul-is-clear c = search needs
-
 add-is-clear : tie.Need-add-is-clear Inv-loop μ-loop
 add-is-clear c = search needs
-
-mul-is-clear-2 : tie.Need-mul-is-clear-2 Inv-loop μ-loop
-mul-is-clear-2 c = search needs
 
 add-is-clear-2 : tie.Need-add-is-clear-2 Inv-loop μ-loop
 add-is-clear-2 c = search needs
@@ -78,11 +75,10 @@ unused-ok-spec =
     Inv-loop
     μ-loop
     loop-holds
+    mul-at
     shared-slice-read-wide
     wide-requires
-    mul-is-clear
     add-is-clear
-    mul-is-clear-2
     add-is-clear-2
     sub-is-clear
     part-is-clear-start

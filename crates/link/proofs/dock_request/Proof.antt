@@ -1,7 +1,7 @@
 use mathlib.Core.Path.{refl}
 use denote.Ref.{now}
 use Rattle.octets.specs.Octets.{Octets}
-use Rattle.endpoint.specs.Calls.{requestOutcome}
+use Rattle.machine.specs.Calls.{requestOutcome}
 use Rattle.calls.specs.Calls.{request}
 use Rattle.link.proofs.Answers.{lent-short, lent-refused, lent-stored}
 use native.Mathlib.Omega.{arith}

@@ -7,7 +7,7 @@ use Rattle.octets.specs.Octets.{Octets}
 use Rattle.endpoint.specs.View.{view}
 use Rattle.endpoint.specs.Sound.{sound}
 use Rattle.endpoint.specs.Record.{decode}
-use Rattle.endpoint.specs.Calls.{receiveOutcome}
+use Rattle.machine.specs.Calls.{receiveOutcome}
 use Rattle.calls.specs.Calls.{receive}
 use Rattle.link.proofs.Up.{right}
 use Rattle.link.proofs.Answers.{lent-short, lent-refused, lent-stored, short-none, refused-none, up-none, up-some}

@@ -1,0 +1,139 @@
+-- What the calls keep: an accepted call of a sound struct leaves a sound struct, which holds the endpoint that the step table
+-- gives. Assumes nothing.
+use Prim.Native.Nat.{ℕ, zero, suc, _+_, _≤_}
+use mathlib.Core.Path.{_≡_, refl, sym, subst, ap, _∙_}
+use mathlib.Core.Bool.{Bool, true}
+use mathlib.Core.List.{List}
+use native.Mathlib.Omega.{arith}
+use borrow.Author.Tests.{leb-true, eqb-true}
+use lib.Dec.{leb, eqb}
+use lib.ListN.{length, getD, length-drop}
+use Rattle.octets.specs.Sizes.{lastNumber}
+use Rattle.octets.specs.Test.{first, Outcome, refused, ok, refusing, mapped, andThen}
+use Rattle.octets.specs.Octets.{field, Octets}
+use Rattle.octets.proofs.Octets.{field-one, field-more}
+use Rattle.octets.proofs.Test.{joined, within, in-range, by-eq, accepted, all-yes}
+use Rattle.frame.specs.Frame.{DRACK, DATA, Frame, Request, connect, listen, endListening, close, timer, send}
+use Rattle.frame.specs.Fits.{Fits, control-fits, data-fits, ack-fits}
+use Rattle.frame.specs.Layout.{isFrame}
+use Rattle.frame.specs.Read.{kindOf, countOk, numbersOk, frameAt, readFrame, readRequest}
+use Rattle.frame.proofs.Reading.{control-read, ack-read, data-read}
+use Rattle.protocol.specs.Endpoint.{sized}
+use Rattle.protocol.specs.Table.{Step}
+use Rattle.protocol.specs.Requests.{request}
+use Rattle.protocol.specs.Network.{ask, deliver, perform}
+use Rattle.protocol.specs.Claim.{blockSent}
+use Rattle.protocol.specs.Limits.{LeavesSound}
+use Rattle.protocol.proofs.Limits.{call-sound}
+use Rattle.endpoint.specs.declared.Endpoint.{Endpoint}
+use Rattle.endpoint.specs.View.{pack, view}
+use Rattle.endpoint.specs.Sound.{sound}
+use Rattle.machine.specs.Calls.{requestOutcome, receiveOutcome}
+use Rattle.calls.specs.Calls.{Call, ownQuestions, said, asked}
+use Rattle.calls.specs.Calls as calls
+use Rattle.endpoint.proofs.Sounds.{view-sound}
+use Rattle.endpoint.proofs.Held.{held, pack-sound}
+use Rattle.machine.proofs.Reading.{good, passed, send-sized, sender-is, quoted-is, number-is}
+
+-- four octets make a number of 32 bits
+field-32 : (at : ℕ) (s : List ℕ) → Octets s → at + 4 ≤ length s → field 4 at s ≤ lastNumber
+unfolding Octets
+field-32 at s o h =
+    omega (arith, field-one at s (omega arith), field-more 1 at s (omega arith), field-more 2 at s (omega arith), field-more 3 at s (omega arith), o at, o (at + 1), o (at + 2), o (at + 3))
+
+same : {A : Type 0} {x y : A} → ok x ≡ ok y → x ≡ y
+same {A} {x} h = ap value h
+  where
+    value : Outcome A → A
+    value (refused n) = x
+    value (ok z) = z
+
+-- a frame that was read fits
+module _ (s : List ℕ) (o : Octets s) {f : Frame} (h : readFrame s ≡ ok f) where
+  control-read-fits : (k : ℕ) → kindOf s ≡ k → 1 ≤ k → k ≤ DRACK → Fits f
+  control-read-fits k e lo hi =
+      let p = passed (eqb (length s) 9) _ 4 (sym (control-read s k e lo hi) ∙ h) in
+      let q = passed (numbersOk k (field 4 1 s) (field 4 5 s) 0) _ 7 (p .1) in
+      let l = eqb-true (length s) 9 (p .0) in
+      subst Fits (same (q .1)) (control-fits k lo hi (sender-is k _ _ _ (q .0)) (field-32 1 s o (omega arith)) (quoted-is k _ _ _ (q .0)) (field-32 5 s o (omega arith)))
+
+  ack-read-fits : kindOf s ≡ 9 → Fits f
+  ack-read-fits e =
+      let p = passed (eqb (length s) 13) _ 4 (sym (ack-read s e) ∙ h) in
+      let q = passed (numbersOk 9 (field 4 1 s) (field 4 5 s) (field 4 9 s)) _ 7 (p .1) in
+      let l = eqb-true (length s) 13 (p .0) in
+      subst Fits (same (q .1))
+      (ack-fits (sender-is 9 _ _ _ (q .0) (λ z. omega arith) (λ z. omega arith)) (field-32 1 s o (omega arith))
+      (quoted-is 9 _ _ _ (q .0) (λ z. omega arith)) (field-32 5 s o (omega arith)) (field-32 9 s o (omega arith)))
+
+  data-read-fits : kindOf s ≡ DATA → Fits f
+  unfolding countOk
+  data-read-fits e =
+      let p = passed (leb 14 (length s)) _ 4 (sym (data-read s e) ∙ h) in
+      let c = passed (countOk (getD s 13 0)) _ 5 (p .1) in
+      let w = passed (eqb (length s) (14 + getD s 13 0)) _ 6 (c .1) in
+      let q = passed (numbersOk 8 (field 4 1 s) (field 4 5 s) (field 4 9 s)) _ 7 (w .1) in
+      let l = leb-true 14 (length s) (p .0) in
+      let m = eqb-true (length s) (14 + getD s 13 0) (w .0) in
+      let n = within 1 64 (getD s 13 0) (c .0) in
+      let d = length-drop 14 s in
+      subst Fits (same (q .1))
+      (data-fits (sender-is 8 _ _ _ (q .0) (λ z. omega arith) (λ z. omega arith)) (field-32 1 s o (omega arith))
+      (quoted-is 8 _ _ _ (q .0) (λ z. omega arith)) (field-32 5 s o (omega arith)) (number-is 8 _ _ _ (q .0) refl) (omega arith) (omega arith))
+
+  pub read-fits : Fits f
+  unfolding readFrame isFrame
+  read-fits =
+      let a = accepted _ (frameAt s) h in
+      let r = within 1 9 (kindOf s) (all-yes 3 _ _ (a .0) tt .0) in
+      by-eq (kindOf s) 8 data-read-fits (λ n. by-eq (kindOf s) 9 ack-read-fits (λ m. control-read-fits (kindOf s) refl (r .0) (omega arith)))
+
+-- a request that was read has a block of 1 to 64 octets, if it has one
+sent-sized : (s : List ℕ) (q : Request) → readRequest s ≡ ok q → sized (blockSent (ask q)) ≡ true
+unfolding sized
+sent-sized s connect h = refl
+sent-sized s listen h = refl
+sent-sized s endListening h = refl
+sent-sized s close h = refl
+sent-sized s timer h = refl
+sent-sized s (send b) h = let z = send-sized s h in joined (in-range 1 64 (length b) (z .1 .0) (z .1 .1)) refl
+
+-- the parts of an accepted call
+mapped-ok : {A B : Type 0} (f : A → B) (o : Outcome A) (next : B → Outcome Step) {y : Step} → andThen (mapped f o) next ≡ ok y
+    → (x : A) × (o ≡ ok x) × (next (f x) ≡ ok y)
+unfolding andThen mapped
+mapped-ok f (refused n) next h = absurd (let z : _≡_ {A = ℕ} 0 1 = ap good h in omega arith)
+mapped-ok f (ok x) next h = (x, refl, h)
+
+passing : (n : ℕ) {o : Outcome Step} {y : Step} → refusing n o ≡ ok y → (n ≡ 0) × (o ≡ ok y)
+unfolding refusing
+passing zero h = (refl, h)
+passing (suc n) h = absurd (let z : _≡_ {A = ℕ} 0 1 = ap good h in omega arith)
+
+ready-sound : (t : Bool) (c : Call) → first (ownQuestions t c) ≡ 0 → t ≡ true
+ready-sound t c h = all-yes 12 t _ (all-yes 11 _ _ h tt .1) tt .0
+
+-- what an accepted call leaves
+pub record Leaves (x : Step) : Type 0 where
+  pub is-sound : sound (pack (x .endpoint)) ≡ true
+  pub holds : view (pack (x .endpoint)) ≡ x .endpoint
+
+leaves : {o : Outcome Step} {x : Step} → o ≡ ok x → LeavesSound o → Leaves x
+leaves h l = let s = subst LeavesSound h l in record { is-sound = pack-sound _ s; holds = held _ s }
+
+module _ (e : Endpoint) (l8 : length (e .lengths) ≡ 8) (l512 : length (e .blocks) ≡ 512) (s out : List ℕ) {x : Step} where
+  pub request-leaves : requestOutcome e s out ≡ ok x → Leaves x
+  unfolding requestOutcome asked said perform
+  request-leaves h =
+      let r = passing (first (ownQuestions (sound e) (calls.request s out))) h in
+      let q = mapped-ok ask (readRequest s) _ (r .1) in
+      let y = ready-sound (sound e) (calls.request s out) (r .0) in
+      leaves (q .2) (call-sound (ask (q .0)) (view e) (view-sound e y l8 l512) (sent-sized s (q .0) (q .1)))
+
+  pub receive-leaves : Octets s → receiveOutcome e s out ≡ ok x → Leaves x
+  unfolding receiveOutcome asked said perform
+  receive-leaves o h =
+      let r = passing (first (ownQuestions (sound e) (calls.receive s out))) h in
+      let f = mapped-ok deliver (readFrame s) _ (r .1) in
+      let y = ready-sound (sound e) (calls.receive s out) (r .0) in
+      leaves (f .2) (call-sound (deliver (f .0)) (view e) (view-sound e y l8 l512) (read-fits s o (f .1)))

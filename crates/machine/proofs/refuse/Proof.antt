@@ -1,0 +1,11 @@
+use mathlib.Core.Path.{refl}
+use Rattle.machine.specs.Calls.{answerOf}
+use Rattle.machine.proofs.refuse.Statement.{statement}
+use Rattle.machine.proofs.refuse.Tie as tie
+
+returns : tie.Need-returns
+unfolding answerOf
+returns c = refl
+
+pub refuse-spec : {M : Type 1} → statement M
+refuse-spec = tie.close (tie.spec returns)
