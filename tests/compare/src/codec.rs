@@ -1,6 +1,6 @@
 //! The calls that both implementations offer.
 
-use crate::random::Random;
+use cases::random::Random;
 
 /// The numbers of a frame or request.
 #[derive(Clone, Debug, Default, PartialEq)]
