@@ -32,8 +32,9 @@ pub fn compare<E: End>() -> Score {
         frames::<E>(&mut coverage),
         every_byte::<E>(),
     ];
-    let scores = groups.iter().map(Group::report);
-    scores.chain([coverage.report()]).sum()
+    let calls = groups.iter().map(Group::report).sum();
+    let steps = coverage.report();
+    [calls, steps].into_iter().sum()
 }
 
 /// Records of any content and length are made fresh.

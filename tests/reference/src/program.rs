@@ -26,6 +26,11 @@ impl Default for Program {
 }
 
 impl Program {
+    /// The record of its end.
+    pub fn record(&self) -> &[u8; RECORD] {
+        &self.record
+    }
+
     /// Takes one line, without its line feed; appends the answer line and, if a frame is sent,
     /// its line.
     pub fn line(&mut self, line: &[u8], output: &mut Vec<u8>) {
