@@ -16,6 +16,7 @@ use crate::records::{any, sound};
 use crate::{near, sample};
 use call::{Buffers, Call};
 use reference::record::RECORD;
+use reference::request::TIMER;
 
 const FRESH: usize = 2_000;
 const REQUESTS: usize = 50_000;
@@ -87,7 +88,7 @@ fn every_byte<E: End>() -> Group {
     for (place, byte) in head.chain(blocks) {
         let mut record = sound(&mut random);
         record[place] = byte;
-        let buffers = Buffers::exact(&mut random, &record, &[0x45]);
+        let buffers = Buffers::exact(&mut random, &record, &[TIMER]);
         Call::Request.compare::<E>(&mut group, &buffers);
     }
     group

@@ -5,10 +5,8 @@ use crate::records::{waiting, Numbers};
 use crate::sample::{block, message, number, FRAME_KINDS, REQUEST_KINDS};
 use reference::frame::{ACK, DATA};
 use reference::record::RECORD;
+use reference::request::SEND;
 use reference::State;
-
-/// The kind byte of send.
-const SEND: u8 = 0x44;
 
 /// Is the record that of an open end?
 fn is_open(record: &[u8; RECORD]) -> bool {

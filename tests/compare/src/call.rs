@@ -37,7 +37,7 @@ impl Memory {
     fn new(random: &mut Random, room: usize) -> Self {
         Self {
             out: Guarded::any(random, room),
-            length: random.next() as usize,
+            length: random.bits() as usize,
             fields: Fields::any(random),
         }
     }

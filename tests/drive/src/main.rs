@@ -6,6 +6,7 @@
 
 mod altered;
 mod comparison;
+mod end;
 mod nearby;
 mod odd;
 mod program;

@@ -1,11 +1,9 @@
 //! One end that gets requests, and frames whose numbers are at or near its own.
 
+use crate::end::End;
 use crate::script::Script;
 use cases::near;
 use cases::random::Random;
-use reference::call::either;
-use reference::frame::LONGEST_FRAME;
-use reference::record::RECORD;
 
 const SCRIPTS: u64 = 8;
 const LINES: usize = 8_000;
@@ -18,15 +16,13 @@ pub fn scripts() -> impl Iterator<Item = Script> {
 /// A script of so many lines.
 pub fn script(seed: u64, lines: usize) -> Script {
     let mut random = Random::new(seed);
-    let mut record = [0; RECORD];
-    let mut script = Script::default();
+    let mut end = End::default();
     for _ in 0..lines {
         let message = match random.within(0..=2) {
-            0 => near::request(&mut random, &record),
-            _ => near::frame(&mut random, &record),
+            0 => near::request(&mut random, &end.record),
+            _ => near::frame(&mut random, &end.record),
         };
-        either(&mut record, &message, &mut [0; LONGEST_FRAME]);
-        script.push(&message);
+        end.call(&message);
     }
-    script
+    end.script
 }
