@@ -1,11 +1,12 @@
 //! One call, the memory lent to it, and what it answers and leaves there.
 
 use crate::codec::{Codec, Fields};
-use crate::hex::Hex;
-use crate::random::Random;
-
-/// Bytes before and after a lent buffer, which no call may write.
-const GUARD: usize = 8;
+use crate::first::First;
+use crate::second::Second;
+use cases::group::Group;
+use cases::guarded::Guarded;
+use cases::hex::Hex;
+use cases::random::Random;
 
 /// A call with all that it is given to read.
 #[derive(Debug)]
@@ -18,35 +19,42 @@ pub enum Call {
 
 /// All that a call may write.
 #[derive(Clone, Debug, PartialEq)]
-pub struct Memory {
-    guarded: Hex,
+struct Memory {
+    out: Guarded,
     length: usize,
     fields: Fields,
 }
 
 /// What a call answers, and the memory after it.
 #[derive(Debug, PartialEq)]
-pub struct Answer {
-    pub number: u8,
+struct Answer {
+    number: u8,
     memory: Memory,
 }
 
 impl Memory {
     /// Memory filled with random values, whose lent buffer has this many bytes.
-    pub fn new(random: &mut Random, room: usize) -> Self {
+    fn new(random: &mut Random, room: usize) -> Self {
         Self {
-            guarded: Hex(random.bytes(GUARD + room + GUARD)),
-            length: random.next() as usize,
+            out: Guarded::any(random, room),
+            length: random.bits() as usize,
             fields: Fields::any(random),
         }
     }
 }
 
 impl Call {
+    /// One case: both implementations make the call, lent a buffer of this many bytes.
+    pub fn compare(&self, group: &mut Group, room: usize) {
+        let memory = Memory::new(&mut Random::new(group.compared()), room);
+        let first = self.answer::<First>(memory.clone());
+        let second = self.answer::<Second>(memory);
+        group.check(self, second.number, &first, &second);
+    }
+
     /// Makes the call in this implementation.
-    pub fn answer<C: Codec>(&self, mut memory: Memory) -> Answer {
-        let end = memory.guarded.0.len() - GUARD;
-        let out = &mut memory.guarded.0[GUARD..end];
+    fn answer<C: Codec>(&self, mut memory: Memory) -> Answer {
+        let out = memory.out.bytes_mut();
         let number = match self {
             Self::ReadLine { line } => C::read_line(&line.0, out, &mut memory.length),
             Self::WriteLine { bytes } => C::write_line(&bytes.0, out),

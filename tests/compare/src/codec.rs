@@ -1,6 +1,6 @@
 //! The calls that both implementations offer.
 
-use crate::random::Random;
+use cases::random::Random;
 
 /// The numbers of a frame or request.
 #[derive(Clone, Debug, Default, PartialEq)]
@@ -16,9 +16,9 @@ impl Fields {
     pub fn any(random: &mut Random) -> Self {
         Self {
             kind: random.byte(),
-            sender: random.next() as u32,
-            quoted: random.next() as u32,
-            number: random.next() as u32,
+            sender: random.bits() as u32,
+            quoted: random.bits() as u32,
+            number: random.bits() as u32,
         }
     }
 }

@@ -1,10 +1,11 @@
 //! Reading and writing lines.
 
 use crate::call::Call;
-use crate::group::Group;
-use crate::hex::Hex;
-use crate::random::Random;
-use crate::sample::hex_digits;
+use cases::alter::damage;
+use cases::group::Group;
+use cases::hex::Hex;
+use cases::random::Random;
+use cases::sample::hex_digits;
 use reference::frame::LONGEST_FRAME;
 use reference::line::LONGEST_LINE;
 
@@ -23,8 +24,8 @@ fn reading() -> Group {
     let mut random = Random::new(1);
     let mut compare = |line: Vec<u8>| {
         let call = Call::ReadLine { line: Hex(line) };
-        group.compare(&call, LONGEST_FRAME);
-        group.compare(&call, any_room(&mut random));
+        call.compare(&mut group, LONGEST_FRAME);
+        call.compare(&mut group, any_room(&mut random));
     };
     pairs().for_each(&mut compare);
     one_odd_character().for_each(&mut compare);
@@ -50,7 +51,7 @@ fn writing() -> Group {
             needed + 30,
         ];
         for room in rooms {
-            group.compare(&call, room);
+            call.compare(&mut group, room);
         }
     }
     group
@@ -105,21 +106,4 @@ fn random_lines() -> impl Iterator<Item = Vec<u8>> {
         }
         line
     })
-}
-
-/// Puts a wrong character in one place, if the line has any.
-fn damage(random: &mut Random, line: &mut [u8]) {
-    if let Some(last) = line.len().checked_sub(1) {
-        line[random.within(0..=last)] = wrong_character(random);
-    }
-}
-
-/// A character that is no digit, save for a few digits among the entirely random ones.
-fn wrong_character(random: &mut Random) -> u8 {
-    match random.within(0..=3) {
-        0 => random.pick(b"ABCDEF"),
-        1 => random.pick(b"gG/:@`z \t\r\n\0\x7f"),
-        2 => random.byte() | 0x80,
-        _ => random.byte(),
-    }
 }

@@ -2,10 +2,11 @@
 
 use crate::call::Call;
 use crate::codec::Fields;
-use crate::group::Group;
-use crate::hex::Hex;
-use crate::random::Random;
-use crate::sample::{block, count_place, message, number, EDGES, FRAME_KINDS, REQUEST_KINDS};
+use cases::alter::alter;
+use cases::group::Group;
+use cases::hex::Hex;
+use cases::random::Random;
+use cases::sample::{block, count_place, message, number, EDGES, FRAME_KINDS, REQUEST_KINDS};
 
 const RANDOM_MESSAGES: usize = 40_000;
 const RANDOM_BYTES: usize = 10_000;
@@ -44,7 +45,7 @@ fn reading(name: &'static str, expected: &'static [u8], mut known: impl FnMut() 
     for bytes in inputs() {
         let bytes = Hex(bytes);
         let known = known();
-        group.compare(&Call::Read { known, bytes }, 0);
+        Call::Read { known, bytes }.compare(&mut group, 0);
     }
     group
 }
@@ -61,7 +62,7 @@ fn writing() -> Group {
             number: number(&mut random),
         };
         let block = Hex(random.bytes(block_length));
-        group.compare(&Call::Write { fields, block }, room);
+        Call::Write { fields, block }.compare(&mut group, room);
     };
     for kind in 0..=u8::MAX {
         for block_length in (0..=70).chain(TOO_MANY) {
@@ -132,22 +133,6 @@ fn altered_messages() -> impl Iterator<Item = Vec<u8>> {
         alter(&mut random, &mut bytes);
         bytes
     })
-}
-
-/// Leaves the message, cuts or lengthens it, damages one byte or alters its count byte.
-fn alter(random: &mut Random, bytes: &mut Vec<u8>) {
-    let last = bytes.len() - 1;
-    match random.within(0..=7) {
-        0 => bytes.truncate(random.within(0..=last)),
-        1 => bytes.extend(random.bytes_within(1..=20)),
-        2 => bytes[random.within(0..=last)] = random.byte(),
-        3 => {
-            if let Some(place) = count_place(bytes[0]) {
-                bytes[place] = random.within(0..=70) as u8;
-            }
-        }
-        _ => {}
-    }
 }
 
 /// Random byte strings of 0 to 100 bytes.

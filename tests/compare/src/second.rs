@@ -31,7 +31,7 @@ impl Codec for Second {
 
     fn write(fields: &Fields, block: &[u8], out: &mut [u8], length: &mut usize) -> u8 {
         let frame = ask_room(out, LONGEST_FRAME).and_then(|()| frame_of(fields, block));
-        refusal::number(frame.map(|frame| *length = put(out, &frame.write())))
+        refusal::number(frame.map(|frame| *length = frame.put(out)))
     }
 }
 

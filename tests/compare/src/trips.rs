@@ -2,12 +2,12 @@
 
 use crate::codec::{Codec, Fields};
 use crate::first::First;
-use crate::group::Group;
-use crate::hex::Hex;
 use crate::messages;
-use crate::random::Random;
-use crate::sample::hex_digits;
 use crate::second::Second;
+use cases::group::Group;
+use cases::hex::Hex;
+use cases::random::Random;
+use cases::sample::hex_digits;
 use reference::frame::LONGEST_FRAME;
 use std::fmt::Debug;
 

@@ -1,5 +1,6 @@
 //! Blocks: what DATA and send carry.
 
+use crate::buffer::put;
 use crate::Refusal;
 
 /// The most bytes a block has.
@@ -27,10 +28,15 @@ impl<'a> Block<'a> {
         Ok(Self(bytes))
     }
 
-    /// Appends the count byte and the block.
-    pub fn write(self, out: &mut Vec<u8>) {
-        out.push(self.0.len() as u8);
-        out.extend(self.0);
+    /// The count byte that stands before the block.
+    pub fn count(self) -> u8 {
+        self.0.len() as u8
+    }
+
+    /// Writes the count byte and the block at the start of the buffer; answers their length.
+    pub fn put(self, out: &mut [u8]) -> usize {
+        let length = put(out, &[self.count()]);
+        length + put(&mut out[length..], self.0)
     }
 
     /// The block's bytes.
@@ -80,9 +86,10 @@ mod tests {
         for length in 1..=LONGEST_BLOCK {
             let bytes = vec![7; length];
             let block = Block::new(&bytes).unwrap();
-            let mut out = Vec::new();
-            block.write(&mut out);
-            assert_eq!(Block::read(&out), Ok(block));
+            let mut out = [9; 1 + LONGEST_BLOCK];
+            let written = block.put(&mut out);
+            assert_eq!(Block::read(&out[..written]), Ok(block));
+            assert!(out[written..].iter().all(|&byte| byte == 9));
         }
     }
 }

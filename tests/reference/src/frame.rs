@@ -1,5 +1,6 @@
 //! Frames: what two ends exchange.
 
+use crate::buffer::put;
 use crate::{part, Block, Refusal};
 
 /// The most bytes a frame has.
@@ -101,15 +102,15 @@ impl<'a> Body<'a> {
         }
     }
 
-    /// Appends what follows the two numbers.
-    fn write(&self, out: &mut Vec<u8>) {
+    /// Writes what follows the two numbers at the start of the buffer; answers its length.
+    fn put(&self, out: &mut [u8]) -> usize {
         match *self {
-            Self::Signal(_) => {}
+            Self::Signal(_) => 0,
             Self::Data { sequence, block } => {
-                out.extend(sequence.to_be_bytes());
-                block.write(out);
+                let length = put(out, &sequence.to_be_bytes());
+                length + block.put(&mut out[length..])
             }
-            Self::Ack { count } => out.extend(count.to_be_bytes()),
+            Self::Ack { count } => put(out, &count.to_be_bytes()),
         }
     }
 }
@@ -136,19 +137,35 @@ impl<'a> Frame<'a> {
         Ok(frame)
     }
 
+    /// Writes the frame at the start of the buffer, which has room for it, and no other byte;
+    /// answers its length.
+    pub fn put(&self, out: &mut [u8]) -> usize {
+        let mut length = put(out, &[self.body.kind()]);
+        length += put(&mut out[length..], &self.sender.to_be_bytes());
+        length += put(&mut out[length..], &self.quoted.to_be_bytes());
+        length + self.body.put(&mut out[length..])
+    }
+
     /// The frame in bytes.
     pub fn write(&self) -> Vec<u8> {
-        let mut bytes = vec![self.body.kind()];
-        bytes.extend(self.sender.to_be_bytes());
-        bytes.extend(self.quoted.to_be_bytes());
-        self.body.write(&mut bytes);
-        bytes
+        let mut out = [0; LONGEST_FRAME];
+        let length = self.put(&mut out);
+        out[..length].to_vec()
+    }
+
+    /// The signal that the frame is, if it is neither DATA nor ACK.
+    pub fn signal(&self) -> Option<Signal> {
+        match self.body {
+            Body::Signal(signal) => Some(signal),
+            _ => None,
+        }
     }
 
     /// Question 7: are the numbers ones that an end sends?
     fn ask_numbers(&self) -> Result<(), Refusal> {
-        let sender = self.sender >= 1 || self.is_signal(&[Signal::Rej, Signal::Drack]);
-        let quoted = self.quoted >= 1 || self.is_signal(&[Signal::Crao]);
+        let signal = self.signal();
+        let sender = self.sender >= 1 || matches!(signal, Some(Signal::Rej | Signal::Drack));
+        let quoted = self.quoted >= 1 || signal == Some(Signal::Crao);
         let sequence = match self.body {
             Body::Data { sequence, .. } => sequence <= LAST_SEQUENCE,
             _ => true,
@@ -157,11 +174,6 @@ impl<'a> Frame<'a> {
             return Err(Refusal::Numbers);
         }
         Ok(())
-    }
-
-    /// Is the frame one of these signals?
-    fn is_signal(&self, signals: &[Signal]) -> bool {
-        matches!(self.body, Body::Signal(signal) if signals.contains(&signal))
     }
 }
 

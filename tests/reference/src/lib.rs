@@ -5,15 +5,25 @@
 
 pub mod block;
 pub mod buffer;
+pub mod call;
 pub mod frame;
 pub mod line;
 pub mod message;
+pub mod notice;
 mod part;
+pub mod program;
+pub mod record;
 pub mod refusal;
 pub mod request;
+pub mod state;
+mod step;
+mod waiting;
 
 pub use block::Block;
+pub use call::Answer;
 pub use frame::Frame;
 pub use message::Message;
+pub use notice::Notice;
 pub use refusal::Refusal;
 pub use request::Request;
+pub use state::State;

@@ -2,26 +2,50 @@
 
 use crate::frame::LONGEST_FRAME;
 use crate::Refusal;
+use std::ops::Deref;
 
 const DIGITS: &[u8; 16] = b"0123456789abcdef";
 /// The most characters a line has.
 pub const LONGEST_LINE: usize = 2 * LONGEST_FRAME;
 
+/// The bytes of a line.
+#[derive(Clone, Copy, Debug)]
+pub struct Bytes {
+    bytes: [u8; LONGEST_FRAME],
+    length: usize,
+}
+
+impl Deref for Bytes {
+    type Target = [u8];
+
+    fn deref(&self) -> &[u8] {
+        &self.bytes[..self.length]
+    }
+}
+
 /// Questions 1 and 2 of a line; success gives its bytes.
-pub fn read(line: &[u8]) -> Result<Vec<u8>, Refusal> {
+pub fn read(line: &[u8]) -> Result<Bytes, Refusal> {
     ask_length(line)?;
-    line.chunks_exact(2)
-        .map(|pair| Ok(digit(pair[0])? << 4 | digit(pair[1])?))
-        .collect()
+    let (pairs, _) = line.as_chunks();
+    let mut bytes = [0; LONGEST_FRAME];
+    for (byte, &[high, low]) in bytes.iter_mut().zip(pairs) {
+        *byte = digit(high)? << 4 | digit(low)?;
+    }
+    let length = pairs.len();
+    Ok(Bytes { bytes, length })
 }
 
 /// The bytes as a line.
 pub fn write(bytes: &[u8]) -> Vec<u8> {
-    bytes
-        .iter()
-        .flat_map(|byte| [byte >> 4, byte & 15])
-        .map(|value| DIGITS[usize::from(value)])
-        .collect()
+    let mut line = Vec::new();
+    append(bytes, &mut line);
+    line
+}
+
+/// Appends the bytes as a line, or as a further part of one.
+pub fn append(bytes: &[u8], line: &mut Vec<u8>) {
+    let values = bytes.iter().flat_map(|byte| [byte >> 4, byte & 15]);
+    line.extend(values.map(|value| DIGITS[usize::from(value)]));
 }
 
 /// Question 1: has the line 2 to 156 characters, an even number?
@@ -45,6 +69,10 @@ fn digit(character: u8) -> Result<u8, Refusal> {
 #[cfg(test)]
 mod tests {
     use super::*;
+
+    fn read(line: &[u8]) -> Result<Vec<u8>, Refusal> {
+        super::read(line).map(|bytes| bytes.to_vec())
+    }
 
     #[test]
     fn a_line_gives_its_bytes() {

@@ -18,8 +18,16 @@ pub enum Refusal {
     BlockLength = 6,
     /// A number of the frame is one that no end sends.
     Numbers = 7,
+    /// The state does not allow the request.
+    State = 8,
+    /// No number is left for a new incarnation or a further block.
+    NumbersUsedUp = 9,
+    /// Eight blocks are waiting.
+    WaitingFull = 10,
     /// A lent buffer is too small.
     Buffer = 11,
+    /// The record is not sound.
+    Unsound = 12,
 }
 
 impl Refusal {

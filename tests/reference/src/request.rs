@@ -2,6 +2,19 @@
 
 use crate::{part, Block, Refusal};
 
+/// The kind byte of connect.
+pub const CONNECT: u8 = 0x40;
+/// The kind byte of listen.
+pub const LISTEN: u8 = 0x41;
+/// The kind byte of end listening.
+pub const END_LISTENING: u8 = 0x42;
+/// The kind byte of close.
+pub const CLOSE: u8 = 0x43;
+/// The kind byte of send.
+pub const SEND: u8 = 0x44;
+/// The kind byte of timer.
+pub const TIMER: u8 = 0x45;
+
 /// A request with its block, if it has one.
 #[derive(Clone, Copy, Debug, PartialEq, Eq)]
 pub enum Request<'a> {
@@ -18,12 +31,12 @@ impl<'a> Request<'a> {
     pub fn read(bytes: &'a [u8]) -> Result<Self, Refusal> {
         let (kind, rest) = part::kind(bytes)?;
         let request = match kind {
-            0x40 => Self::Connect,
-            0x41 => Self::Listen,
-            0x42 => Self::EndListening,
-            0x43 => Self::Close,
-            0x44 => return Block::read(rest).map(Self::Send),
-            0x45 => Self::Timer,
+            CONNECT => Self::Connect,
+            LISTEN => Self::Listen,
+            END_LISTENING => Self::EndListening,
+            CLOSE => Self::Close,
+            SEND => return Block::read(rest).map(Self::Send),
+            TIMER => Self::Timer,
             _ => return Err(Refusal::Kind),
         };
         part::end(rest)?;
@@ -33,12 +46,12 @@ impl<'a> Request<'a> {
     /// The first byte of the request.
     pub fn kind(&self) -> u8 {
         match self {
-            Self::Connect => 0x40,
-            Self::Listen => 0x41,
-            Self::EndListening => 0x42,
-            Self::Close => 0x43,
-            Self::Send(_) => 0x44,
-            Self::Timer => 0x45,
+            Self::Connect => CONNECT,
+            Self::Listen => LISTEN,
+            Self::EndListening => END_LISTENING,
+            Self::Close => CLOSE,
+            Self::Send(_) => SEND,
+            Self::Timer => TIMER,
         }
     }
 }

@@ -2,11 +2,13 @@
 
 use crate::random::Random;
 use reference::block::LONGEST_BLOCK;
+use reference::frame::{ACK, DATA};
+use reference::request::{CLOSE, CONNECT, END_LISTENING, LISTEN, SEND, TIMER};
 
 /// The kind bytes of frames.
 pub const FRAME_KINDS: [u8; 9] = [1, 2, 3, 4, 5, 6, 7, 8, 9];
 /// The kind bytes of requests.
-pub const REQUEST_KINDS: [u8; 6] = [0x40, 0x41, 0x42, 0x43, 0x44, 0x45];
+pub const REQUEST_KINDS: [u8; 6] = [CONNECT, LISTEN, END_LISTENING, CLOSE, SEND, TIMER];
 /// Numbers at the edges.
 pub const EDGES: [u32; 5] = [0, 1, 2, 4294967294, 4294967295];
 
@@ -21,7 +23,7 @@ pub fn hex_digits(random: &mut Random, count: usize) -> Vec<u8> {
 pub fn number(random: &mut Random) -> u32 {
     match random.within(0..=1) {
         0 => random.pick(&EDGES),
-        _ => random.next() as u32,
+        _ => random.bits() as u32,
     }
 }
 
@@ -29,7 +31,7 @@ pub fn number(random: &mut Random) -> u32 {
 fn numbers_of(kind: u8) -> usize {
     match kind {
         0x01..=0x07 => 2,
-        0x08 | 0x09 => 3,
+        DATA | ACK => 3,
         _ => 0,
     }
 }
@@ -37,8 +39,8 @@ fn numbers_of(kind: u8) -> usize {
 /// Where the count byte stands in this kind, if it has one.
 pub fn count_place(kind: u8) -> Option<usize> {
     match kind {
-        0x08 => Some(13),
-        0x44 => Some(1),
+        DATA => Some(13),
+        SEND => Some(1),
         _ => None,
     }
 }

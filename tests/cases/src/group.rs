@@ -1,12 +1,9 @@
 //! A group of cases, and its report.
 
-use crate::call::{Call, Memory};
-use crate::first::First;
-use crate::random::Random;
-use crate::second::Second;
 use std::collections::BTreeMap;
-use std::fmt::Debug;
+use std::fmt::{Debug, Display};
 use std::iter::Sum;
+use std::process::ExitCode;
 
 /// So many mismatches of a group are printed.
 const SHOWN: u64 = 5;
@@ -16,6 +13,19 @@ const SHOWN: u64 = 5;
 pub struct Score {
     pub passed: u64,
     pub failed: u64,
+}
+
+impl Score {
+    /// Prints the score as the last line of a program, and gives the program's exit status:
+    /// success only if cases were made and none failed.
+    pub fn conclude(&self) -> ExitCode {
+        println!("{} passed, {} failed", self.passed, self.failed);
+        if self.failed == 0 && self.passed > 0 {
+            ExitCode::SUCCESS
+        } else {
+            ExitCode::FAILURE
+        }
+    }
 }
 
 impl Sum for Score {
@@ -35,7 +45,6 @@ pub struct Group {
     /// How often each number was brought about.
     seen: BTreeMap<u8, u64>,
     score: Score,
-    random: Random,
 }
 
 impl Group {
@@ -46,16 +55,12 @@ impl Group {
             expected,
             seen: BTreeMap::new(),
             score: Score::default(),
-            random: Random::new(0),
         }
     }
 
-    /// One case: both implementations make the call, lent a buffer of this many bytes.
-    pub fn compare(&mut self, call: &Call, room: usize) {
-        let memory = Memory::new(&mut self.random, room);
-        let first = call.answer::<First>(memory.clone());
-        let second = call.answer::<Second>(memory);
-        self.check(call, second.number, &first, &second);
+    /// How many cases were made.
+    pub fn compared(&self) -> u64 {
+        self.score.passed + self.score.failed
     }
 
     /// One case: what was found for this input equals what is right, which has this number.
@@ -69,28 +74,36 @@ impl Group {
         *self.seen.entry(number).or_default() += 1;
         if found == right {
             self.score.passed += 1;
-            return;
+        } else {
+            self.fail(&format_args!(
+                "mismatch\n  input {input:?}\n  found {found:?}\n  right {right:?}"
+            ));
         }
+    }
+
+    /// One case that failed, and how.
+    pub fn fail(&mut self, how: &impl Display) {
         self.score.failed += 1;
         if self.score.failed <= SHOWN {
-            println!("{}: mismatch\n  input {input:?}", self.name);
-            println!("  found {found:?}\n  right {right:?}");
+            println!("{}: {how}", self.name);
         }
     }
 
     /// Prints what was compared. Each expected number that was never seen is a failed case.
     pub fn report(&self) -> Score {
-        let Score { passed, failed } = self.score;
-        let compared = passed + failed;
         let numbers: String = self
             .seen
             .iter()
             .map(|(number, times)| format!(" {number}:{times}"))
             .collect();
-        println!("{}: {compared} compared; numbers{numbers}", self.name);
+        println!(
+            "{}: {} compared; numbers{numbers}",
+            self.name,
+            self.compared()
+        );
         Score {
-            passed,
-            failed: failed + self.report_unseen(),
+            passed: self.score.passed,
+            failed: self.score.failed + self.report_unseen(),
         }
     }
 

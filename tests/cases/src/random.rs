@@ -12,7 +12,7 @@ impl Random {
     }
 
     /// The next 64 bits.
-    pub fn next(&mut self) -> u64 {
+    pub fn bits(&mut self) -> u64 {
         self.0 = self.0.wrapping_add(0x9e37_79b9_7f4a_7c15);
         let mixed = (self.0 ^ (self.0 >> 30)).wrapping_mul(0xbf58_476d_1ce4_e5b9);
         let mixed = (mixed ^ (mixed >> 27)).wrapping_mul(0x94d0_49bb_1331_11eb);
@@ -21,7 +21,7 @@ impl Random {
 
     /// Some byte.
     pub fn byte(&mut self) -> u8 {
-        self.next() as u8
+        self.bits() as u8
     }
 
     /// That many bytes.
@@ -38,7 +38,7 @@ impl Random {
     /// A value of the range.
     pub fn within(&mut self, range: RangeInclusive<usize>) -> usize {
         let count = range.end() - range.start() + 1;
-        range.start() + self.next() as usize % count
+        range.start() + self.bits() as usize % count
     }
 
     /// One of the choices.

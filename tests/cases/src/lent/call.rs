@@ -1,0 +1,83 @@
+//! One call, the buffers lent to it, and what it answers and leaves there.
+
+use super::end::{End, Reference, Reply};
+use crate::group::Group;
+use crate::guarded::Guarded;
+use crate::random::Random;
+use reference::frame::LONGEST_FRAME;
+
+/// The calls of one end.
+#[derive(Clone, Copy, Debug)]
+pub enum Call {
+    Fresh,
+    Request,
+    Receive,
+}
+
+/// The buffers of a call: what it updates, what it reads and what it writes.
+#[derive(Clone, Debug, PartialEq)]
+pub struct Buffers {
+    record: Guarded,
+    message: Guarded,
+    out: Guarded,
+}
+
+impl Buffers {
+    /// Buffers with this record and message; mostly just large enough, else shorter or longer.
+    pub fn any(random: &mut Random, record: &[u8], message: &[u8]) -> Self {
+        let frame = random.bytes(LONGEST_FRAME);
+        Self {
+            record: resized(random, record.to_vec()),
+            message: Guarded::of(random, message),
+            out: resized(random, frame),
+        }
+    }
+
+    /// Buffers with this record and message that are just large enough.
+    pub fn exact(random: &mut Random, record: &[u8], message: &[u8]) -> Self {
+        Self {
+            record: Guarded::of(random, record),
+            message: Guarded::of(random, message),
+            out: Guarded::any(random, LONGEST_FRAME),
+        }
+    }
+}
+
+/// A buffer with these bytes, mostly as they are, else cut or lengthened.
+fn resized(random: &mut Random, mut bytes: Vec<u8>) -> Guarded {
+    let last = bytes.len() - 1;
+    match random.within(0..=31) {
+        0 => bytes.truncate(random.within(0..=last)),
+        1 => bytes.truncate(last),
+        2..=8 => bytes.extend(random.bytes_within(1..=30)),
+        _ => {}
+    }
+    Guarded::of(random, &bytes)
+}
+
+impl Call {
+    /// One case: this implementation and the reference make the call. Gives the right number.
+    pub fn compare<E: End>(self, group: &mut Group, buffers: &Buffers) -> u8 {
+        let found = self.make::<E>(buffers.clone());
+        let right = self.make::<Reference>(buffers.clone());
+        let number = right.0.number;
+        group.check(&(self, buffers), number, &found, &right);
+        number
+    }
+
+    /// Makes the call; gives what it answers, and the buffers after it.
+    fn make<E: End>(self, mut buffers: Buffers) -> (Reply, Buffers) {
+        let record = buffers.record.bytes_mut();
+        let message = buffers.message.bytes();
+        let out = buffers.out.bytes_mut();
+        let reply = match self {
+            Self::Fresh => Reply {
+                number: E::fresh(record),
+                ..Reply::default()
+            },
+            Self::Request => E::request(record, message, out),
+            Self::Receive => E::receive(record, message, out),
+        };
+        (reply, buffers)
+    }
+}

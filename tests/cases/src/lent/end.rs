@@ -1,0 +1,65 @@
+//! The calls that an implementation offers.
+
+use reference::{call, Answer, Block};
+use std::ops::Range;
+
+/// One implementation.
+pub trait End {
+    /// Makes the record that of a fresh end; answers 0, or the number of the refusal.
+    fn fresh(record: &mut [u8]) -> u8;
+    /// A request of the host.
+    fn request(record: &mut [u8], request: &[u8], out: &mut [u8]) -> Reply;
+    /// A frame that arrives.
+    fn receive(record: &mut [u8], frame: &[u8], out: &mut [u8]) -> Reply;
+}
+
+/// What a call answers.
+#[derive(Clone, Debug, Default, PartialEq)]
+pub struct Reply {
+    pub number: u8,
+    pub state: u8,
+    pub notice: u8,
+    pub local: u32,
+    pub remote: u32,
+    /// The length of the frame sent, 0 for none.
+    pub sent: usize,
+    /// Where the block handed up stands in the received frame, 0..0 for none.
+    pub block: Range<usize>,
+}
+
+/// The reference.
+pub struct Reference;
+
+impl End for Reference {
+    fn fresh(record: &mut [u8]) -> u8 {
+        call::fresh(record)
+    }
+
+    fn request(record: &mut [u8], request: &[u8], out: &mut [u8]) -> Reply {
+        reply(request, &call::request(record, request, out))
+    }
+
+    fn receive(record: &mut [u8], frame: &[u8], out: &mut [u8]) -> Reply {
+        reply(frame, &call::receive(record, frame, out))
+    }
+}
+
+/// An answer of the reference to a call with this message.
+fn reply(message: &[u8], answer: &Answer) -> Reply {
+    Reply {
+        number: answer.number,
+        state: answer.state,
+        notice: answer.notice,
+        local: answer.local,
+        remote: answer.remote,
+        sent: answer.sent,
+        block: answer.block.map_or(0..0, |block| place(message, block)),
+    }
+}
+
+/// Where the block stands in the message.
+fn place(message: &[u8], block: Block) -> Range<usize> {
+    let bytes = block.bytes();
+    let start = bytes.as_ptr().addr() - message.as_ptr().addr();
+    start..start + bytes.len()
+}

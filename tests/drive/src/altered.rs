@@ -1,0 +1,66 @@
+//! Scripts of the other sorts with faults in many lines.
+
+use crate::nearby;
+use crate::script::Script;
+use crate::sessions::session;
+use cases::alter::{alter, damage};
+use cases::random::Random;
+use reference::line;
+
+const SOURCES: u64 = 8;
+const CALLS: usize = 2_000;
+
+/// All scripts of this sort; every other one lacks its last line feed.
+pub fn scripts() -> impl Iterator<Item = Script> {
+    let sources = (300..300 + SOURCES).flat_map(|seed| {
+        let [first, second] = session(seed, 2 * CALLS);
+        [first, second, nearby::script(seed, CALLS)]
+    });
+    (400..).zip(sources).map(|(seed, source)| {
+        let script = altered(seed, &source);
+        match seed % 2 {
+            0 => script,
+            _ => script.unfinished(),
+        }
+    })
+}
+
+/// The script with about half its lines altered or other ones put before them.
+fn altered(seed: u64, source: &Script) -> Script {
+    let mut random = Random::new(seed);
+    let mut script = Script::default();
+    for line in source.lines() {
+        match random.within(0..=7) {
+            0 => script.push(&with_fault(&mut random, line)),
+            1 => script.push_line(&damaged(&mut random, line)),
+            2 => {
+                script.push(&with_fault(&mut random, line));
+                script.push_line(line);
+            }
+            3 => {
+                script.push_line(&damaged(&mut random, line));
+                script.push_line(line);
+            }
+            _ => script.push_line(line),
+        }
+    }
+    script
+}
+
+/// The line's message, altered in most cases.
+fn with_fault(random: &mut Random, line: &[u8]) -> Vec<u8> {
+    let mut message = line::read(line).expect("a line of the source").to_vec();
+    alter(random, &mut message);
+    message
+}
+
+/// The line with a wrong character, or cut, or lengthened.
+fn damaged(random: &mut Random, line: &[u8]) -> Vec<u8> {
+    let mut line = line.to_vec();
+    match random.within(0..=3) {
+        0 => line.truncate(random.within(0..=line.len())),
+        1 => line.extend(random.bytes_within(1..=3)),
+        _ => damage(random, &mut line),
+    }
+    line
+}

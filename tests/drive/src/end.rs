@@ -1,0 +1,42 @@
+//! An end of the reference that writes its own script.
+
+use crate::script::Script;
+use reference::call::either;
+use reference::frame::LONGEST_FRAME;
+use reference::record::RECORD;
+use reference::State;
+
+/// An end, all frames that it sent, and all that it was called with.
+pub struct End {
+    pub record: [u8; RECORD],
+    pub sent: Vec<Vec<u8>>,
+    pub script: Script,
+}
+
+impl Default for End {
+    /// A fresh end.
+    fn default() -> Self {
+        Self {
+            record: [0; RECORD],
+            sent: Vec::new(),
+            script: Script::default(),
+        }
+    }
+}
+
+impl End {
+    /// Makes the call and adds it to the script.
+    pub fn call(&mut self, message: &[u8]) {
+        let mut out = [0; LONGEST_FRAME];
+        let answer = either(&mut self.record, message, &mut out);
+        if answer.sent > 0 {
+            self.sent.push(out[..answer.sent].to_vec());
+        }
+        self.script.push(message);
+    }
+
+    /// Its state.
+    pub fn state(&self) -> State {
+        State::of(self.record[0]).expect("the record is sound")
+    }
+}

@@ -1,0 +1,40 @@
+//! Runs a line program for one end on generated scripts, and compares its answers with those of
+//! the reference, byte for byte.
+//!
+//! The command line names the program. Number 9 is never expected: no script is long enough to
+//! use up the numbers of an end that starts fresh.
+
+mod altered;
+mod comparison;
+mod end;
+mod nearby;
+mod odd;
+mod program;
+mod script;
+mod sessions;
+
+use cases::group::{Group, Score};
+use comparison::Comparison;
+use std::env;
+use std::process::ExitCode;
+
+fn main() -> ExitCode {
+    let Some(program) = env::args_os().nth(1) else {
+        eprintln!("usage: drive PROGRAM");
+        return ExitCode::FAILURE;
+    };
+    let mut comparison = Comparison::new(program);
+    let groups = [
+        comparison.group("sessions", &[0, 8, 10], sessions::scripts()),
+        comparison.group("numbers nearby", &[0, 7, 8, 10], nearby::scripts()),
+        comparison.group(
+            "altered lines",
+            &[0, 1, 2, 3, 4, 5, 6, 7, 8, 10],
+            altered::scripts(),
+        ),
+        comparison.group("odd input", &[0, 1, 2, 3, 4, 5, 6, 7, 8], odd::scripts()),
+    ];
+    let lines: Score = groups.iter().map(Group::report).sum();
+    let steps = comparison.coverage.report();
+    [lines, steps].into_iter().sum::<Score>().conclude()
+}

@@ -1,0 +1,110 @@
+//! Sessions between two ends of the reference: each end's script holds its requests and those
+//! frames of the other that reach it, in order or not, again or never.
+
+use crate::end::End;
+use crate::script::Script;
+use cases::random::Random;
+use cases::sample::{block, message, REQUEST_KINDS};
+use reference::request::{CLOSE, CONNECT, END_LISTENING, LISTEN, SEND, TIMER};
+use reference::State;
+
+/// How many sessions there are of how many calls.
+const LENGTHS: [(usize, usize); 3] = [(40, 300), (8, 8_000), (1, 60_000)];
+
+/// The scripts of all sessions, two of each.
+pub fn scripts() -> impl Iterator<Item = Script> {
+    let lengths = LENGTHS
+        .into_iter()
+        .flat_map(|(times, calls)| vec![calls; times]);
+    (100..)
+        .zip(lengths)
+        .flat_map(|(seed, calls)| session(seed, calls))
+}
+
+/// The two scripts of a session with so many calls.
+pub fn session(seed: u64, calls: usize) -> [Script; 2] {
+    let mut random = Random::new(seed);
+    let [mut first, mut second] = [Side::default(), Side::default()];
+    let deliveries = random.within(3..=8);
+    for _ in 0..calls {
+        let (side, partner) = match random.within(0..=1) {
+            0 => (&mut first, &second.end),
+            _ => (&mut second, &first.end),
+        };
+        let message = if random.within(1..=10) <= deliveries && !partner.sent.is_empty() {
+            side.delivery(&mut random, &partner.sent)
+        } else {
+            request(&mut random, side.end.state())
+        };
+        side.end.call(&message);
+    }
+    [first.end.script, second.end.script]
+}
+
+/// One side of a session.
+#[derive(Default)]
+struct Side {
+    end: End,
+    /// The partner's frames before this number have reached the end or are late.
+    taken: usize,
+}
+
+impl Side {
+    /// A frame of the partner: mostly the next one, else the newest, a recent one or any.
+    fn delivery(&mut self, random: &mut Random, sent: &[Vec<u8>]) -> Vec<u8> {
+        let newest = sent.len() - 1;
+        let number = match random.within(0..=9) {
+            0 => random.within(0..=newest),
+            1 => random.within(newest.saturating_sub(8)..=newest),
+            2 => newest,
+            _ => self.taken.min(newest),
+        };
+        self.taken = self.taken.max(number + 1);
+        sent[number].clone()
+    }
+}
+
+/// A request that keeps the session going from this state, or seldom any.
+fn request(random: &mut Random, state: State) -> Vec<u8> {
+    let kind = match (state, random.within(0..=31)) {
+        (_, 0) => random.pick(&REQUEST_KINDS),
+        (State::Closed, _) => random.pick(&[CONNECT, LISTEN]),
+        (State::Listening, 1 | 2) => END_LISTENING,
+        (State::Open, 1) => CLOSE,
+        (State::Open, 2..=27) => SEND,
+        _ => TIMER,
+    };
+    message(kind, &[], &block(random))
+}
+
+#[cfg(test)]
+mod tests {
+    use super::*;
+    use reference::program::Program;
+
+    /// How many answers to this script have this notice.
+    fn notices(script: &Script, notice: &str) -> usize {
+        let mut program = Program::default();
+        let answers = script.lines().filter(|line| {
+            let mut answer = Vec::new();
+            program.line(line, &mut answer);
+            answer[4..6] == *notice.as_bytes()
+        });
+        answers.count()
+    }
+
+    #[test]
+    fn sessions_open_carry_blocks_and_end_in_every_way() {
+        let scripts: Vec<_> = (0..20).flat_map(|seed| session(seed, 3_000)).collect();
+        for (notice, least) in [
+            ("01", 100),
+            ("02", 10),
+            ("03", 50),
+            ("04", 50),
+            ("05", 1_000),
+        ] {
+            let times: usize = scripts.iter().map(|script| notices(script, notice)).sum();
+            assert!(times >= least, "notice {notice} only {times} times");
+        }
+    }
+}

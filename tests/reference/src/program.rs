@@ -1,0 +1,232 @@
+//! The line program: one end, asked line by line.
+
+use crate::call::{either, Answer};
+use crate::frame::LONGEST_FRAME;
+use crate::line::{self, LONGEST_LINE};
+use crate::record::{self, RECORD};
+use std::io::{ErrorKind, Read, Result, Write};
+
+/// The first byte of an answer line for number 0.
+const SUCCESS: u8 = 0x80;
+/// So many bytes of input are taken at once.
+const PORTION: usize = 1 << 14;
+
+/// A line program, which holds one end.
+pub struct Program {
+    record: [u8; RECORD],
+}
+
+impl Default for Program {
+    /// A program with a fresh end.
+    fn default() -> Self {
+        let mut record = [0; RECORD];
+        record::make_fresh(&mut record);
+        Self { record }
+    }
+}
+
+impl Program {
+    /// The record of its end.
+    pub fn record(&self) -> &[u8; RECORD] {
+        &self.record
+    }
+
+    /// Takes one line, without its line feed; appends the answer line and, if a frame is sent,
+    /// its line.
+    pub fn line(&mut self, line: &[u8], output: &mut Vec<u8>) {
+        match line::read(line) {
+            Ok(message) => self.message(&message, output),
+            Err(refusal) => append_answer(&Answer::refused(&self.record, refusal), output),
+        }
+    }
+
+    /// Takes the bytes of a line.
+    fn message(&mut self, message: &[u8], output: &mut Vec<u8>) {
+        let mut frame = [0; LONGEST_FRAME];
+        let answer = either(&mut self.record, message, &mut frame);
+        append_answer(&answer, output);
+        if answer.sent > 0 {
+            line::append(&frame[..answer.sent], output);
+            output.push(b'\n');
+        }
+    }
+}
+
+/// Appends the answer line.
+fn append_answer(answer: &Answer, output: &mut Vec<u8>) {
+    line::append(
+        &[SUCCESS + answer.number, answer.state, answer.notice],
+        output,
+    );
+    line::append(&answer.local.to_be_bytes(), output);
+    line::append(&answer.remote.to_be_bytes(), output);
+    if let Some(block) = answer.block {
+        line::append(&[block.count()], output);
+        line::append(block.bytes(), output);
+    }
+    output.push(b'\n');
+}
+
+/// Runs a line program with a fresh end to the end of the input. All answers are written
+/// whenever the input at hand is used up.
+pub fn run(mut input: impl Read, mut output: impl Write) -> Result<()> {
+    let mut reader = Reader::default();
+    let mut portion = [0; PORTION];
+    let mut answers = Vec::new();
+    loop {
+        let length = match input.read(&mut portion) {
+            Err(error) if error.kind() == ErrorKind::Interrupted => continue,
+            length => length?,
+        };
+        match length {
+            0 => reader.end(&mut answers),
+            _ => reader.take(&portion[..length], &mut answers),
+        }
+        output.write_all(&answers)?;
+        output.flush()?;
+        answers.clear();
+        if length == 0 {
+            return Ok(());
+        }
+    }
+}
+
+/// Splits the input into lines for a program.
+#[derive(Default)]
+struct Reader {
+    program: Program,
+    /// The line begun: all of it, or so much that it is too long.
+    begun: Vec<u8>,
+}
+
+impl Reader {
+    /// Takes a portion of the input, which may begin and end within a line.
+    fn take(&mut self, portion: &[u8], answers: &mut Vec<u8>) {
+        for piece in portion.split_inclusive(|&byte| byte == b'\n') {
+            match piece.strip_suffix(b"\n") {
+                Some(rest) => {
+                    self.lengthen(rest);
+                    self.finish(answers);
+                }
+                None => self.lengthen(piece),
+            }
+        }
+    }
+
+    /// The input ends: text after the last line feed is a line too.
+    fn end(&mut self, answers: &mut Vec<u8>) {
+        if !self.begun.is_empty() {
+            self.finish(answers);
+        }
+    }
+
+    /// Adds a piece to the line begun. Of a line that is too long no more is kept.
+    fn lengthen(&mut self, piece: &[u8]) {
+        let room = (LONGEST_LINE + 1).saturating_sub(self.begun.len());
+        self.begun.extend(&piece[..piece.len().min(room)]);
+    }
+
+    /// The line begun is complete.
+    fn finish(&mut self, answers: &mut Vec<u8>) {
+        self.program.line(&self.begun, answers);
+        self.begun.clear();
+    }
+}
+
+#[cfg(test)]
+mod tests {
+    use super::*;
+
+    fn output(input: &[u8]) -> String {
+        let mut output = Vec::new();
+        run(input, &mut output).unwrap();
+        String::from_utf8(output).unwrap()
+    }
+
+    const RUN: &str = "41\n010000000700000000\n030000000700000001\n\
+        08000000070000000100000000026162\nzz\n";
+    const ANSWERS: &str = "8001000000000100000000\n\
+        8003000000000100000007\n\
+        020000000100000007\n\
+        8004010000000100000007\n\
+        8004050000000100000007026162\n\
+        09000000010000000700000001\n\
+        8204000000000100000007\n";
+
+    #[test]
+    fn the_run_of_the_document() {
+        assert_eq!(output(RUN.as_bytes()), ANSWERS);
+    }
+
+    #[test]
+    fn text_after_the_last_line_feed_is_a_line() {
+        let input = RUN.strip_suffix('\n').unwrap();
+        assert_eq!(output(input.as_bytes()), ANSWERS);
+    }
+
+    #[test]
+    fn no_input_is_no_line_and_a_lone_line_feed_an_empty_one() {
+        assert_eq!(output(b""), "");
+        assert_eq!(output(b"\n"), "8100000000000000000000\n");
+        assert_eq!(output(b"\n\n"), "8100000000000000000000\n".repeat(2));
+        assert_eq!(output(b"45\n"), "8000000000000000000000\n");
+    }
+
+    /// The number that answers this line.
+    fn number(line: &[u8]) -> u8 {
+        let mut output = Vec::new();
+        Program::default().line(line, &mut output);
+        line::read(&output[..2]).unwrap()[0] - SUCCESS
+    }
+
+    #[test]
+    fn the_longest_line_has_156_digits() {
+        let longest = format!("0800000001000000010000000040{}", "61".repeat(64));
+        assert_eq!(longest.len(), 156);
+        assert_eq!(number(longest.as_bytes()), 0);
+        assert_eq!(number(format!("{longest}61").as_bytes()), 1);
+        assert_eq!(number(&[b'0'; 1 << 20]), 1);
+    }
+
+    #[test]
+    fn lines_are_asked_1_to_8() {
+        for (line, right) in [
+            ("", 1),
+            ("4", 1),
+            ("zzz", 1),
+            ("41\r", 1),
+            ("4\r", 2),
+            ("é", 2),
+            ("4A", 2),
+            ("0a", 3),
+            ("5040", 3),
+            ("520000", 3),
+            ("4000", 4),
+            ("44", 4),
+            ("4400", 5),
+            ("4401", 6),
+            ("440161", 8),
+            ("010000000000000000", 7),
+            ("010000000100000000", 0),
+        ] {
+            assert_eq!(number(line.as_bytes()), right, "line {line:?}");
+        }
+    }
+
+    #[test]
+    fn a_line_may_come_in_pieces_and_be_of_any_length() {
+        /// Gives one byte at a time.
+        struct Dripping<'a>(&'a [u8]);
+        impl Read for Dripping<'_> {
+            fn read(&mut self, buffer: &mut [u8]) -> Result<usize> {
+                self.0.read(&mut buffer[..1])
+            }
+        }
+        let long = format!("{}\n{RUN}", "0".repeat(100_000));
+        let mut dripped = Vec::new();
+        run(Dripping(long.as_bytes()), &mut dripped).unwrap();
+        assert_eq!(dripped, output(long.as_bytes()).as_bytes());
+        let answers = format!("8100000000000000000000\n{ANSWERS}");
+        assert_eq!(dripped, answers.as_bytes());
+    }
+}

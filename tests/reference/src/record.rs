@@ -1,0 +1,248 @@
+//! The record of an end.
+
+use crate::waiting::{Waiting, WAITING};
+use crate::{Refusal, State};
+
+/// The bytes of a record.
+pub const RECORD: usize = HEAD + WAITING;
+/// The bytes before the waiting blocks: state, L, D, t, e.
+const HEAD: usize = 17;
+
+/// A sound record: its numbers by value, its waiting blocks where they stand.
+pub struct Record<'a> {
+    pub state: State,
+    /// L, the local incarnation number.
+    pub local: u32,
+    /// D, the partner's as understood here; 0 means not known.
+    pub remote: u32,
+    /// t, how many blocks were accepted for sending in this incarnation.
+    pub accepted: u32,
+    /// e, how many blocks were handed up.
+    pub handed_up: u32,
+    pub waiting: Waiting<'a>,
+    /// Where the numbers are written.
+    head: &'a mut [u8; HEAD],
+}
+
+impl<'a> Record<'a> {
+    /// Question 12; success gives the record.
+    pub fn read(bytes: &'a mut [u8; RECORD]) -> Result<Self, Refusal> {
+        let (head, waiting) = bytes
+            .split_first_chunk_mut()
+            .expect("the head stands first");
+        let waiting = waiting.try_into().expect("the rest is the waiting blocks");
+        let record = Self {
+            state: State::of(head[0]).ok_or(Refusal::Unsound)?,
+            local: number(head, 1),
+            remote: number(head, 5),
+            accepted: number(head, 9),
+            handed_up: number(head, 13),
+            waiting: Waiting::of(waiting),
+            head,
+        };
+        if !record.is_sound() {
+            return Err(Refusal::Unsound);
+        }
+        Ok(record)
+    }
+
+    /// Writes the numbers; the waiting blocks stand in their place already.
+    pub fn write(self) {
+        self.head[0] = self.state as u8;
+        let numbers = [self.local, self.remote, self.accepted, self.handed_up];
+        let (places, _) = self.head[1..].as_chunks_mut();
+        for (place, number) in places.iter_mut().zip(numbers) {
+            *place = number.to_be_bytes();
+        }
+    }
+
+    /// Enters this state: closed and listening know no partner, and only open has counts and
+    /// blocks.
+    pub fn enter(&mut self, state: State) {
+        if matches!(state, State::Closed | State::Listening) {
+            self.remote = 0;
+        }
+        if state != State::Open {
+            self.accepted = 0;
+            self.handed_up = 0;
+            self.waiting.clear();
+        }
+        self.state = state;
+    }
+
+    /// t - w, the number of the oldest waiting block, or of the next if none waits.
+    pub fn oldest(&self) -> u32 {
+        self.accepted - self.waiting.count() as u32
+    }
+
+    /// Do the numbers, the state and the waiting blocks agree?
+    fn is_sound(&self) -> bool {
+        let numbers = match self.state {
+            State::Closed => self.remote == 0,
+            State::Listening => self.local >= 1 && self.remote == 0,
+            State::Calling => self.local >= 1,
+            State::Answering | State::Open | State::Closing => self.local >= 1 && self.remote >= 1,
+        };
+        numbers && self.counts_are_sound() && self.waiting.is_sound()
+    }
+
+    /// Is w at most t, and t = w = e = 0 outside open?
+    fn counts_are_sound(&self) -> bool {
+        let waiting = self.waiting.count();
+        match self.state {
+            State::Open => waiting as u32 <= self.accepted,
+            _ => waiting == 0 && self.accepted == 0 && self.handed_up == 0,
+        }
+    }
+}
+
+/// The state byte, L and D of a record as it stands, sound or not; zeros if it is too short.
+pub fn summary(record: &[u8]) -> (u8, u32, u32) {
+    match record.first_chunk::<RECORD>() {
+        Some(record) => (record[0], number(record, 1), number(record, 5)),
+        None => (0, 0, 0),
+    }
+}
+
+/// Makes the record that of a fresh end: closed, with both numbers 0.
+pub fn make_fresh(record: &mut [u8; RECORD]) {
+    record.fill(0);
+}
+
+/// The number in these 4 bytes.
+fn number<const LENGTH: usize>(bytes: &[u8; LENGTH], place: usize) -> u32 {
+    let number = bytes[place..].first_chunk().expect("4 bytes from there on");
+    u32::from_be_bytes(*number)
+}
+
+#[cfg(test)]
+mod tests {
+    use super::*;
+    use crate::Block;
+
+    /// A record of this state, L, D, t, e with so many waiting blocks of one byte.
+    fn bytes(state: u8, numbers: [u32; 4], waiting: usize) -> [u8; RECORD] {
+        let mut bytes = [0; RECORD];
+        bytes[0] = state;
+        bytes[1..HEAD].copy_from_slice(&numbers.map(u32::to_be_bytes).concat());
+        let blocks = bytes.last_chunk_mut().unwrap();
+        for _ in 0..waiting {
+            let block = Block::new(b"a").unwrap();
+            Waiting::of(blocks).push(block).unwrap();
+        }
+        bytes
+    }
+
+    fn is_sound(state: u8, numbers: [u32; 4], waiting: usize) -> bool {
+        Record::read(&mut bytes(state, numbers, waiting)).is_ok()
+    }
+
+    #[test]
+    fn a_record_has_538_bytes_in_the_order_of_the_document() {
+        assert_eq!(RECORD, 538);
+        let mut bytes = bytes(4, [0x0102_0304, 5, 6, 0x0708_090a], 2);
+        assert_eq!(
+            bytes[..HEAD],
+            [4, 1, 2, 3, 4, 0, 0, 0, 5, 0, 0, 0, 6, 7, 8, 9, 10]
+        );
+        assert_eq!(bytes[HEAD..][..3], [2, 1, 1]);
+        assert_eq!(summary(&bytes), (4, 0x0102_0304, 5));
+        let record = Record::read(&mut bytes).unwrap();
+        assert_eq!(record.state, State::Open);
+        assert_eq!((record.local, record.remote), (0x0102_0304, 5));
+        assert_eq!((record.accepted, record.handed_up), (6, 0x0708_090a));
+        assert_eq!((record.waiting.count(), record.oldest()), (2, 4));
+    }
+
+    #[test]
+    fn a_record_written_reads_as_itself() {
+        let before = bytes(4, [u32::MAX, 2, 0x0102_0304, u32::MAX - 1], 3);
+        let mut after = before;
+        Record::read(&mut after).unwrap().write();
+        assert_eq!(after, before);
+    }
+
+    #[test]
+    fn states_above_5_are_unsound() {
+        for state in 6..=u8::MAX {
+            assert!(!is_sound(state, [1, 1, 0, 0], 0));
+            assert!(!is_sound(state, [1, 0, 0, 0], 0));
+        }
+    }
+
+    #[test]
+    fn numbers_agree_with_the_state() {
+        let sound_numbers: [&[[u32; 2]]; 6] = [
+            &[[0, 0], [1, 0]],
+            &[[1, 0]],
+            &[[1, 0], [1, 1]],
+            &[[1, 1]],
+            &[[1, 1]],
+            &[[1, 1]],
+        ];
+        for (state, sound) in (0..).zip(sound_numbers) {
+            for numbers in [[0, 0], [0, 1], [1, 0], [1, 1]] {
+                let [local, remote] = numbers;
+                assert_eq!(
+                    is_sound(state, [local, remote, 0, 0], 0),
+                    sound.contains(&numbers)
+                );
+            }
+        }
+    }
+
+    #[test]
+    fn only_open_has_counts_and_blocks() {
+        for state in 0..=5 {
+            let remote = u32::from(state > 1);
+            assert!(is_sound(state, [1, remote, 0, 0], 0));
+            for (accepted, handed_up, waiting) in [(1, 0, 0), (0, 1, 0), (1, 0, 1), (9, 9, 8)] {
+                let numbers = [1, remote, accepted, handed_up];
+                assert_eq!(is_sound(state, numbers, waiting), state == 4);
+            }
+        }
+    }
+
+    #[test]
+    fn w_is_at_most_t() {
+        for waiting in 0..=8 {
+            for accepted in 0..=9 {
+                let sound = waiting as u32 <= accepted;
+                assert_eq!(is_sound(4, [1, 1, accepted, 0], waiting), sound);
+            }
+            assert!(is_sound(4, [1, 1, u32::MAX, u32::MAX], waiting));
+        }
+    }
+
+    #[test]
+    fn entering_a_state_clears_what_it_does_not_have() {
+        for state in State::ALL {
+            let mut bytes = bytes(4, [5, 3, 9, 9], 8);
+            let mut record = Record::read(&mut bytes).unwrap();
+            record.enter(state);
+            record.write();
+            let knows_partner = !matches!(state, State::Closed | State::Listening);
+            assert_eq!(
+                summary(&bytes),
+                (state as u8, 5, if knows_partner { 3 } else { 0 })
+            );
+            let clear = bytes[9..].iter().all(|&byte| byte == 0);
+            assert_eq!(clear, state != State::Open);
+            assert!(Record::read(&mut bytes).is_ok());
+        }
+    }
+
+    #[test]
+    fn a_fresh_record_is_all_zeros_and_sound() {
+        let mut bytes = [7; RECORD];
+        make_fresh(&mut bytes);
+        assert_eq!(bytes, [0; RECORD]);
+        assert!(Record::read(&mut bytes).is_ok());
+    }
+
+    #[test]
+    fn the_summary_of_too_short_a_record_is_zeros() {
+        assert_eq!(summary(&[7; RECORD - 1]), (0, 0, 0));
+        assert_eq!(summary(&[7; RECORD]), (7, 0x0707_0707, 0x0707_0707));
+    }
+}

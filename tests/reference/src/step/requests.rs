@@ -1,0 +1,82 @@
+//! The step table's requests.
+
+use super::{Outcome, Sending};
+use crate::frame::Signal;
+use crate::record::Record;
+use crate::{Block, Refusal, Request, State};
+
+/// Questions 8 to 10 of a request; then its step.
+pub fn make<'a>(record: &mut Record, request: Request) -> Result<Outcome<'a>, Refusal> {
+    match request {
+        Request::Connect => connect(record),
+        Request::Listen => listen(record),
+        Request::EndListening => end_listening(record),
+        Request::Close => close(record),
+        Request::Send(block) => send(record, block),
+        Request::Timer => Ok(timer(record)),
+    }
+}
+
+fn connect<'a>(record: &mut Record) -> Result<Outcome<'a>, Refusal> {
+    begin(record, State::Calling)?;
+    Ok(Outcome::signal(Signal::Crao, 0))
+}
+
+fn listen<'a>(record: &mut Record) -> Result<Outcome<'a>, Refusal> {
+    begin(record, State::Listening)?;
+    Ok(Outcome::SILENT)
+}
+
+fn end_listening<'a>(record: &mut Record) -> Result<Outcome<'a>, Refusal> {
+    ask_state(record, State::Listening)?;
+    record.enter(State::Closed);
+    Ok(Outcome::SILENT)
+}
+
+fn close<'a>(record: &mut Record) -> Result<Outcome<'a>, Refusal> {
+    ask_state(record, State::Open)?;
+    record.enter(State::Closing);
+    Ok(Outcome::signal(Signal::Dr, record.remote))
+}
+
+fn send<'a>(record: &mut Record, block: Block) -> Result<Outcome<'a>, Refusal> {
+    ask_state(record, State::Open)?;
+    let accepted = next(record.accepted)?;
+    let place = record.waiting.count();
+    record.waiting.push(block)?;
+    record.accepted = accepted;
+    Ok(Outcome::send(Sending::Data(place)))
+}
+
+/// Sends again what the partner may have missed.
+fn timer<'a>(record: &Record) -> Outcome<'a> {
+    match record.state {
+        State::Closed | State::Listening => Outcome::SILENT,
+        State::Calling => Outcome::signal(Signal::Crao, record.remote),
+        State::Answering => Outcome::signal(Signal::Crpo, record.remote),
+        State::Open if record.waiting.count() == 0 => Outcome::SILENT,
+        State::Open => Outcome::send(Sending::Data(0)),
+        State::Closing => Outcome::signal(Signal::Dr, record.remote),
+    }
+}
+
+/// A closed end begins a new incarnation in this state.
+fn begin(record: &mut Record, state: State) -> Result<(), Refusal> {
+    ask_state(record, State::Closed)?;
+    record.local = next(record.local)?;
+    record.enter(state);
+    Ok(())
+}
+
+/// Question 8: is the end in this state?
+fn ask_state(record: &Record, state: State) -> Result<(), Refusal> {
+    if record.state != state {
+        return Err(Refusal::State);
+    }
+    Ok(())
+}
+
+/// Question 9: is a number left? Success gives it.
+fn next(number: u32) -> Result<u32, Refusal> {
+    number.checked_add(1).ok_or(Refusal::NumbersUsedUp)
+}

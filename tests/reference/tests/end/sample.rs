@@ -1,0 +1,127 @@
+//! Records and messages to call with, and what a call did.
+
+use reference::call;
+use reference::frame::{Body, Signal, LONGEST_FRAME};
+use reference::record::RECORD;
+use reference::{Answer, Block, Frame, State};
+
+pub type Record = [u8; RECORD];
+pub const LAST: u32 = u32::MAX;
+/// Fills what a call may not write.
+const UNTOUCHED: u8 = 0xee;
+
+/// A record without counts and blocks.
+pub fn end(state: State, local: u32, remote: u32) -> Record {
+    let numbers = [local, remote, 0, 0].map(u32::to_be_bytes).concat();
+    let mut record = [0; RECORD];
+    record[0] = state as u8;
+    record[1..17].copy_from_slice(&numbers);
+    record
+}
+
+/// The record of an open end with L = 5 and D = 3, these counts t and e and waiting blocks.
+pub fn open(accepted: u32, handed_up: u32, waiting: &[&[u8]]) -> Record {
+    let mut record = end(State::Open, 5, 3);
+    record[9..13].copy_from_slice(&accepted.to_be_bytes());
+    record[13..17].copy_from_slice(&handed_up.to_be_bytes());
+    record[17] = waiting.len() as u8;
+    for (place, block) in waiting.iter().enumerate() {
+        record[18 + place] = block.len() as u8;
+        record[26 + 64 * place..][..block.len()].copy_from_slice(block);
+    }
+    record
+}
+
+pub fn signal(signal: Signal, sender: u32, quoted: u32) -> Vec<u8> {
+    Frame::new(sender, quoted, Body::Signal(signal)).write()
+}
+
+pub fn data(sender: u32, quoted: u32, sequence: u32, block: &[u8]) -> Vec<u8> {
+    let block = Block::new(block).unwrap();
+    Frame::new(sender, quoted, Body::Data { sequence, block }).write()
+}
+
+pub fn ack(sender: u32, quoted: u32, count: u32) -> Vec<u8> {
+    Frame::new(sender, quoted, Body::Ack { count }).write()
+}
+
+/// The request to send this block.
+pub fn send(block: &[u8]) -> Vec<u8> {
+    [&[0x44, block.len() as u8], block].concat()
+}
+
+/// What a call did.
+#[derive(Debug, PartialEq)]
+pub struct Effect {
+    pub number: u8,
+    pub notice: u8,
+    pub record: Record,
+    /// The frame sent, empty for none.
+    pub frame: Vec<u8>,
+    /// The block handed up, empty for none.
+    pub block: Vec<u8>,
+}
+
+impl Effect {
+    /// The record is left so, and nothing else happens.
+    pub fn silent(record: Record) -> Self {
+        Self {
+            number: 0,
+            notice: 0,
+            record,
+            frame: Vec::new(),
+            block: Vec::new(),
+        }
+    }
+
+    /// The call is refused by this number, and the record left so.
+    pub fn refused(record: Record, number: u8) -> Self {
+        Self {
+            number,
+            ..Self::silent(record)
+        }
+    }
+
+    /// The same with this notice.
+    pub fn notice(self, notice: u8) -> Self {
+        Self { notice, ..self }
+    }
+
+    /// The same with this frame sent.
+    pub fn frame(self, frame: Vec<u8>) -> Self {
+        Self { frame, ..self }
+    }
+}
+
+/// Makes a request.
+pub fn request(record: Record, request: &[u8]) -> Effect {
+    effect(record, |record, out| call::request(record, request, out))
+}
+
+/// Delivers a frame.
+pub fn receive(record: Record, frame: &[u8]) -> Effect {
+    effect(record, |record, out| call::receive(record, frame, out))
+}
+
+/// Makes the call in buffers longer than needed, and checks the bytes it may not write.
+fn effect<'a>(before: Record, call: impl FnOnce(&mut [u8], &mut [u8]) -> Answer<'a>) -> Effect {
+    let mut record = [UNTOUCHED; RECORD + 3];
+    record[..RECORD].copy_from_slice(&before);
+    let mut out = [UNTOUCHED; LONGEST_FRAME + 3];
+    let answer = call(&mut record, &mut out);
+    let (after, past) = record.split_first_chunk().unwrap();
+    let (frame, rest) = out.split_at(answer.sent);
+    assert!([past, rest].concat().iter().all(|&byte| byte == UNTOUCHED));
+    assert_eq!(after[0], answer.state);
+    assert_eq!(after[1..5], answer.local.to_be_bytes());
+    assert_eq!(after[5..9], answer.remote.to_be_bytes());
+    Effect {
+        number: answer.number,
+        notice: answer.notice,
+        record: *after,
+        frame: frame.to_vec(),
+        block: answer
+            .block
+            .map_or(Vec::new(), |block| block.bytes().to_vec()),
+    }
+}
