@@ -46,15 +46,15 @@ pub extern "C" fn dock_request(
         *sent = 0;
         return 11;
     }
-    let answer = machine::request(endpoint::decode(rec), s, out);
-    let e = answer.endpoint;
+    let asked = machine::request(endpoint::decode(rec), s, out);
+    let e = asked.endpoint;
     *state = e.state;
-    *notice = answer.notice;
+    *notice = asked.notice;
     *local = e.local;
     *remote = e.remote;
-    *sent = answer.sent;
-    if answer.number != 0 {
-        return answer.number;
+    *sent = asked.sent;
+    if asked.number != 0 {
+        return asked.number;
     }
     endpoint::encode(e, rec);
     0

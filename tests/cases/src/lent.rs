@@ -24,13 +24,13 @@ const FRAMES: usize = 100_000;
 /// So many bytes of a record stand before the blocks.
 const HEAD: usize = 26;
 
-/// Compares all generated calls, and reports them.
-pub fn compare<E: End>() -> Score {
+/// Compares the generated calls, so many rounds of them, and reports them.
+pub fn compare<E: End>(rounds: usize) -> Score {
     let mut coverage = Coverage::default();
     let groups = [
-        fresh::<E>(),
-        requests::<E>(&mut coverage),
-        frames::<E>(&mut coverage),
+        fresh::<E>(rounds),
+        requests::<E>(rounds, &mut coverage),
+        frames::<E>(rounds, &mut coverage),
         every_byte::<E>(),
     ];
     let calls = groups.iter().map(Group::report).sum();
@@ -39,10 +39,10 @@ pub fn compare<E: End>() -> Score {
 }
 
 /// Records of any content and length are made fresh.
-fn fresh<E: End>() -> Group {
+fn fresh<E: End>(rounds: usize) -> Group {
     let mut group = Group::new("fresh ends", &[0, 11]);
     let mut random = Random::new(30);
-    for _ in 0..FRESH {
+    for _ in 0..rounds * FRESH {
         let record = any(&mut random);
         let buffers = Buffers::any(&mut random, &record, &[]);
         Call::Fresh.compare::<E>(&mut group, &buffers);
@@ -51,10 +51,10 @@ fn fresh<E: End>() -> Group {
 }
 
 /// Requests of ends with all sorts of records.
-fn requests<E: End>(coverage: &mut Coverage) -> Group {
+fn requests<E: End>(rounds: usize, coverage: &mut Coverage) -> Group {
     let mut group = Group::new("requests", &[0, 3, 4, 5, 6, 8, 9, 10, 11, 12]);
     let mut random = Random::new(31);
-    for _ in 0..REQUESTS {
+    for _ in 0..rounds * REQUESTS {
         let record = any(&mut random);
         let request = message(&mut random, &record, near::request, near::frame);
         let buffers = Buffers::any(&mut random, &record, &request);
@@ -65,10 +65,10 @@ fn requests<E: End>(coverage: &mut Coverage) -> Group {
 }
 
 /// Frames that reach ends with all sorts of records.
-fn frames<E: End>(coverage: &mut Coverage) -> Group {
+fn frames<E: End>(rounds: usize, coverage: &mut Coverage) -> Group {
     let mut group = Group::new("frames", &[0, 3, 4, 5, 6, 7, 11, 12]);
     let mut random = Random::new(32);
-    for _ in 0..FRAMES {
+    for _ in 0..rounds * FRAMES {
         let record = any(&mut random);
         let frame = message(&mut random, &record, near::frame, near::request);
         let buffers = Buffers::any(&mut random, &record, &frame);

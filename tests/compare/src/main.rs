@@ -4,15 +4,22 @@ mod call;
 mod codec;
 mod first;
 mod lines;
+mod link;
 mod messages;
 mod second;
 mod trips;
 
 use cases::group::{Group, Score};
+use first::First;
 use std::process::ExitCode;
+
+/// More than two million calls on lent buffers.
+const ROUNDS: usize = 14;
 
 fn main() -> ExitCode {
     let groups = [lines::groups(), messages::groups(), trips::groups()];
-    let score: Score = groups.iter().flatten().map(Group::report).sum();
+    let codec: Score = groups.iter().flatten().map(Group::report).sum();
+    let calls = cases::lent::compare::<First>(ROUNDS);
+    let score: Score = [codec, calls].into_iter().sum();
     score.conclude()
 }

@@ -54,7 +54,7 @@ fn checked(
 
 #[test]
 fn the_reference_equals_itself_and_keeps_its_promises() {
-    let score = compare::<Checked>();
+    let score = compare::<Checked>(1);
     assert_eq!(score.failed, 0);
     assert!(score.passed > 150_000);
 }
@@ -127,14 +127,14 @@ impl<const FAULT: u8> End for Broken<FAULT> {
 #[test]
 fn every_fault_is_found() {
     let failed = [
-        compare::<Broken<FRESH_WRITES_ONE_MORE>>(),
-        compare::<Broken<WRITES_PAST_THE_FRAME>>(),
-        compare::<Broken<WRITES_THE_WHOLE_FRAME_BUFFER>>(),
-        compare::<Broken<WRITES_AS_IT_REFUSES>>(),
-        compare::<Broken<LEAVES_A_BYTE_OF_A_BLOCK>>(),
-        compare::<Broken<FORGETS_THE_FRAME_BUFFER>>(),
-        compare::<Broken<BLOCK_ONE_TOO_SHORT>>(),
-        compare::<Broken<ANSWERS_THE_NUMBER_BEFORE>>(),
+        compare::<Broken<FRESH_WRITES_ONE_MORE>>(1),
+        compare::<Broken<WRITES_PAST_THE_FRAME>>(1),
+        compare::<Broken<WRITES_THE_WHOLE_FRAME_BUFFER>>(1),
+        compare::<Broken<WRITES_AS_IT_REFUSES>>(1),
+        compare::<Broken<LEAVES_A_BYTE_OF_A_BLOCK>>(1),
+        compare::<Broken<FORGETS_THE_FRAME_BUFFER>>(1),
+        compare::<Broken<BLOCK_ONE_TOO_SHORT>>(1),
+        compare::<Broken<ANSWERS_THE_NUMBER_BEFORE>>(1),
     ]
     .map(|score| score.failed);
     assert!(failed.iter().all(|&failed| failed > 0), "{failed:?}");

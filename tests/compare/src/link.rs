@@ -1,0 +1,105 @@
+//! The calls of the first implementation on lent buffers, through its C interface.
+
+use crate::first::First;
+use cases::lent::{End, Reply};
+
+/// Where the block of a DATA starts.
+const BLOCK: usize = 14;
+
+extern "C" {
+    fn dock_fresh(record: *mut u8, record_len: usize) -> u8;
+
+    fn dock_request(
+        record: *mut u8,
+        record_len: usize,
+        request: *const u8,
+        request_len: usize,
+        out: *mut u8,
+        out_len: usize,
+        state: *mut u8,
+        notice: *mut u8,
+        local: *mut u32,
+        remote: *mut u32,
+        sent: *mut usize,
+    ) -> u8;
+
+    fn dock_receive(
+        record: *mut u8,
+        record_len: usize,
+        frame: *const u8,
+        frame_len: usize,
+        out: *mut u8,
+        out_len: usize,
+        state: *mut u8,
+        notice: *mut u8,
+        local: *mut u32,
+        remote: *mut u32,
+        sent: *mut usize,
+        block: *mut usize,
+    ) -> u8;
+}
+
+// SAFETY of all calls: each pointer comes from a reference that lives as long as the call, and
+// each length is that of its slice.
+impl End for First {
+    fn fresh(record: &mut [u8]) -> u8 {
+        unsafe { dock_fresh(record.as_mut_ptr(), record.len()) }
+    }
+
+    fn request(record: &mut [u8], request: &[u8], out: &mut [u8]) -> Reply {
+        let mut reply = untold();
+        reply.number = unsafe {
+            dock_request(
+                record.as_mut_ptr(),
+                record.len(),
+                request.as_ptr(),
+                request.len(),
+                out.as_mut_ptr(),
+                out.len(),
+                &mut reply.state,
+                &mut reply.notice,
+                &mut reply.local,
+                &mut reply.remote,
+                &mut reply.sent,
+            )
+        };
+        reply
+    }
+
+    fn receive(record: &mut [u8], frame: &[u8], out: &mut [u8]) -> Reply {
+        let mut reply = untold();
+        let mut block = usize::MAX;
+        reply.number = unsafe {
+            dock_receive(
+                record.as_mut_ptr(),
+                record.len(),
+                frame.as_ptr(),
+                frame.len(),
+                out.as_mut_ptr(),
+                out.len(),
+                &mut reply.state,
+                &mut reply.notice,
+                &mut reply.local,
+                &mut reply.remote,
+                &mut reply.sent,
+                &mut block,
+            )
+        };
+        if block > 0 {
+            reply.block = BLOCK..BLOCK.wrapping_add(block);
+        }
+        reply
+    }
+}
+
+/// A reply whose numbers a call has to set.
+fn untold() -> Reply {
+    Reply {
+        state: u8::MAX,
+        notice: u8::MAX,
+        local: u32::MAX,
+        remote: u32::MAX,
+        sent: usize::MAX,
+        ..Reply::default()
+    }
+}
