@@ -1,0 +1,75 @@
+/*
+ * The dock link: one end of a connection, for programs in C.
+ *
+ * An end is a record of 538 bytes that the host keeps and lends to each call. Frames come and go as bytes: the host carries them to
+ * the other end, over a mesh that may lose, repeat and reorder them, and decides when to make a timer call. Nothing is allocated, and
+ * nothing is kept between calls but the record.
+ *
+ * Link with the static library `link` (built by `rt staticlib link`).
+ */
+#ifndef DOCK_H
+#define DOCK_H
+
+#include <stddef.h>
+#include <stdint.h>
+
+#ifdef __cplusplus
+extern "C" {
+#endif
+
+#define DOCK_RECORD 538 /* bytes of a record */
+#define DOCK_FRAME 78   /* bytes of the longest frame, and of the buffer for a frame out */
+#define DOCK_BLOCK 64   /* bytes of the longest block */
+#define DOCK_BLOCK_AT 14 /* where the block of a received DATA frame starts */
+
+/* What a call answers: 0, or the number of the first question whose answer was no. A refused call writes nothing but the numbers
+ * that tell how the end stands: no byte of the record or of the buffer for a frame. */
+enum {
+    DOCK_OK = 0,
+    DOCK_KIND = 3,    /* the kind is not known to this call */
+    DOCK_FIXED = 4,   /* the fixed part is missing, or more follows where there is no block */
+    DOCK_COUNT = 5,   /* the count byte is not 1 to 64 */
+    DOCK_LENGTH = 6,  /* not exactly that many bytes after the count */
+    DOCK_NUMBERS = 7, /* s, r or the number of a DATA is out of range */
+    DOCK_STATE = 8,   /* the state does not allow the request */
+    DOCK_LAST = 9,    /* no number is left */
+    DOCK_FULL = 10,   /* eight blocks wait already */
+    DOCK_BUFFER = 11, /* a lent buffer is too small */
+    DOCK_UNSOUND = 12 /* the record is not sound */
+};
+
+/* The states. */
+enum { DOCK_CLOSED, DOCK_LISTENING, DOCK_CALLING, DOCK_ANSWERING, DOCK_OPEN, DOCK_CLOSING };
+
+/* The notices. */
+enum { DOCK_NONE, DOCK_CONNECTED, DOCK_REJECTED, DOCK_CLOSED_BY_PARTNER, DOCK_CLOSE_FINISHED, DOCK_HANDED_UP };
+
+/* The first byte of a request. A send has a count byte and its block after it, the others are that byte alone. */
+enum { DOCK_CONNECT = 0x40, DOCK_LISTEN, DOCK_END_LISTENING, DOCK_CLOSE, DOCK_SEND, DOCK_TIMER };
+
+/* Makes the record that of a fresh end: closed, both numbers 0. Answers 0, or 11 where the buffer is too small. */
+uint8_t dock_fresh(uint8_t *record, size_t record_len);
+
+/*
+ * A request, the timer call among them.
+ *
+ * Takes the record, the request's bytes and a buffer of at least 78 bytes for a frame out. On success the record is the new one, and
+ * the frame to send, if there is one, stands at the start of the buffer; no other byte is written.
+ * state, local and remote tell how the end stands after the call (0 where the record's buffer is too small), notice is the notice
+ * (0 after a refusal), sent the length of the frame to send (0 for none).
+ */
+uint8_t dock_request(uint8_t *record, size_t record_len, const uint8_t *request, size_t request_len, uint8_t *out, size_t out_len,
+                     uint8_t *state, uint8_t *notice, uint32_t *local, uint32_t *remote, size_t *sent);
+
+/*
+ * Receives a frame. As dock_request, and block tells the length of the block handed up (0 for none): it is not copied, but stands in
+ * the caller's own frame, from DOCK_BLOCK_AT on.
+ */
+uint8_t dock_receive(uint8_t *record, size_t record_len, const uint8_t *frame, size_t frame_len, uint8_t *out, size_t out_len,
+                     uint8_t *state, uint8_t *notice, uint32_t *local, uint32_t *remote, size_t *sent, size_t *block);
+
+#ifdef __cplusplus
+}
+#endif
+
+#endif
