@@ -37,14 +37,14 @@ among s (f ∷ fs) m =
     (List·Memᴰ·cases-cons m)
 
 -- the block of a request that is read has 1 to 64 octets
-read-sized : (s : List ℕ) (q : Request) → readRequest s ≡ ok q → sized (blockSent (protocol.ask q)) ≡ true
+pub read-sized : (s : List ℕ) (q : Request) → readRequest s ≡ ok q → sized (blockSent (protocol.ask q)) ≡ true
 unfolding sized
 read-sized s connect h = refl
 read-sized s listen h = refl
 read-sized s endListening h = refl
 read-sized s close h = refl
 read-sized s timer h = refl
-read-sized s (send b) h = let z = send-sized s b h in joined (in-range 1 64 (length b) (z .0) (z .1)) refl
+read-sized s (send b) h = let z = send-sized s h in joined (in-range 1 64 (length b) (z .1 .0) (z .1 .1)) refl
 
 -- a value that was made of another
 of-mapped : {A B : Type 0} (f : A → B) (o : Outcome A) (y : B) → mapped f o ≡ ok y → (x : A) × (o ≡ ok x) × (y ≡ f x)

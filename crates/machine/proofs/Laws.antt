@@ -12,17 +12,15 @@ use Rattle.octets.specs.Sizes.{lastNumber}
 use Rattle.octets.specs.Test.{first, Outcome, refused, ok, refusing, mapped, andThen}
 use Rattle.octets.specs.Octets.{field, Octets}
 use Rattle.octets.proofs.Octets.{field-one, field-more}
-use Rattle.octets.proofs.Test.{joined, within, in-range, by-eq, accepted, all-yes}
-use Rattle.frame.specs.Frame.{DRACK, DATA, Frame, Request, connect, listen, endListening, close, timer, send}
+use Rattle.octets.proofs.Test.{within, by-eq, accepted, all-yes}
+use Rattle.frame.specs.Frame.{DRACK, DATA, Frame}
 use Rattle.frame.specs.Fits.{Fits, control-fits, data-fits, ack-fits}
 use Rattle.frame.specs.Layout.{isFrame}
 use Rattle.frame.specs.Read.{kindOf, countOk, numbersOk, frameAt, readFrame, readRequest}
 use Rattle.frame.proofs.Reading.{control-read, ack-read, data-read}
-use Rattle.protocol.specs.Endpoint.{sized}
 use Rattle.protocol.specs.Table.{Step}
 use Rattle.protocol.specs.Requests.{request}
 use Rattle.protocol.specs.Network.{ask, deliver, perform}
-use Rattle.protocol.specs.Claim.{blockSent}
 use Rattle.protocol.specs.Limits.{LeavesSound}
 use Rattle.protocol.proofs.Limits.{call-sound}
 use Rattle.endpoint.specs.declared.Endpoint.{Endpoint}
@@ -31,9 +29,10 @@ use Rattle.endpoint.specs.Sound.{sound}
 use Rattle.machine.specs.Calls.{requestOutcome, receiveOutcome}
 use Rattle.calls.specs.Calls.{Call, ownQuestions, said, asked}
 use Rattle.calls.specs.Calls as calls
+use Rattle.calls.proofs.Lift.{read-sized}
 use Rattle.endpoint.proofs.Sounds.{view-sound}
 use Rattle.endpoint.proofs.Held.{held, pack-sound}
-use Rattle.machine.proofs.Reading.{good, passed, send-sized, sender-is, quoted-is, number-is}
+use Rattle.machine.proofs.Reading.{good, passed, sender-is, quoted-is, number-is}
 
 -- four octets make a number of 32 bits
 field-32 : (at : ℕ) (s : List ℕ) → Octets s → at + 4 ≤ length s → field 4 at s ≤ lastNumber
@@ -88,16 +87,6 @@ module _ (s : List ℕ) (o : Octets s) {f : Frame} (h : readFrame s ≡ ok f) wh
       let r = within 1 9 (kindOf s) (all-yes 3 _ _ (a .0) tt .0) in
       by-eq (kindOf s) 8 data-read-fits (λ n. by-eq (kindOf s) 9 ack-read-fits (λ m. control-read-fits (kindOf s) refl (r .0) (omega arith)))
 
--- a request that was read has a block of 1 to 64 octets, if it has one
-sent-sized : (s : List ℕ) (q : Request) → readRequest s ≡ ok q → sized (blockSent (ask q)) ≡ true
-unfolding sized
-sent-sized s connect h = refl
-sent-sized s listen h = refl
-sent-sized s endListening h = refl
-sent-sized s close h = refl
-sent-sized s timer h = refl
-sent-sized s (send b) h = let z = send-sized s h in joined (in-range 1 64 (length b) (z .1 .0) (z .1 .1)) refl
-
 -- the parts of an accepted call
 mapped-ok : {A B : Type 0} (f : A → B) (o : Outcome A) (next : B → Outcome Step) {y : Step} → andThen (mapped f o) next ≡ ok y
     → (x : A) × (o ≡ ok x) × (next (f x) ≡ ok y)
@@ -128,7 +117,7 @@ module _ (e : Endpoint) (l8 : length (e .lengths) ≡ 8) (l512 : length (e .bloc
       let r = passing (first (ownQuestions (sound e) (calls.request s out))) h in
       let q = mapped-ok ask (readRequest s) _ (r .1) in
       let y = ready-sound (sound e) (calls.request s out) (r .0) in
-      leaves (q .2) (call-sound (ask (q .0)) (view e) (view-sound e y l8 l512) (sent-sized s (q .0) (q .1)))
+      leaves (q .2) (call-sound (ask (q .0)) (view e) (view-sound e y l8 l512) (read-sized s (q .0) (q .1)))
 
   pub receive-leaves : Octets s → receiveOutcome e s out ≡ ok x → Leaves x
   unfolding receiveOutcome asked said perform

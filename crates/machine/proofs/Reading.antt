@@ -1,21 +1,18 @@
 -- What is known of octets that were read. Assumes nothing.
-use Prim.Native.Nat.{ℕ, _+_, _≤_, _<_}
+use Prim.Native.Nat.{ℕ, _≤_, _<_}
 use mathlib.Core.Path.{_≡_, refl, sym, ap, _∙_}
 use mathlib.Core.Logic.{_≢_, ⊎-elim}
 use mathlib.Core.Bool.{Bool, true, false, _||_, not, true≢false}
-use mathlib.Core.List.{List, []}
+use mathlib.Core.List.{List}
 use native.Mathlib.Omega.{arith}
-use borrow.Author.Tests.{leb-true, eqb-true, eq-eqb, ne-eqb}
+use borrow.Author.Tests.{leb-true, eq-eqb, ne-eqb}
 use lib.Dec.{leb, eqb}
-use lib.ListN.{length, drop, getD, length-drop}
 use Rattle.octets.specs.Sizes.{lastNumber}
 use Rattle.octets.specs.Test.{when, first, Outcome, refused, ok}
-use Rattle.octets.proofs.Test.{if-eq, both, either, within, accepted, all-yes}
-use Rattle.frame.specs.Frame.{Block, CRAO, REJ, DRACK, DATA, Frame, Request, connect, listen, endListening, close, timer, send}
+use Rattle.octets.proofs.Test.{both, either, accepted, all-yes}
+use Rattle.frame.specs.Frame.{CRAO, REJ, DRACK, DATA, Frame}
 use Rattle.frame.specs.Layout.{isFrame}
-use Rattle.frame.specs.Read.{kindOf, frameAt, requestAt, countOk, numbersOk, readable, questions, readFrame, readRequest}
-use Rattle.frame.specs.Answer.{requestNumber}
-use Rattle.frame.proofs.Reading.{send-read}
+use Rattle.frame.specs.Read.{frameAt, numbersOk, readable, questions, readFrame}
 
 -- a question that was answered yes
 abbrev pub good : {A : Type 0} → Outcome A → ℕ
@@ -26,44 +23,6 @@ pub passed : {A : Type 0} (b : Bool) (x : Outcome A) (n : ℕ) {y : A} → when 
 unfolding when
 passed true x n h = (refl, h)
 passed false x n h = absurd (let z : _≡_ {A = ℕ} 0 1 = ap good h in omega arith)
-
--- a send has its kind, and a block of 1 to 64 octets
-send-kind : (s : List ℕ) {b : Block} → requestAt s ≡ send b → kindOf s ≡ 68
-unfolding requestAt requestNumber
-send-kind s {b} h =
-    if-eq P (kindOf s) 64 (λ _ e. other e (omega arith))
-    (λ _. if-eq P (kindOf s) 65 (λ _ e. other e (omega arith))
-    (λ _. if-eq P (kindOf s) 66 (λ _ e. other e (omega arith))
-    (λ _. if-eq P (kindOf s) 67 (λ _ e. other e (omega arith))
-    (λ _. if-eq P (kindOf s) 68 (λ k e. k) (λ _ e. other e (omega arith))))))
-    h
-  where
-    P : Request → Type 0
-    P q = q ≡ send b → kindOf s ≡ 68
-
-    other : {q : Request} → q ≡ send b → (requestNumber q ≡ 68 → ⊥) → kindOf s ≡ 68
-    other e n = absurd (n (ap requestNumber e))
-
-pub send-sized : (s : List ℕ) {b : Block} → readRequest s ≡ ok (send b) → (2 ≤ length s) × ((1 ≤ length b) × (length b ≤ 64))
-unfolding readRequest countOk
-send-sized s {b} h =
-    let k = send-kind s (accepted _ (requestAt s) h .1) in
-    let p = passed (leb 2 (length s)) _ 4 (sym (send-read s k) ∙ h) in
-    let q = passed (countOk (getD s 1 0)) _ 5 (p .1) in
-    let r = passed (eqb (length s) (2 + getD s 1 0)) _ 6 (q .1) in
-    let n = eqb-true (length s) (2 + getD s 1 0) (r .0) in
-    let w = within 1 64 (getD s 1 0) (q .0) in
-    let l : length (drop 2 s) ≡ length b = ap (λ (x : Outcome Request). length (block x)) (r .1) in
-    omega (arith, leb-true 2 (length s) (p .0), length-drop 2 s)
-  where
-    block : Outcome Request → Block
-    block (refused n) = []
-    block (ok connect) = []
-    block (ok listen) = []
-    block (ok endListening) = []
-    block (ok close) = []
-    block (ok timer) = []
-    block (ok (send c)) = c
 
 -- what question 7 says of the numbers of a frame
 module _ (k s r n : ℕ) (h : numbersOk k s r n ≡ true) where

@@ -108,12 +108,12 @@ pub struct Answer {
     pub sent: usize,
 }
 
-fn refuse(e: Endpoint, number: u8) -> Answer
-    ensures { λ r. ⌜ r ≡ answerOf e (refused number) ⌝ }
+fn refuse(given: Endpoint, number: u8) -> Answer
+    ensures { λ r. ⌜ r ≡ answerOf given (refused number) ⌝ }
 {
     Answer {
         number,
-        endpoint: e,
+        endpoint: given,
         notice: NONE,
         sent: 0,
     }

@@ -4,7 +4,7 @@ use Prim.Native.Nat.{ℕ, _-_}
 use lib.ListN.{length, take, drop, length-drop}
 use lib.Seq.{take-all}
 use Rattle.frame.specs.Answer.{requestOf}
-use Rattle.machine.proofs.Reading.{send-sized}
+use Rattle.frame.proofs.Blocks.{send-sized}
 use denote.Ref.{now}
 use native.Mathlib.Omega.{arith}
 use borrow.Author.Needs.{needs}
