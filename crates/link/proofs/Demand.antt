@@ -1,12 +1,15 @@
--- The record's format is lawful, so demand 3 holds of the calls in octets. Assumes nothing.
+-- The record's format is lawful, so demand 3 holds of the calls in octets, and each does what the protocol says. Assumes nothing.
 use Prim.Native.Nat.{ℕ, _≤_}
-use mathlib.Core.Path.{_≡_, ap, _∙_}
+use mathlib.Core.Path.{_≡_, refl, ap, _∙_}
 use mathlib.Core.Bool.{true}
-use mathlib.Core.List.{List}
+use mathlib.Core.List.{List, _++_}
 use native.Mathlib.Omega.{arith}
+use borrow.Author.Tests.{le-leb}
 use lib.ListN.{length, length-append}
+use Rattle.octets.specs.Test.{when, first, ok, refusing, andThen}
 use Rattle.octets.specs.Octets.{bytes, lay}
 use Rattle.protocol.specs.Endpoint as abstract
+use Rattle.protocol.specs.Network as protocol
 use Rattle.protocol.specs.Limits.{Bounded}
 use Rattle.protocol.proofs.Sound.{sound-so}
 use Rattle.endpoint.specs.View.{places, lengthsOf, pack, view}
@@ -16,6 +19,7 @@ use Rattle.endpoint.proofs.Pad.{length-padded}
 use Rattle.endpoint.proofs.Packs.{length-lengths, length-places}
 use Rattle.endpoint.proofs.Held.{small-of, held, pack-sound}
 use Rattle.endpoint.proofs.Record.{decode-encode}
+use Rattle.calls.specs.Calls.{Call, buffer, said, asked, performed}
 use Rattle.calls.specs.Claim.{Entry, bothNew, AllDue, Demand, Lawful}
 use Rattle.calls.proofs.Lift.{demand-3}
 use Rattle.link.specs.Record.{format}
@@ -52,3 +56,13 @@ lawful =
 -- no end opens without its partner: any octets, any frame buffers, refused calls included
 pub no-end-alone : (p q : List ℕ) (calls : List Entry) → AllDue format (bothNew format p q) calls → Demand format (bothNew format p q) calls
 no-end-alone p q calls d = demand-3 format lawful p q calls d
+
+-- A call on the record of a sound endpoint does what the protocol's call does that its octets say: so what holds of the one, the cases
+-- at the edges among it, holds of the other.
+pub does : (e : abstract.Endpoint) (rest : List ℕ) → abstract.sound e ≡ true → Bounded e → (c : Call) {x : protocol.Call}
+    → said c ≡ ok x → 78 ≤ length (buffer c) → performed format (format .octets e ++ rest) c ≡ protocol.perform x e
+unfolding performed asked refusing andThen first when
+does e rest s b c h room =
+    let l = length-append (format .octets e) rest in
+    let n = lawful .long e s b in
+    rw (le-leb 538 (length (format .octets e ++ rest)) (omega (arith, l, n)), le-leb 78 (length (buffer c)) room, lawful .passes e rest s b, lawful .keeps e rest s b, h) refl
