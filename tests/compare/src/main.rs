@@ -1,16 +1,8 @@
 //! Compares the first implementation with the reference, on generated inputs with fixed seeds.
 
-mod call;
-mod codec;
-mod first;
-mod lines;
-mod link;
-mod messages;
-mod second;
-mod trips;
-
 use cases::group::{Group, Score};
-use first::First;
+use compare::first::First;
+use compare::{lines, messages, trips};
 use std::process::ExitCode;
 
 /// More than two million calls on lent buffers.

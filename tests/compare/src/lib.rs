@@ -1,0 +1,10 @@
+//! The first implementation beside the reference.
+
+mod call;
+mod codec;
+pub mod first;
+pub mod lines;
+mod link;
+pub mod messages;
+mod second;
+pub mod trips;
