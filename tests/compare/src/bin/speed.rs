@@ -24,28 +24,6 @@ struct Case {
 }
 
 impl Case {
-    fn received(name: &'static str, record: [u8; RECORD], message: Vec<u8>) -> Self {
-        let (first, second) = (First::receive as Call, Reference::receive as Call);
-        Self {
-            name,
-            record,
-            message,
-            first,
-            second,
-        }
-    }
-
-    fn requested(name: &'static str, record: [u8; RECORD], message: Vec<u8>) -> Self {
-        let (first, second) = (First::request as Call, Reference::request as Call);
-        Self {
-            name,
-            record,
-            message,
-            first,
-            second,
-        }
-    }
-
     /// Nanoseconds a call of the first and of the second.
     fn measure(&self) -> (f64, f64) {
         let (mut first, mut second) = (Duration::ZERO, Duration::ZERO);
@@ -71,6 +49,11 @@ impl Case {
         begin.elapsed()
     }
 }
+
+/// A frame that arrives, called in both.
+const RECEIVE: [Call; 2] = [First::receive, Reference::receive];
+/// A request, called in both.
+const REQUEST: [Call; 2] = [First::request, Reference::request];
 
 fn main() {
     println!(
@@ -122,26 +105,79 @@ fn record(state: State, remote: u32, waiting: usize) -> [u8; RECORD] {
     numbers.record(state, &vec![vec![b'x'; 64]; waiting])
 }
 
+fn case(
+    [first, second]: [Call; 2],
+    name: &'static str,
+    record: [u8; RECORD],
+    message: Vec<u8>,
+) -> Case {
+    Case {
+        name,
+        record,
+        message,
+        first,
+        second,
+    }
+}
+
 fn cases() -> Vec<Case> {
     vec![
-        Case::received("closed: CRAO", record(State::Closed, 0, 0), signal(1)),
-        Case::received("listening: CRAO", record(State::Listening, 0, 0), signal(1)),
-        Case::received("calling: CRPO", record(State::Calling, 0, 0), signal(2)),
-        Case::received(
+        case(
+            RECEIVE,
+            "closed: CRAO",
+            record(State::Closed, 0, 0),
+            signal(1),
+        ),
+        case(
+            RECEIVE,
+            "listening: CRAO",
+            record(State::Listening, 0, 0),
+            signal(1),
+        ),
+        case(
+            RECEIVE,
+            "calling: CRPO",
+            record(State::Calling, 0, 0),
+            signal(2),
+        ),
+        case(
+            RECEIVE,
             "answering: CRACK",
             record(State::Answering, 7, 0),
             signal(3),
         ),
-        Case::received("open: DATA of 64", record(State::Open, 7, 0), data()),
-        Case::received(
+        case(
+            RECEIVE,
+            "open: DATA of 64",
+            record(State::Open, 7, 0),
+            data(),
+        ),
+        case(
+            RECEIVE,
             "open: ACK of 1 of 8",
             record(State::Open, 7, 8),
             with_count(9, 1),
         ),
-        Case::received("open: passed over", record(State::Open, 7, 0), signal(4)),
-        Case::received("closing: DRACK", record(State::Closing, 7, 0), signal(7)),
-        Case::requested("open: send of 64", record(State::Open, 7, 0), send()),
-        Case::requested(
+        case(
+            RECEIVE,
+            "open: passed over",
+            record(State::Open, 7, 0),
+            signal(4),
+        ),
+        case(
+            RECEIVE,
+            "closing: DRACK",
+            record(State::Closing, 7, 0),
+            signal(7),
+        ),
+        case(
+            REQUEST,
+            "open: send of 64",
+            record(State::Open, 7, 0),
+            send(),
+        ),
+        case(
+            REQUEST,
             "open: timer with 8 waiting",
             record(State::Open, 7, 8),
             vec![0x45],
