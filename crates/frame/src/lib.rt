@@ -96,7 +96,7 @@ pub enum Class {
     Unknown,
 }
 
-fn class_of(s: &[u8]) -> Class
+pub fn class_of(s: &[u8]) -> Class
     ensures { λ r. ⌜ r ≡ classOf (kindOf (now (s .entry))) ⌝ }
 {
     if s.len() == 0 {

@@ -1,0 +1,98 @@
+-- From what a call on a lent record answers to the text of its outcome. Assumes nothing.
+use Prim.Native.Nat.{ℕ, zero, suc, _+_, _≤_}
+use mathlib.Core.Path.{_≡_, refl, sym, ap, _∙_}
+use mathlib.Core.Bool.{Bool}
+use mathlib.Core.List.{List, []}
+use native.Mathlib.Omega.{arith}
+use lib.ListN.{length, take, drop, length-append, length-drop}
+use Rattle.octets.specs.Test.{first, Outcome, refused, ok, outcome, refusing, mapped, andThen}
+use Rattle.octets.specs.Octets.{put, left}
+use Rattle.octets.proofs.Test.{by-eq}
+use Rattle.frame.specs.Frame.{Block, Request, connect, listen, endListening, close, timer, send}
+use Rattle.frame.specs.Read.{readRequest}
+use Rattle.protocol.specs.Endpoint.{Endpoint}
+use Rattle.protocol.specs.Table.{Step}
+use Rattle.protocol.specs.Requests.{refusal, accept}
+use Rattle.protocol.specs.Requests as protocol
+use Rattle.protocol.specs.Network.{ask, Call, perform}
+use Rattle.calls.specs.Calls.{request, receive, ownQuestions, said, asked, wire, performed, bufferAfter}
+use Rattle.link.specs.Record.{format}
+use Rattle.link.specs.Lent.{noticeOf, sentOf, blockIn, blockOf, Lent}
+use Rattle.link.proofs.Up.{right}
+use Rattle.console.specs.declared.Told.{Told}
+use Rattle.console.specs.Line.{room}
+use Rattle.console.specs.Text.{textOf, told, sentIn, text}
+use Rattle.console.specs.Parts.{Begins, Gives}
+use Rattle.console.proofs.Text.{taken}
+
+-- what is written at the start of a buffer fits, since no buffer grows
+pub put-fits : (d s : List ℕ) {x : List ℕ} → x ≡ put d 0 s → length x ≡ length d → length s ≤ length d
+unfolding put
+put-fits d s e l = omega (arith, ap length e, length-append s (drop (0 + length s) d), length-drop (0 + length s) d)
+
+-- the frame sent has room in its buffer, and stands at its start
+pub sent-fits : (d : List ℕ) (o : Outcome Step) {x : List ℕ} {n : ℕ} → x ≡ bufferAfter d o → length x ≡ length d → n ≡ sentOf o → n ≤ length d
+unfolding sentOf bufferAfter mapped left
+sent-fits d (refused k) e l h = omega arith
+sent-fits d (ok y) e l h = omega (arith, put-fits d (wire (y .sent)) e l)
+
+sent-taken : (d : List ℕ) (o : Outcome Step) {x : List ℕ} {n : ℕ} → x ≡ bufferAfter d o → n ≡ sentOf o → take n x ≡ sentIn o
+unfolding sentOf sentIn bufferAfter mapped left
+sent-taken d (refused k) e h = rw h refl
+sent-taken d (ok y) e h = taken d (wire (y .sent)) e h
+
+-- a request hands nothing up
+accepts-none : (q : Request) (e : Endpoint) → blockIn (accept q e .indication) ≡ []
+unfolding accept blockIn
+accepts-none connect e = refl
+accepts-none listen e = refl
+accepts-none endListening e = refl
+accepts-none close e = refl
+accepts-none (send b) e = refl
+accepts-none timer e = refl
+
+outcome-none : (n : ℕ) (x : Step) → blockIn (x .indication) ≡ [] → blockOf (outcome n x) ≡ []
+unfolding outcome blockOf
+outcome-none zero x h = h
+outcome-none (suc n) x h = refl
+
+refusing-none : (n : ℕ) (o : Outcome Step) → blockOf o ≡ [] → blockOf (refusing n o) ≡ []
+unfolding refusing blockOf
+refusing-none zero o h = h
+refusing-none (suc n) o h = refl
+
+asking-none : (o : Outcome Request) (e : Endpoint) → blockOf (andThen (mapped ask o) (λ (x : Call). perform x e)) ≡ []
+unfolding andThen mapped perform blockOf protocol.request
+asking-none (refused n) e = refl
+asking-none (ok q) e = outcome-none (refusal q e) (accept q e) (accepts-none q e)
+
+pub request-none : (rec s out : List ℕ) → [] ≡ blockOf (performed format rec (request s out))
+unfolding performed asked said
+request-none rec s out = sym (refusing-none _ _ (refusing-none _ _ (asking-none (readRequest s) (format .holds rec))))
+
+-- a block handed up has at most 64 octets, since its frame has at most 78
+refusing-short : (n : ℕ) (o : Outcome Step) → length (blockOf o) ≤ 64 → length (blockOf (refusing n o)) ≤ 64
+unfolding refusing blockOf
+refusing-short zero o h = h
+refusing-short (suc n) o h = omega arith
+
+asked-short : (sound : Bool) (e : Endpoint) (s out : List ℕ) → length s ≤ 78 → length (blockOf (asked sound e (receive s out))) ≤ 64
+asked-short sound e s out h =
+    let r = right sound e s out in
+    by-eq (noticeOf (asked sound e (receive s out))) 5
+    (λ z. omega (arith, ap length (r .some z .0), length-drop 14 s))
+    (λ z. omega (arith, ap length (r .nothing z)))
+
+pub receive-short : (rec s out : List ℕ) → length s ≤ 78 → length (blockOf (performed format rec (receive s out))) ≤ 64
+unfolding performed
+receive-short rec s out h = refusing-short _ _ (asked-short (format .sound rec) (format .holds rec) s out h)
+
+-- the text
+pub gives : (o : Outcome Step) (rec out : List ℕ) {rec′ frame out′ : List ℕ} {number state notice local remote sent r : ℕ} {b : Block}
+    → Lent o rec room rec′ frame number state notice local remote sent → b ≡ blockOf o
+    → Begins (textOf (record { number = number; state = state; notice = notice; local = local; remote = remote }) b (take sent frame)) out out′ r
+    → Gives o rec out rec′ out′ r
+unfolding text told
+gives o rec out {b = b} l h w =
+    let t : record { number = _; state = _; notice = _; local = _; remote = _ } ≡ told rec o = λ i. record { number = l .is-number i; state = l .is-state i; notice = l .is-notice i; local = l .is-local i; remote = l .is-remote i } in
+    record { begins = rw (t, h, sent-taken room o (l .is-out) (l .is-sent)) at w; end = l .is-rec }

@@ -1,0 +1,105 @@
+use Prim.Native.Nat.{ℕ, _≤_}
+use mathlib.Core.Path.{_≡_, refl, sym, ap, _∙_}
+use mathlib.Core.List.{List}
+use denote.Ref.{now}
+use lib.ListN.{length, take, replicate}
+use lib.Seq.{length-take-le}
+use Rattle.hexline.specs.Line.{unhex}
+use Rattle.calls.specs.Calls.{performed}
+use Rattle.link.specs.Record.{format}
+use Rattle.console.specs.Line.{room, callOf}
+use Rattle.console.proofs.Text.{taken}
+use Rattle.console.proofs.Ends.{put-fits}
+use Rattle.console.proofs.Lines.{line-asks, Passed, passed, declined, no-room, with-text}
+use native.Mathlib.Omega.{arith}
+use borrow.Author.Needs.{needs}
+use Rattle.console.proofs.answer.Statement.{statement}
+use Rattle.console.proofs.answer.Tie as tie
+
+-- the octets of the line
+abbrev line : tie.After-ask-arg → List ℕ
+line c = now (c .before .before .before .before .before .before .before .before .before .before .before .args .line)
+
+is-read : (c : tie.After-ask-arg) → Passed (line c) (replicate 78 0) refl (c .before .before .read2 .given .0 .0) (c .before .before .before .before .before .read .last .1 .0)
+is-read c =
+    let r = c .before .before .before .before .before .read in
+    passed (line c) (replicate 78 0) refl _ _ (sym (r .ensures .0) ∙ c .before .before .read2 .given .1) (r .ensures .1)
+
+fits : (c : tie.After-ask-arg) → c .before .before .read2 .given .0 .0 ≤ 78
+fits c = let p = is-read c in omega (arith, p .count, put-fits (replicate 78 0) (unhex (line c)) (p .octets) (search needs))
+
+octets : (c : tie.After-ask-arg) → take (c .before .before .read2 .given .0 .0) (c .before .before .before .before .before .read .last .1 .0) ≡ unhex (line c)
+octets c = let p = is-read c in taken (replicate 78 0) (unhex (line c)) (p .octets) (p .count)
+
+returns : tie.Need-returns
+returns c = let a = c .before .before .before .before .args in no-room (now (a .rec)) (now (a .line)) (now (a .out)) (c .if1 .taken)
+
+slice-aggregate-read : tie.Need-slice-aggregate-read
+slice-aggregate-read c = search needs
+
+read-requires : tie.Need-read-requires
+read-requires c κs = search needs
+
+enum-known-read : tie.Need-enum-known-read
+enum-known-read c = search needs
+
+array-share-prefix-s : tie.Need-array-share-prefix-s
+array-share-prefix-s c = omega (arith, fits c)
+
+slice-aggregate-ask : tie.Need-slice-aggregate-ask
+slice-aggregate-ask c = sym (length-take-le _ _ (omega (arith, fits (c .before))))
+
+ask-requires : tie.Need-ask-requires
+ask-requires c κs = let d = c .before .before in (omega (arith, fits d, is-read d .count, ap length (octets d)), search needs)
+
+enum-known-read-2 : tie.Need-enum-known-read-2
+enum-known-read-2 c = search needs
+
+refuse-requires : tie.Need-refuse-requires
+refuse-requires c κs = search needs
+
+same-length : tie.Need-same-length
+same-length c = search needs
+
+same-length-2 : tie.Need-same-length-2
+same-length-2 c = search needs
+
+returns-2 : tie.Need-returns-2
+returns-2 c =
+    let s = c .before .before .before .before .before .before .before .before .before .before .before .before .before .before .before .before .before .before .args in
+    let d = c .before .before .before .before .before .before .before in
+    with-text (now (s .rec)) (now (s .line)) (now (s .out)) (omega (arith, c .before .before .before .before .before .before .before .before .before .before .before .before .before .before .if1 .left))
+    (rw (line-asks (now (s .rec)) (line d) (is-read d .all-yes)) (rw (octets d) at (c .before .before .before .before .ask .ensures)))
+
+same-length-3 : tie.Need-same-length-3
+same-length-3 c = search needs
+
+same-length-4 : tie.Need-same-length-4
+same-length-4 c = search needs
+
+returns-3 : tie.Need-returns-3
+returns-3 c =
+    let s = c .before .before .before .before .before .before .before .before .before .before .before .before .before .before .before .before .before .args in
+    let r = c .before .before .before .before .before .before .before .before .before .before .before .read in
+    with-text (now (s .rec)) (now (s .line)) (now (s .out)) (omega (arith, c .before .before .before .before .before .before .before .before .before .before .before .before .before .if1 .left))
+    (rw (declined (now (s .line)) (replicate 78 0) refl (now (s .rec)) _ (sym (r .ensures .0) ∙ c .before .before .before .before .before .before .before .before .read3 .given .1)) (c .before .before .before .before .refuse .ensures))
+
+pub answer-spec : {M : Type 1} → statement M
+answer-spec =
+    tie.close
+    (tie.spec
+    returns
+    slice-aggregate-read
+    read-requires
+    enum-known-read
+    array-share-prefix-s
+    slice-aggregate-ask
+    ask-requires
+    enum-known-read-2
+    refuse-requires
+    same-length
+    same-length-2
+    returns-2
+    same-length-3
+    same-length-4
+    returns-3)

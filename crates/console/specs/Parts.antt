@@ -1,0 +1,26 @@
+-- What the private parts of an answer do. No public call's contract needs this.
+use Prim.Native.Nat.{ℕ}
+use mathlib.Core.Path.{_≡_}
+use mathlib.Core.List.{List, [], _∷_}
+use lib.Dec.{leb}
+use lib.ListN.{length}
+use Rattle.octets.specs.Test.{first, Outcome, refused, refusing}
+use Rattle.octets.specs.Octets.{put}
+use Rattle.protocol.specs.Table.{Step}
+use Rattle.calls.specs.Calls.{recordAfter}
+use Rattle.link.specs.Record.{format}
+use Rattle.console.specs.Text.{text}
+
+-- s stands at the start of the buffer, and n is its length
+pub record Begins (s out out′ : List ℕ) (n : ℕ) : Type 0 where
+  pub count : n ≡ length s
+  pub buffer : out′ ≡ put out 0 s
+
+-- a line refused with this number, after 11 and 12 of the record
+unfoldable pub refusedLine : List ℕ → ℕ → Outcome Step
+refusedLine rec n = refusing (first ((11, leb (format .size) (length rec)) ∷ (12, format .sound rec) ∷ [])) (refused n)
+
+-- the text of an outcome stands there, and the record is as the outcome leaves it
+pub record Gives (o : Outcome Step) (rec out rec′ out′ : List ℕ) (n : ℕ) : Type 0 where
+  pub begins : Begins (text rec o) out out′ n
+  pub end : rec′ ≡ recordAfter format rec o

@@ -1,0 +1,55 @@
+use Prim.Native.Nat.{_-_}
+use mathlib.Core.Path.{sym}
+use lib.ListN.{length}
+use denote.Ref.{now}
+use lib.Seq.{length-take-le}
+use Rattle.stream.proofs.Lines.{keeps-all, keeps-some}
+use native.Mathlib.Omega.{arith}
+use borrow.Author.Needs.{needs}
+use Rattle.stream.proofs.keep.Statement.{statement}
+use Rattle.stream.proofs.keep.Tie as tie
+
+sub-room : tie.Need-sub-room
+sub-room c = search needs
+
+copy-requires : tie.Need-copy-requires
+copy-requires c κs = search needs
+
+add-result : tie.Need-add-result
+add-result c = search needs
+
+same-length : tie.Need-same-length
+same-length c = search needs
+
+returns : tie.Need-returns
+returns c = let a = c .before .before .before .before .before .before .before .args in keeps-all (now (a .line)) (now (a .piece)) (a .n) (omega arith) (c .before .before .copy .ensures)
+
+slice-aggregate-copy : tie.Need-slice-aggregate-copy
+slice-aggregate-copy c = sym (length-take-le _ _ (omega arith))
+
+copy-requires-2 : tie.Need-copy-requires-2
+copy-requires-2 c κs = let a = c .before .before .before .before .before .args in omega (arith, length-take-le (length (now (a .line)) - a .n) (now (a .piece)) (omega arith))
+
+add-result-2 : tie.Need-add-result-2
+add-result-2 c = search needs
+
+same-length-2 : tie.Need-same-length-2
+same-length-2 c = search needs
+
+returns-2 : tie.Need-returns-2
+returns-2 c = let a = c .before .before .before .before .before .before .before .before .args in keeps-some (now (a .line)) (now (a .piece)) (a .n) (omega arith) (c .before .before .copy2 .ensures)
+
+pub keep-spec : {M : Type 1} → statement M
+keep-spec =
+    tie.close
+    (tie.spec
+    sub-room
+    copy-requires
+    add-result
+    same-length
+    returns
+    slice-aggregate-copy
+    copy-requires-2
+    add-result-2
+    same-length-2
+    returns-2)
