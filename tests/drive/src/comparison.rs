@@ -78,7 +78,7 @@ impl Comparison {
 }
 
 /// The number of an answer of the reference.
-fn number_of(answer: &[u8]) -> u8 {
+pub fn number_of(answer: &[u8]) -> u8 {
     let first = line::read(&answer[..2]).expect("an answer line starts with two digits");
     first[0] - 0x80
 }
@@ -104,7 +104,7 @@ impl<'a> Iterator for Answers<'a> {
 
 /// Bytes shown as text; of very many only the first are shown.
 #[derive(PartialEq)]
-struct Text<'a>(&'a [u8]);
+pub struct Text<'a>(pub &'a [u8]);
 
 impl fmt::Debug for Text<'_> {
     fn fmt(&self, out: &mut fmt::Formatter) -> fmt::Result {

@@ -4,17 +4,9 @@
 //! The command line names the program. Number 9 is never expected: no script is long enough to
 //! use up the numbers of an end that starts fresh.
 
-mod altered;
-mod comparison;
-mod end;
-mod nearby;
-mod odd;
-mod program;
-mod script;
-mod sessions;
-
 use cases::group::{Group, Score};
-use comparison::Comparison;
+use drive::comparison::Comparison;
+use drive::{altered, nearby, odd, sessions, typed};
 use std::env;
 use std::process::ExitCode;
 
@@ -23,6 +15,7 @@ fn main() -> ExitCode {
         eprintln!("usage: drive PROGRAM");
         return ExitCode::FAILURE;
     };
+    let typed = typed::group(&program);
     let mut comparison = Comparison::new(program);
     let groups = [
         comparison.group("sessions", &[0, 8, 10], sessions::scripts()),
@@ -33,6 +26,7 @@ fn main() -> ExitCode {
             altered::scripts(),
         ),
         comparison.group("odd input", &[0, 1, 2, 3, 4, 5, 6, 7, 8], odd::scripts()),
+        typed,
     ];
     let lines: Score = groups.iter().map(Group::report).sum();
     let steps = comparison.coverage.report();

@@ -1,0 +1,11 @@
+//! What is asked of a line program for one end, and how its answers are compared.
+
+pub mod altered;
+pub mod comparison;
+mod end;
+pub mod nearby;
+pub mod odd;
+pub mod program;
+pub mod script;
+pub mod sessions;
+pub mod typed;
