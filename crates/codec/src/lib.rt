@@ -44,9 +44,9 @@ fn read_known(known: u8, s: &[u8]) -> InputRead
     ensures { λ r. ⌜ inputRead r (now (s .entry)) ≡ readKnown known (now (s .entry)) ⌝ }
 {
     match known {
-        1 => frame::frame_input(frame::read_frame(s)),
-        2 => frame::request_input(frame::read_request(s)),
-        3 => frame::read_input(s),
+        1 => reader::frame_input(reader::read_frame(s)),
+        2 => reader::request_input(reader::read_request(s)),
+        3 => reader::read_input(s),
         _ => InputRead::Refused(3),
     }
 }

@@ -1,11 +1,11 @@
 -- From what a call on a lent record answers to the text of its outcome. Assumes nothing.
 use Prim.Native.Nat.{ℕ, zero, suc, _+_, _≤_}
-use mathlib.Core.Path.{_≡_, refl, sym, ap, _∙_}
+use mathlib.Core.Path.{_≡_, refl, sym, ap}
 use mathlib.Core.Bool.{Bool}
 use mathlib.Core.List.{List, []}
 use native.Mathlib.Omega.{arith}
 use lib.ListN.{length, take, drop, length-append, length-drop}
-use Rattle.octets.specs.Test.{first, Outcome, refused, ok, outcome, refusing, mapped, andThen}
+use Rattle.octets.specs.Test.{Outcome, refused, ok, outcome, refusing, mapped, andThen}
 use Rattle.octets.specs.Octets.{put, left}
 use Rattle.octets.proofs.Test.{by-eq}
 use Rattle.frame.specs.Frame.{Block, Request, connect, listen, endListening, close, timer, send}
@@ -15,11 +15,10 @@ use Rattle.protocol.specs.Table.{Step}
 use Rattle.protocol.specs.Requests.{refusal, accept}
 use Rattle.protocol.specs.Requests as protocol
 use Rattle.protocol.specs.Network.{ask, Call, perform}
-use Rattle.calls.specs.Calls.{request, receive, ownQuestions, said, asked, wire, performed, bufferAfter}
+use Rattle.calls.specs.Calls.{request, receive, said, asked, wire, performed, bufferAfter}
 use Rattle.link.specs.Record.{format}
 use Rattle.link.specs.Lent.{noticeOf, sentOf, blockIn, blockOf, Lent}
 use Rattle.link.proofs.Up.{right}
-use Rattle.console.specs.declared.Told.{Told}
 use Rattle.console.specs.Line.{room}
 use Rattle.console.specs.Text.{textOf, told, sentIn, text}
 use Rattle.console.specs.Parts.{Begins, Gives}

@@ -9,12 +9,11 @@ use lib.Dec.{leb}
 use lib.ListN.{length}
 use Rattle.octets.specs.Test.{when, ifEq, inRange, first, Outcome, refused, ok, outcome, refusing, mapped, andThen, numberOf}
 use Rattle.frame.specs.Read.{kindOf, readRequest}
-use Rattle.calls.specs.Calls.{Call, buffer, request, receive, said, asked, performed, recordAfter, bufferAfter}
+use Rattle.calls.specs.Calls.{buffer, request, receive, said, asked, performed, recordAfter, bufferAfter}
 use Rattle.link.specs.Record.{format}
 use Rattle.console.specs.Line.{room, callOf, lineOutcome}
 use Rattle.console.specs.Parts.{refusedLine}
 use Rattle.octets.specs.Octets.{put, left}
-use Rattle.octets.proofs.Test.{eq-yes, eq-no}
 use Rattle.hexline.specs.Line.{unhex, lineQuestions, readInto, lineOf}
 use Rattle.hexline.specs.declared.Line.the-variants.{Decoded, Refused}
 use Rattle.frame.specs.Layout.{isRequest}

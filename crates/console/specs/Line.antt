@@ -1,6 +1,6 @@
 -- What a line comes to at one end.
 use Prim.Native.Nat.{ℕ}
-use mathlib.Core.List.{List, [], _∷_}
+use mathlib.Core.List.{List, _∷_}
 use lib.Dec.{leb}
 use lib.ListN.{length, replicate}
 use Rattle.octets.specs.Sizes.{longestFrame}

@@ -149,7 +149,7 @@ fn ask(rec: &mut [u8], s: &[u8], out: &mut [u8]) -> usize
     requires { ⌜ (length (now s) ≤ longestFrame) × (answerRoom ≤ length (now out)) ⌝ }
     ensures { λ r. ⌜ Gives (performed format (now (rec .entry)) (callOf (now (s .entry)))) (now (rec .entry)) (now (out .entry)) (now (rec .exit)) (now (out .exit)) r ⌝ }
 {
-    let class = frame::class_of(s);
+    let class = reader::class_of(s);
     match class {
         Class::Frame => deliver(rec, s, out),
         Class::Request => request(rec, s, out),

@@ -1,6 +1,5 @@
 // The line program: one end, asked by lines of standard input, answered on standard output.
 use console::Reply;
-ghost use mathlib.Core.Path.{_≡_};
 ghost use Prim.Native.Nat.{_+_, _≤_};
 ghost use lib.ListN.{length};
 ghost use Rattle.line.specs.Held.{Held};

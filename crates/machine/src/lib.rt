@@ -311,7 +311,7 @@ pub fn request(e: Endpoint, s: &[u8], out: &mut [u8]) -> Answer
     if !endpoint::is_sound(e) {
         return refuse(e, 12);
     }
-    let read = frame::read_request(s);
+    let read = reader::read_request(s);
     match read {
         RequestRead::Request(kind) => perform(kind, e, s, out),
         RequestRead::Refused(number) => refuse(e, number),
@@ -470,7 +470,7 @@ pub fn receive(e: Endpoint, s: &[u8], out: &mut [u8]) -> Answer
     if !endpoint::is_sound(e) {
         return refuse(e, 12);
     }
-    let read = frame::read_frame(s);
+    let read = reader::read_frame(s);
     match read {
         FrameRead::Frame(header) => {
             let f = frame::values_of(header);

@@ -5,9 +5,6 @@ use denote.Ref.{now}
 use lib.ListN.{length, take, replicate}
 use lib.Seq.{length-take-le}
 use Rattle.hexline.specs.Line.{unhex}
-use Rattle.calls.specs.Calls.{performed}
-use Rattle.link.specs.Record.{format}
-use Rattle.console.specs.Line.{room, callOf}
 use Rattle.console.proofs.Text.{taken}
 use Rattle.console.proofs.Ends.{put-fits}
 use Rattle.console.proofs.Lines.{line-asks, Passed, passed, declined, no-room, with-text}

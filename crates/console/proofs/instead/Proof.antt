@@ -1,4 +1,3 @@
-use borrow.Author.Needs.{needs}
 use Rattle.octets.proofs.Test.{picks}
 use Rattle.console.proofs.instead.Statement.{statement}
 use Rattle.console.proofs.instead.Tie as tie

@@ -3,14 +3,14 @@ use borrow.Author.Tests.{eq-eqb, ne-eqb}
 use lib.ListN.{length}
 use denote.Ref.{now}
 use Rattle.octets.specs.Test.{when, ifEq}
 use Rattle.frame.specs.Read.{kindOf, requestAt}
 use Rattle.frame.specs.Answer.{requestOf, requestRead}
 use Rattle.frame.proofs.Classes.{some, request-range}
 use Rattle.frame.proofs.Reading.{request-read}
 use native.Mathlib.Omega.{arith}
 use borrow.Author.Needs.{needs}
-use Rattle.frame.proofs.known_request.Statement.{statement}
-use Rattle.frame.proofs.known_request.Tie as tie
+use Rattle.reader.proofs.known_request.Statement.{statement}
+use Rattle.reader.proofs.known_request.Tie as tie
 
 shared-slice-read-kind : tie.Need-shared-slice-read-kind
 shared-slice-read-kind c =
