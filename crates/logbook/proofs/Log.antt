@@ -1,0 +1,50 @@
+-- Places of the log. Assumes nothing.
+use Prim.Native.Nat.{ℕ, zero, suc, _+_, _-_, _*_, _≤_, _<_}
+use mathlib.Core.Path.{_≡_, refl, sym, ap, _∙_}
+use mathlib.Core.Bool.{false}
+use mathlib.Core.List.{List, [], _∷_, _++_}
+use native.Mathlib.Omega.{arith}
+use borrow.Author.Tests.{le-ltb, lt-ltb}
+use lib.ListN.{length, take, drop, replicate, length-append, length-drop}
+use lib.Seq.{take-length}
+use Rattle.octets.specs.Octets.{put}
+use Rattle.octets.proofs.Octets.{put-more}
+use Rattle.endpoint.specs.View.{padded}
+use Rattle.logbook.specs.Log.{holds, place}
+
+-- a number that is too high
+pub too-high : (count n : ℕ) (log : List ℕ) → count ≤ n → false ≡ holds count n log
+unfolding holds
+too-high count n log h = rw (le-ltb n count h) refl
+
+-- the rest of a list of zeros
+abbrev zeros : ℕ → List ℕ
+zeros n = replicate n 0
+
+rest-zeros : (n k : ℕ) → drop k (zeros n) ≡ zeros (n - k)
+rest-zeros n zero = let e : n ≡ n - 0 = omega arith in ap zeros e
+rest-zeros zero (suc k) = let e : 0 ≡ 0 - suc k = omega arith in ap zeros e
+rest-zeros (suc n) (suc k) = let e : n - k ≡ suc n - suc k = omega arith in rest-zeros n k ∙ ap zeros e
+
+length-zeros : (n : ℕ) → length (zeros n) ≡ n
+length-zeros zero = refl
+length-zeros (suc n) = ap suc (length-zeros n)
+
+pub zeros-from : (k : ℕ) → k ≤ 78 → take (78 - k) (drop k (zeros 78)) ≡ zeros (78 - k)
+zeros-from k h = rw (rest-zeros 78 k) (ap (λ (n : ℕ). take n (zeros (78 - k))) (sym (length-zeros (78 - k))) ∙ take-length (zeros (78 - k)))
+
+pub length-rest : (k : ℕ) → k ≤ 78 → length (take (78 - k) (drop k (zeros 78))) ≡ 78 - k
+length-rest k h = ap length (zeros-from k h) ∙ length-zeros (78 - k)
+
+-- sender, length, frame, zeros, one after the other
+pub entered : (d frame : List ℕ) (at sender : ℕ) → length frame ≤ 78 → at + 80 ≤ length d → {w x y z : List ℕ} → w ≡ put d at (sender ∷ [])
+    → x ≡ put w (at + 1) (length frame ∷ []) → y ≡ put x (at + 2) frame → z ≡ put y (at + 2 + length frame) (take (78 - length frame) (drop (length frame) (zeros 78)))
+    → z ≡ put d at (place sender frame)
+unfolding place padded
+entered d s at sender h l {w} {x} {y} {z} ew ex ey ez =
+    let n = length s in
+    let x2 : x ≡ put d at (sender ∷ n ∷ []) = ex ∙ ap (λ (t : List ℕ). put t (at + 1) (n ∷ [])) ew ∙ put-more d (sender ∷ []) (n ∷ []) at (omega arith) in
+    let y2 : y ≡ put d at (sender ∷ n ∷ s) = ey ∙ ap (λ (t : List ℕ). put t (at + 2) s) x2 ∙ put-more d (sender ∷ n ∷ []) s at (omega arith) in
+    let k : at + length (sender ∷ n ∷ s) ≡ at + 2 + n = omega arith in
+    ez ∙ ap (λ (t : List ℕ). put t (at + 2 + n) (take (78 - n) (drop n (zeros 78)))) y2
+    ∙ rw (zeros-from n h) (rw k at (put-more d (sender ∷ n ∷ s) (zeros (78 - n)) at (omega (arith, k))))

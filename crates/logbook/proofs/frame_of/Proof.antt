@@ -1,0 +1,64 @@
+use Prim.Native.Nat.{ℕ, _+_, _-_, _*_}
+use mathlib.Core.Path.{_≡_, ap}
+use denote.Ref.{now}
+use lib.ListN.{take, drop}
+use Rattle.logbook.specs.Log.{lengthAt, frameAt}
+use native.Mathlib.Omega.{arith}
+use borrow.Author.Needs.{needs}
+use Rattle.logbook.proofs.frame_of.Statement.{statement}
+use Rattle.logbook.proofs.frame_of.Tie as tie
+
+mul-at : tie.Need-mul-at
+mul-at c = search needs
+
+add-at : tie.Need-add-at
+add-at c = search needs
+
+mul-wide : tie.Need-mul-wide
+mul-wide c = search needs
+
+add-wide : tie.Need-add-wide
+add-wide c = search needs
+
+shared-slice-read-wide : tie.Need-shared-slice-read-wide
+shared-slice-read-wide c = search needs
+
+wide-requires : tie.Need-wide-requires
+wide-requires c κs = search needs
+
+add-end : tie.Need-add-end
+add-end c = search needs
+
+sub-result : tie.Need-sub-result
+sub-result c = search needs
+
+part-result-start : tie.Need-part-result-start
+part-result-start c = search needs
+
+part-result-end : tie.Need-part-result-end
+unfolding lengthAt
+part-result-end c = omega (arith, c .wide .ensures .0, c .before .before .before .pre .1 .1)
+
+returns : tie.Need-returns
+unfolding lengthAt frameAt
+returns c =
+    let a = c .before .before .before .before .args in
+    let at = a .n * 80 + 2 in
+    let n : at + c .before .wide .result - at ≡ lengthAt (a .n) (now (a .log)) = omega (arith, c .before .wide .ensures .0) in
+    ap (λ (k : ℕ). take k (drop at (now (a .log)))) n
+
+pub frame-of-spec : {M : Type 1} → statement M
+frame-of-spec =
+    tie.close
+    (tie.spec
+    mul-at
+    add-at
+    mul-wide
+    add-wide
+    shared-slice-read-wide
+    wide-requires
+    add-end
+    sub-result
+    part-result-start
+    part-result-end
+    returns)
