@@ -29,7 +29,7 @@ ghost use Rattle.decide.specs.Rows.{carrying};
 ghost use Rattle.endpoint.specs.View.{pack, view};
 ghost use Rattle.endpoint.specs.Sound.{sound};
 ghost use Rattle.machine.specs.Calls.{requestOutcome, receiveOutcome, answerOf, Answered};
-ghost use Rattle.machine.specs.Parts.{Said, silently};
+ghost use Rattle.machine.specs.Parts.{numbersOf, Said, silently};
 
 // The largest number of 32 bits: after it none is left.
 const LAST_NUMBER: u32 = 4294967295;
@@ -46,6 +46,19 @@ pub const CLOSED_BY_PARTNER: u8 = 3;
 pub const CLOSE_FINISHED: u8 = 4;
 
 pub const HANDED_UP: u8 = 5;
+
+fn numbers_of(e: Endpoint) -> Numbers
+    ensures { λ r. ⌜ r ≡ numbersOf e ⌝ }
+{
+    Numbers {
+        state: e.state,
+        local: e.local,
+        remote: e.remote,
+        accepted: e.accepted,
+        delivered: e.delivered,
+        waiting: e.waiting,
+    }
+}
 
 // The next incarnation in this state, with no partner known.
 fn begun(e: Endpoint, state: u8) -> Endpoint
@@ -308,7 +321,7 @@ pub fn request(e: Endpoint, s: &[u8], out: &mut [u8]) -> Answer
     if out.len() < Endpoint::LONGEST_FRAME {
         return refuse(e, 11);
     }
-    if !endpoint::is_sound(e) {
+    if !endpoint::is_sound(numbers_of(e), &e.lengths, &e.blocks) {
         return refuse(e, 12);
     }
     let read = frame::read_request(s);
@@ -448,15 +461,7 @@ fn hear(e: Endpoint, f: Values, out: &mut [u8]) -> Answer
     requires { ⌜ (sound e ≡ true) × ((longestFrame ≤ length (now out)) × (f .kind ≡ 8 → f .number < lastNumber)) ⌝ }
     ensures { λ r. ⌜ ((b : Block) → Answered e (ok (step (view e) (carrying f b))) (now (out .entry)) (now (out .exit)) r) ⌝ }
 {
-    let numbers = Numbers {
-        state: e.state,
-        local: e.local,
-        remote: e.remote,
-        accepted: e.accepted,
-        delivered: e.delivered,
-        waiting: e.waiting,
-    };
-    let row = decide::choose(numbers, f);
+    let row = decide::choose(numbers_of(e), f);
     apply(row, e, f, out)
 }
 
@@ -467,7 +472,7 @@ pub fn receive(e: Endpoint, s: &[u8], out: &mut [u8]) -> Answer
     if out.len() < Endpoint::LONGEST_FRAME {
         return refuse(e, 11);
     }
-    if !endpoint::is_sound(e) {
+    if !endpoint::is_sound(numbers_of(e), &e.lengths, &e.blocks) {
         return refuse(e, 12);
     }
     let read = frame::read_frame(s);

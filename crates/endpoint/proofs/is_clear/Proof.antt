@@ -1,32 +1,29 @@
-use mathlib.Core.Path.{_≡_}
-use Prim.Native.Nat.{_≤_, _-_, _*_}
-use lib.ListN.{length, take}
+use mathlib.Core.Path.{_≡_, sym, ap, _∙_}
+use mathlib.Core.Bool.{Bool, _&&_}
+use Prim.Native.Nat.{_≤_, _-_}
+use lib.Dec.{eqb}
+use lib.ListN.{length, take, getD}
 use lib.Seq.{take-length}
 use denote.Ref.{now}
-use Rattle.endpoint.proofs.Tests.{total, total-more, zeros-total}
+use Rattle.endpoint.specs.Sound.{zeros}
+use Rattle.endpoint.proofs.Tests.{zeros-more}
 use borrow.Author.Needs.{needs}
 use native.Mathlib.Omega.{arith}
 use Rattle.endpoint.proofs.is_clear.Statement.{statement}
 use Rattle.endpoint.proofs.is_clear.Tie as tie
 
 abbrev Inv-loop : tie.InvT-loop
-Inv-loop s sum₀ i₀ sum i = (i ≤ length s) × ((sum ≡ total (take i s)) × (sum ≤ 255 * i))
+Inv-loop s ok₀ i₀ ok i = (i ≤ length s) × (ok ≡ zeros (take i s))
 
 abbrev μ-loop : tie.MeasureT-loop
-μ-loop s sum₀ i₀ sum i = length s - i
+μ-loop s ok₀ i₀ ok i = length s - i
 
 loop-holds : tie.Need-loop-holds Inv-loop μ-loop
-unfolding total
+unfolding zeros
 loop-holds c = search needs
 
-shared-slice-read-wide32 : tie.Need-shared-slice-read-wide32 Inv-loop μ-loop
-shared-slice-read-wide32 c = search needs
-
-wide32-requires : tie.Need-wide32-requires Inv-loop μ-loop
-wide32-requires c κs = search needs
-
-add-sum : tie.Need-add-sum Inv-loop μ-loop
-add-sum c = search needs
+shared-slice-read-ok : tie.Need-shared-slice-read-ok Inv-loop μ-loop
+shared-slice-read-ok c = search needs
 
 add-i : tie.Need-add-i Inv-loop μ-loop
 add-i c = search needs
@@ -36,16 +33,16 @@ loop-less c = search needs
 
 loop-again : tie.Need-loop-again Inv-loop μ-loop
 loop-again c =
-    let l = c .before .before .before in
-    omega (arith, total-more (now (l .before .before .args .s)) (l .loop .i) (omega arith))
+    let l = c .before .before in
+    let s = now (l .before .args .s) in
+    (search needs, ap (λ (b : Bool). b && eqb (getD s (l .loop .i) 0) 0) (l .loop .inv .1) ∙ zeros-more s (l .loop .i) (omega arith))
 
 returns : tie.Need-returns Inv-loop μ-loop
 returns c =
     let l = c .before in
-    let s = now (l .before .before .args .s) in
+    let s = now (l .before .args .s) in
     let e : l .loop .i ≡ length s = omega arith in
-    let z : l .loop .sum ≡ total s = rw (e, take-length) at (l .loop .inv .1 .0) in
-    rw z (zeros-total s)
+    rw (e, take-length) at (l .loop .inv .1)
 
 pub is-clear-spec : {M : Type 1} → statement M
 is-clear-spec =
@@ -54,9 +51,7 @@ is-clear-spec =
     Inv-loop
     μ-loop
     loop-holds
-    shared-slice-read-wide32
-    wide32-requires
-    add-sum
+    shared-slice-read-ok
     add-i
     loop-less
     loop-again
