@@ -6,10 +6,12 @@ use lib.Dec.{leb, eqb}
 use lib.ListN.{getD}
 use Rattle.octets.specs.Sizes.{longestBlock, queueSize}
 use Rattle.octets.specs.Test.{when, inRange}
+use Rattle.octets.specs.Octets.{lay}
 use Rattle.protocol.specs.Endpoint.{closed, listening, passiveOpening, established, allOf}
 use Rattle.decide.specs.declared.Numbers.{Numbers}
 use Rattle.endpoint.specs.declared.Endpoint.{Endpoint}
 use Rattle.endpoint.specs.Sound.{zeros, unusedAt}
+use Rattle.endpoint.specs.Record.{numbersLayout}
 
 -- the tests of soundness that concern the numbers alone: state, L, D, t, e, w
 unfoldable pub numbersOk : ℕ → ℕ → ℕ → ℕ → ℕ → ℕ → Bool
@@ -41,3 +43,11 @@ recordOf n l b =
       lengths = l;
       blocks = b;
     }
+
+-- its numbers, and their octets, 18 of them
+abbrev pub numbersOf : Endpoint → Numbers
+numbersOf e =
+    record { state = e .state; local = e .local; remote = e .remote; accepted = e .accepted; delivered = e .delivered; waiting = e .waiting }
+
+unfoldable pub numbersIn : Numbers → List ℕ
+numbersIn n = lay numbersLayout (n .state ∷ n .local ∷ n .remote ∷ n .accepted ∷ n .delivered ∷ n .waiting ∷ [])

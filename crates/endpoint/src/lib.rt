@@ -7,16 +7,16 @@ use decide::Numbers;
 use decide::PASSIVE_OPENING;
 ghost use mathlib.Core.Path.{_≡_};
 ghost use mathlib.Core.Bool.{_&&_};
-ghost use Prim.Native.Nat.{_≤_, _<_};
+ghost use Prim.Native.Nat.{_+_, _≤_, _<_};
 ghost use lib.ListN.{length};
 ghost use Rattle.octets.specs.Sizes.{queueSize};
 ghost use Rattle.octets.specs.Test.{when};
-ghost use Rattle.octets.specs.Octets.{put};
+ghost use Rattle.octets.specs.Octets.{put, bytes};
 ghost use Rattle.protocol.specs.Endpoint as abstract;
 ghost use Rattle.endpoint.specs.View.{placesSize, pack};
 ghost use Rattle.endpoint.specs.Sound.{zeros, lengthsOk, unusedOk, sound};
 ghost use Rattle.endpoint.specs.Record.{recordSize, encode, decode};
-ghost use Rattle.endpoint.specs.Parts.{numbersOk, placeOk, recordOf};
+ghost use Rattle.endpoint.specs.Parts.{numbersOk, placeOk, recordOf, numbersOf, numbersIn};
 
 // Document 01's record of an end: L and D are local and remote, t is accepted, e is delivered, w is waiting.
 pub struct Endpoint {
@@ -163,40 +163,66 @@ pub fn is_sound<'a>(n: Numbers, lengths: &'a [u8], blocks: &'a [u8]) -> bool
     places_ok(wide(n.waiting), lengths, blocks)
 }
 
-// Writes the record's 538 octets at the start of out. No other octet of out changes.
-pub fn encode(e: Endpoint, out: &mut [u8])
-    requires { ⌜ recordSize ≤ length (now out) ⌝ }
-    ensures { λ _. ⌜ now (out .exit) ≡ put (now (out .entry)) 0 (encode e) ⌝ }
+pub fn numbers_of(e: Endpoint) -> Numbers
+    ensures { λ r. ⌜ r ≡ numbersOf e ⌝ }
 {
-    octets::store8(out, 0, e.state);
-    octets::store32(out, 1, e.local);
-    octets::store32(out, 5, e.remote);
-    octets::store32(out, 9, e.accepted);
-    octets::store32(out, 13, e.delivered);
-    octets::store8(out, 17, e.waiting);
-    let lengths = e.lengths;
-    octets::copy(out, 18, &lengths);
-    let blocks = e.blocks;
-    octets::copy(out, 26, &blocks);
+    Numbers {
+        state: e.state,
+        local: e.local,
+        remote: e.remote,
+        accepted: e.accepted,
+        delivered: e.delivered,
+        waiting: e.waiting,
+    }
 }
 
-// The record in the first 538 octets of s.
-pub fn decode(s: &[u8]) -> Endpoint
+// The numbers of the record in the first 538 octets of s.
+pub fn load_numbers(s: &[u8]) -> Numbers
     requires { ⌜ recordSize ≤ length (now s) ⌝ }
-    ensures { λ r. ⌜ r ≡ decode (now (s .entry)) ⌝ }
+    ensures { λ r. ⌜ r ≡ numbersOf (decode (now (s .entry))) ⌝ }
 {
-    let mut lengths = [0u8; 8];
-    octets::copy(&mut lengths, 0, &s[18..26]);
-    let mut blocks = [0u8; 512];
-    octets::copy(&mut blocks, 0, &s[26..538]);
-    Endpoint {
+    Numbers {
         state: s[0],
         local: octets::load32(s, 1),
         remote: octets::load32(s, 5),
         accepted: octets::load32(s, 9),
         delivered: octets::load32(s, 13),
         waiting: s[17],
-        lengths,
-        blocks,
     }
+}
+
+// Writes x into the four octets of d from at, where they do not hold it yet.
+fn change32(d: &mut [u8], at: usize, x: u32)
+    requires { ⌜ at + 4 ≤ length (now d) ⌝ }
+    ensures { λ _. ⌜ now (d .exit) ≡ put (now (d .entry)) at (bytes 4 x) ⌝ }
+{
+    if octets::load32(d, at) == x {
+        return;
+    }
+    octets::store32(d, at, x);
+}
+
+// Writes the numbers of a record at the start of out.
+pub fn store_numbers(n: Numbers, out: &mut [u8])
+    requires { ⌜ recordSize ≤ length (now out) ⌝ }
+    ensures { λ _. ⌜ now (out .exit) ≡ put (now (out .entry)) 0 (numbersIn n) ⌝ }
+{
+    octets::store8(out, 0, n.state);
+    change32(out, 1, n.local);
+    change32(out, 5, n.remote);
+    change32(out, 9, n.accepted);
+    change32(out, 13, n.delivered);
+    octets::store8(out, 17, n.waiting);
+}
+
+// Writes the record's 538 octets at the start of out. No other octet of out changes.
+pub fn encode(e: Endpoint, out: &mut [u8])
+    requires { ⌜ recordSize ≤ length (now out) ⌝ }
+    ensures { λ _. ⌜ now (out .exit) ≡ put (now (out .entry)) 0 (encode e) ⌝ }
+{
+    store_numbers(numbers_of(e), out);
+    let lengths = e.lengths;
+    octets::copy(out, 18, &lengths);
+    let blocks = e.blocks;
+    octets::copy(out, 26, &blocks);
 }
