@@ -16,11 +16,12 @@ use Rattle.protocol.specs.Requests.{refusal, accept}
 use Rattle.protocol.specs.Requests as protocol
 use Rattle.protocol.specs.Network.{ask, Call, perform}
 use Rattle.calls.specs.Calls.{request, receive, said, asked, wire, performed, bufferAfter}
+use Rattle.plan.specs.Plan.{noticeOf, sentIn}
 use Rattle.link.specs.Record.{format}
-use Rattle.link.specs.Lent.{noticeOf, sentOf, blockIn, blockOf, Lent}
+use Rattle.link.specs.Lent.{sentOf, blockIn, blockOf, Lent}
 use Rattle.link.proofs.Up.{right}
 use Rattle.console.specs.Line.{room}
-use Rattle.console.specs.Text.{textOf, told, sentIn, text}
+use Rattle.console.specs.Text.{textOf, told, text}
 use Rattle.console.specs.Parts.{Begins, Gives}
 use Rattle.console.proofs.Text.{taken}
 
@@ -35,8 +36,8 @@ unfolding sentOf bufferAfter mapped left
 sent-fits d (refused k) e l h = omega arith
 sent-fits d (ok y) e l h = omega (arith, put-fits d (wire (y .sent)) e l)
 
-sent-taken : (d : List ℕ) (o : Outcome Step) {x : List ℕ} {n : ℕ} → x ≡ bufferAfter d o → n ≡ sentOf o → take n x ≡ sentIn o
-unfolding sentOf sentIn bufferAfter mapped left
+sent-taken : (d : List ℕ) (o : Outcome Step) {x : List ℕ} {n : ℕ} → x ≡ bufferAfter d o → n ≡ sentOf o → take n x ≡ wire (sentIn o)
+unfolding sentOf sentIn wire bufferAfter mapped left
 sent-taken d (refused k) e h = rw h refl
 sent-taken d (ok y) e h = taken d (wire (y .sent)) e h
 

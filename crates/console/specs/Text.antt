@@ -10,8 +10,9 @@ use Rattle.hexline.specs.Line.{hex}
 use Rattle.frame.specs.Frame.{Block}
 use Rattle.protocol.specs.Table.{Step}
 use Rattle.calls.specs.Calls.{wire, recordAfter}
+use Rattle.plan.specs.Plan.{noticeOf, sentIn}
 use Rattle.link.specs.Record.{format}
-use Rattle.link.specs.Lent.{noticeOf, blockOf, toldOf}
+use Rattle.link.specs.Lent.{blockOf, toldOf}
 use Rattle.console.specs.declared.Reply.{Reply}
 use Rattle.console.specs.declared.Reply.the-variants.{Written, Refused}
 use Rattle.console.specs.declared.Told.{Told}
@@ -39,7 +40,7 @@ frameLine (b ∷ s) = asLine (b ∷ s)
 unfoldable pub textOf : Told → Block → List ℕ → List ℕ
 textOf t block sent = asLine (answerOctets t block) ++ frameLine sent
 
--- what is told of a call's outcome, and the octets that it sends
+-- what is told of a call's outcome
 unfoldable pub told : List ℕ → Outcome Step → Told
 told rec o =
     record {
@@ -50,12 +51,8 @@ told rec o =
       remote = toldOf rec o .remote;
     }
 
-unfoldable pub sentIn : Outcome Step → List ℕ
-sentIn (refused n) = []
-sentIn (ok x) = wire (x .sent)
-
 unfoldable pub text : List ℕ → Outcome Step → List ℕ
-text rec o = textOf (told rec o) (blockOf o) (sentIn o)
+text rec o = textOf (told rec o) (blockOf o) (wire (sentIn o))
 
 -- The room that an answer asks for: 153 characters for the answer line with the longest block, 157 for the longest frame's.
 abbrev pub answerRoom : ℕ

@@ -3,17 +3,13 @@ use mathlib.Core.Path.{_≡_, refl, sym, ap, ap₂, _∙_}
 use mathlib.Core.List.{List, [], _∷_, _++_, append-nil, append-assoc}
 use Prim.Native.Nat.{ℕ, zero, suc, _+_, _-_, _*_, _/_, _%_, _≤_, _<_}
 use native.Mathlib.Omega.{arith}
-use lib.ListN.{length, take, drop, getD, set, replicate, length-append, length-drop, List·getD-append}
+use lib.ListN.{length, take, drop, getD, replicate, length-append, length-drop, List·getD-append}
 use lib.Seq.{take-at, drop-at, take-length, take-suc, take-add, take-take, drop-cons, drop-drop, drop-nil, getD-take, getD-drop, drop-append-le, length-take-le}
 use Rattle.octets.specs.Octets.{put}
-use Rattle.octets.proofs.Octets.{put-sets}
-use Rattle.frame.specs.Frame.{Block, dataFrame}
+use Rattle.frame.specs.Frame.{Block}
 use Rattle.protocol.specs.Endpoint as abstract
-use Rattle.protocol.specs.Table.{nothing, frame, delivering, releasing}
-use Rattle.protocol.specs.Requests.{queueing, oldest}
 use Rattle.endpoint.specs.declared.Endpoint.{Endpoint}
 use Rattle.endpoint.specs.View.{padded, places, lengthsOf, pack, tab, blockAt, view}
-use Rattle.endpoint.proofs.Queue.{dropped, added}
 use Rattle.endpoint.proofs.Pad.{length-padded, put-padded, padded-padded, drop-padded, padded-is}
 
 -- every block has at most 64 bytes
@@ -61,41 +57,33 @@ drop-places (suc k) (b ∷ q) h =
     (drop-places k q (h .1))
 
 -- a block joins
-pub pack-added : (a : abstract.Endpoint) (b : Block) → Small (a .queue) → length (a .queue) < 8 → length b ≤ 64 → added b (pack a) ≡ pack (queueing b a)
-unfolding added pack lengthsOf places
-pack-added a b s h k =
-    let q = a .queue in
-    let n = length q in
-    let ll : length (lengthsOf q) ≡ n = length-lengths q in
-    let lp : length (places q) ≡ n * 64 = length-places q s in
-    let el : set (padded 8 (lengthsOf q)) n (length b) ≡ padded 8 (lengthsOf (q ++ (b ∷ []))) =
-    put-sets (padded 8 (lengthsOf q)) (length b ∷ []) n (rw (length-padded 8 (lengthsOf q) (omega arith)) (omega arith))
-    ∙ rw (← ll) (put-padded 8 (lengthsOf q) (length b ∷ []) (omega arith))
-    ∙ ap (padded 8) (sym (lengths-append q (b ∷ []))) in
-    let eb : put (padded 512 (places q)) (n * 64) b ≡ padded 512 (places (q ++ (b ∷ []))) =
+pub lengths-added : (q : List Block) (b : Block) → length q < 8 → put (padded 8 (lengthsOf q)) (length q) (length b ∷ []) ≡ padded 8 (lengthsOf (q ++ (b ∷ [])))
+unfolding lengthsOf
+lengths-added q b h =
+    let ll : length (lengthsOf q) ≡ length q = length-lengths q in
+    rw (← ll) (put-padded 8 (lengthsOf q) (length b ∷ []) (omega arith)) ∙ ap (padded 8) (sym (lengths-append q (b ∷ [])))
+
+pub blocks-added : (q : List Block) (b : Block) → Small q → length q < 8 → length b ≤ 64
+    → put (padded 512 (places q)) (length q * 64) b ≡ padded 512 (places (q ++ (b ∷ [])))
+unfolding places
+blocks-added q b s h k =
+    let lp : length (places q) ≡ length q * 64 = length-places q s in
     rw (← lp) (put-padded 512 (places q) b (omega arith))
     ∙ sym (padded-padded 512 64 (places q) b k (omega arith))
     ∙ ap (λ (l : List ℕ). padded 512 (places q ++ l)) (sym (append-nil (padded 64 b)))
-    ∙ ap (padded 512) (sym (places-append q (b ∷ []))) in
-    let en : n + 1 ≡ length (q ++ (b ∷ [])) = sym (length-append q (b ∷ [])) in
-    λ i. record { state = a .state; local = a .local; remote = a .remote; accepted = a .accepted + 1; delivered = a .delivered; waiting = en i; lengths = el i; blocks = eb i }
+    ∙ ap (padded 512) (sym (places-append q (b ∷ [])))
 
--- the abstract endpoint without its k oldest blocks
-unfoldable pub without : ℕ → abstract.Endpoint → abstract.Endpoint
-without k a = record { state = a .state; local = a .local; remote = a .remote; accepted = a .accepted; delivered = a .delivered; queue = drop k (a .queue) }
+-- the k oldest blocks leave
+module _ (q : List Block) (k : ℕ) (h : length q ≤ 8) (m : k ≤ length q) where
+  pub lengths-dropped : drop k (padded 8 (lengthsOf q)) ++ replicate k 0 ≡ padded 8 (lengthsOf (drop k q))
+  lengths-dropped =
+      let ll : length (lengthsOf q) ≡ length q = length-lengths q in
+      drop-padded 8 k (lengthsOf q) (omega arith) (omega arith) ∙ ap (padded 8) (drop-lengths k q)
 
-pub pack-dropped : (a : abstract.Endpoint) (k : ℕ) → Small (a .queue) → length (a .queue) ≤ 8 → k ≤ length (a .queue) → dropped k (pack a) ≡ pack (without k a)
-unfolding dropped pack without
-pack-dropped a k s h m =
-    let q = a .queue in
-    let ll : length (lengthsOf q) ≡ length q = length-lengths q in
-    let lp : length (places q) ≡ length q * 64 = length-places q s in
-    let el : drop k (padded 8 (lengthsOf q)) ++ replicate k 0 ≡ padded 8 (lengthsOf (drop k q)) =
-    drop-padded 8 k (lengthsOf q) (omega arith) (omega arith) ∙ ap (padded 8) (drop-lengths k q) in
-    let eb : drop (k * 64) (padded 512 (places q)) ++ replicate (k * 64) 0 ≡ padded 512 (places (drop k q)) =
-    drop-padded 512 (k * 64) (places q) (omega arith) (omega arith) ∙ ap (padded 512) (drop-places k q s) in
-    let en : length q - k ≡ length (drop k q) = sym (length-drop k q) in
-    λ i. record { state = a .state; local = a .local; remote = a .remote; accepted = a .accepted; delivered = a .delivered; waiting = en i; lengths = el i; blocks = eb i }
+  pub blocks-dropped : Small q → drop (k * 64) (padded 512 (places q)) ++ replicate (k * 64) 0 ≡ padded 512 (places (drop k q))
+  blocks-dropped s =
+      let lp : length (places q) ≡ length q * 64 = length-places q s in
+      drop-padded 512 (k * 64) (places q) (omega arith) (omega arith) ∙ ap (padded 512) (drop-places k q s)
 
 -- view
 pub length-tab : (n : ℕ) (f : ℕ → Block) → length (tab n f) ≡ n
@@ -205,44 +193,11 @@ pub count : (e : Endpoint) → length (view e .queue) ≡ e .waiting
 unfolding view
 count e = length-tab (e .waiting) (blockAt (e .lengths) (e .blocks))
 
--- the three laws that the code cites: a send, an acknowledgement, a count of blocks delivered up
-module _ (e : Endpoint) (T : Tidy (e .waiting) (e .lengths) (e .blocks)) where
-  pub small : Small (view e .queue)
-  unfolding view
-  small = small-tab (e .lengths) (e .blocks) (e .waiting) T (e .waiting) (omega arith)
+pub small : (e : Endpoint) → Tidy (e .waiting) (e .lengths) (e .blocks) → Small (view e .queue)
+unfolding view
+small e T = small-tab (e .lengths) (e .blocks) (e .waiting) T (e .waiting) (omega arith)
 
-  pub queueing-view : (b : Block) → e .waiting < 8 → length b ≤ 64 → added b e ≡ pack (queueing b (view e))
-  queueing-view b h k = ap (added b) (sym (pack-view e T)) ∙ pack-added (view e) b small (rw (count e) h) k
-
-  pub releasing-view : (n k : ℕ) → k ≡ n - (e .accepted - e .waiting) → k ≤ e .waiting → dropped k e ≡ pack (releasing n (view e))
-  unfolding without view
-  releasing-view n k h m =
-      ap (dropped k) (sym (pack-view e T))
-      ∙ pack-dropped (view e) k small (rw (count e) (T .few)) (rw (count e) m)
-      ∙ ap (λ (j : ℕ). pack (without j (view e))) (h ∙ sym (ap (λ (j : ℕ). n - (e .accepted - j)) (count e)))
-
-  pub delivering-view : record { state = e .state; local = e .local; remote = e .remote; accepted = e .accepted; delivered = e .delivered + 1; waiting = e .waiting; lengths = e .lengths; blocks = e .blocks } ≡ pack (delivering (view e))
-  unfolding pack view
-  delivering-view =
-      let p = sym (pack-view e T) in
-      λ i. record { state = e .state; local = e .local; remote = e .remote; accepted = e .accepted; delivered = e .delivered + 1; waiting = p i .waiting; lengths = p i .lengths; blocks = p i .blocks }
-
-tab-head : (n : ℕ) (f : ℕ → Block) → tab (suc n) f ≡ f 0 ∷ tab n (λ i. f (suc i))
+pub tab-head : (n : ℕ) (f : ℕ → Block) → tab (suc n) f ≡ f 0 ∷ tab n (λ i. f (suc i))
 unfolding tab
 tab-head zero f = refl
 tab-head (suc n) f = ap (λ (q : List Block). q ++ (f (suc n) ∷ [])) (tab-head n f)
-
--- the oldest waiting block is at place 0 and has number t - w
-pub oldest-view : (e : Endpoint) → 1 ≤ e .waiting
-    → oldest (view e) (view e .queue) ≡ frame (dataFrame (e .local) (e .remote) (e .accepted - e .waiting) (blockAt (e .lengths) (e .blocks) 0))
-unfolding view oldest
-oldest-view e h =
-    let f = blockAt (e .lengths) (e .blocks) in
-    let w = e .waiting in
-    let k : w ≡ suc (w - 1) = omega arith in
-    let q : tab w f ≡ f 0 ∷ tab (w - 1) (λ i. f (suc i)) = ap (λ (n : ℕ). tab n f) k ∙ tab-head (w - 1) f in
-    ap (oldest (view e)) q ∙ ap (λ (n : ℕ). frame (dataFrame (e .local) (e .remote) (e .accepted - n) (f 0))) (length-tab w f)
-
-pub oldest-none : (e : Endpoint) → e .waiting ≡ 0 → oldest (view e) (view e .queue) ≡ nothing
-unfolding view tab oldest
-oldest-none e h = rw (h, tab) refl

@@ -1,44 +1,59 @@
 -- The record in octets: what the stores leave, and both round trips. Assumes nothing.
 use Prim.Native.Nat.{ℕ, _+_, _%_, _≤_, _<_}
 use mathlib.Core.Path.{_≡_, refl, sym, ap, _∙_}
-use mathlib.Core.List.{List, [], _∷_, _++_, append-nil, append-assoc}
+use mathlib.Core.List.{List, [], _∷_, _++_, append-assoc}
 use native.Mathlib.Omega.{arith}
-use lib.ListN.{length, take, drop, getD, length-append, drop-of-length-le}
-use lib.Seq.{take-at, drop-at, take-add, drop-drop}
-use Rattle.octets.specs.Octets.{put, bytes, lay, fields, size, Octets}
-use Rattle.octets.proofs.Octets.{then-put, Fit, none, one, fields-lay, lay-fields, length-lay}
+use lib.ListN.{length, take, drop, getD, length-append, length-drop, take-append-drop}
+use lib.Seq.{take-at, drop-at, take-add, drop-drop, length-take-le}
+use Rattle.octets.specs.Octets.{put, bytes, number, field, lay, fields, size, Octets}
+use Rattle.octets.proofs.Octets.{width, octets-take, octets-drop, then-put, Fit, none, one, fields-lay, lay-fields, length-lay}
 use Rattle.endpoint.specs.declared.Endpoint.{Endpoint}
+use Rattle.decide.specs.declared.Numbers.{Numbers}
 use Rattle.endpoint.specs.Record.{numbersLayout, encode, decode, Fits}
+use Rattle.endpoint.specs.Parts.{recordOf, numbersIn}
 
-pub put-whole : (d s : List ℕ) → length d ≡ length s → put d 0 s ≡ s
-unfolding put
-put-whole d s h = ap (λ (x : List ℕ). s ++ x) (drop-of-length-le d {i = 0 + length s} (omega arith)) ∙ append-nil s
+-- a number written over itself
+pub put-same : (d : List ℕ) (at : ℕ) → Octets d → at + 4 ≤ length d → d ≡ put d at (bytes 4 (field 4 at d))
+unfolding put field
+put-same d at o h =
+    let s : List ℕ = take 4 (drop at d) in
+    let l : length s ≡ 4 = length-take-le 4 (drop at d) (rw length-drop (omega arith)) in
+    let w : bytes 4 (number s) ≡ s = width 4 .writes s l (octets-take 4 (drop at d) (octets-drop at d o)) in
+    rw (w, l, ← drop-drop 4 at d, take-append-drop 4 (drop at d)) (sym (take-append-drop at d))
 
 byte : (v : ℕ) → v < 256 → v % 256 ≡ v
 byte v h = omega arith
 
-pub encode-puts : (e : Endpoint) (d : List ℕ) → Fits e → 538 ≤ length d
-    → {a b c f g h i j : List ℕ} → a ≡ put d 0 (e .state ∷ []) → b ≡ put a 1 (bytes 4 (e .local)) → c ≡ put b 5 (bytes 4 (e .remote))
-    → f ≡ put c 9 (bytes 4 (e .accepted)) → g ≡ put f 13 (bytes 4 (e .delivered)) → h ≡ put g 17 (e .waiting ∷ []) → i ≡ put h 18 (e .lengths)
-    → j ≡ put i 26 (e .blocks) → j ≡ put d 0 (encode e)
-unfolding encode lay bytes
-encode-puts e d r n {a} {b} {c} {f} {g} {h} {i} {j} ea eb ec ef eg eh ei ej =
+pub numbers-put : (n : Numbers) (d : List ℕ) → n .state < 256 → n .waiting < 256 → 538 ≤ length d
+    → {a b c f g h : List ℕ} → a ≡ put d 0 (n .state ∷ []) → b ≡ put a 1 (bytes 4 (n .local)) → c ≡ put b 5 (bytes 4 (n .remote))
+    → f ≡ put c 9 (bytes 4 (n .accepted)) → g ≡ put f 13 (bytes 4 (n .delivered)) → h ≡ put g 17 (n .waiting ∷ []) → h ≡ put d 0 (numbersIn n)
+unfolding numbersIn lay bytes
+numbers-put e d rs rw′ n {a} {b} {c} {f} {g} {h} ea eb ec ef eg eh =
     let p1 : List ℕ = e .state ∷ [] in
     let p2 : List ℕ = p1 ++ bytes 4 (e .local) in
     let p3 : List ℕ = p2 ++ bytes 4 (e .remote) in
     let p4 : List ℕ = p3 ++ bytes 4 (e .accepted) in
     let p5 : List ℕ = p4 ++ bytes 4 (e .delivered) in
-    let p6 : List ℕ = p5 ++ (e .waiting ∷ []) in
-    let p7 : List ℕ = p6 ++ e .lengths in
     let s2 : b ≡ put d 0 p2 = then-put d p1 (bytes 4 (e .local)) 1 refl (omega arith) ea eb in
     let s3 : c ≡ put d 0 p3 = then-put d p2 (bytes 4 (e .remote)) 5 refl (omega arith) s2 ec in
     let s4 : f ≡ put d 0 p4 = then-put d p3 (bytes 4 (e .accepted)) 9 refl (omega arith) s3 ef in
     let s5 : g ≡ put d 0 p5 = then-put d p4 (bytes 4 (e .delivered)) 13 refl (omega arith) s4 eg in
-    let s6 : h ≡ put d 0 p6 = then-put d p5 (e .waiting ∷ []) 17 refl (omega arith) s5 eh in
-    let s7 : i ≡ put d 0 p7 = then-put d p6 (e .lengths) 18 refl (omega arith) s6 ei in
-    let l7 : length p7 ≡ 26 = length-append p6 (e .lengths) ∙ ap (λ (n : ℕ). 18 + n) (r .lengths) in
-    let s8 : j ≡ put d 0 (p7 ++ e .blocks) = then-put d p7 (e .blocks) 26 l7 (omega arith) s7 ej in
-    rw (byte (e .state) (r .state), byte (e .waiting) (r .waiting)) s8
+    let s6 : h ≡ put d 0 (p5 ++ (e .waiting ∷ [])) = then-put d p5 (e .waiting ∷ []) 17 refl (omega arith) s5 eh in
+    rw (byte (e .state) rs, byte (e .waiting) rw′) s6
+
+pub numbers-18 : (n : Numbers) → length (numbersIn n) ≡ 18
+unfolding numbersIn lay bytes
+numbers-18 n = refl
+
+-- the numbers, then the arrays, each at its place
+pub encode-puts : (n : Numbers) (l b d : List ℕ) → length l ≡ 8 → length b ≡ 512 → 538 ≤ length d
+    → {x y z : List ℕ} → x ≡ put d 0 (numbersIn n) → y ≡ put x 18 l → z ≡ put y 26 b → z ≡ put d 0 (encode (recordOf n l b))
+unfolding encode numbersIn
+encode-puts n l b d l8 l512 h {x} {y} {z} ex ey ez =
+    let p = numbersIn n in
+    let sy : y ≡ put d 0 (p ++ l) = then-put d p l 18 (numbers-18 n) (omega arith) ex ey in
+    let l26 : length (p ++ l) ≡ 26 = length-append p l ∙ omega (arith, numbers-18 n) in
+    then-put d (p ++ l) b 26 l26 (omega arith) sy ez ∙ ap (put d 0) (append-assoc p l b)
 
 -- what was laid out is read again
 fit : (e : Endpoint) → Fits e → Fit numbersLayout (e .state ∷ e .local ∷ e .remote ∷ e .accepted ∷ e .delivered ∷ e .waiting ∷ [])

@@ -4,11 +4,12 @@ use Prim.Native.Nat.{ℕ, zero, suc, _+_, _-_, _*_, _/_, _%_, _≤_, _<_}
 use mathlib.Core.Path.{_≡_, refl, sym, _∙_}
 use mathlib.Core.Bool.{Bool, true, false, _&&_}
 use mathlib.Core.List.{List, [], _∷_}
+use native.Mathlib.Nat.{min-le-left}
 use native.Mathlib.Omega.{arith}
 use lib.Dec.{leb}
-use lib.ListN.{length, take, drop, getD, List·getD-eq-default}
+use lib.ListN.{length, take, drop, getD, length-take, length-drop}
 use lib.Seq.{getD-drop, getD-take}
-use borrow.Author.Tests.{lt-ltb, le-ltb, eqb-true, leb-true}
+use borrow.Author.Tests.{lt-ltb, le-ltb, eq-eqb, eqb-true, leb-true}
 use Rattle.octets.specs.Test.{when, inRange}
 use Rattle.octets.proofs.Test.{both, joined, within, in-range, if-lt}
 use Rattle.protocol.specs.Endpoint as abstract
@@ -16,9 +17,9 @@ use Rattle.protocol.specs.Endpoint.{sized, allOf}
 use Rattle.protocol.proofs.Sound.{sized-append, Sound, sound-so}
 use Rattle.endpoint.specs.declared.Endpoint.{Endpoint}
 use Rattle.endpoint.specs.View.{tab, blockAt, view}
-use Rattle.endpoint.specs.Sound.{zeros, lengthOk, lengthsOk, unusedAt, unusedOk, sound}
-use Rattle.endpoint.specs.Parts.{numbersOk}
-use Rattle.endpoint.proofs.Tests.{all-at, zeros-at, regroup}
+use Rattle.endpoint.specs.Sound.{allBelow, zeros, lengthOk, lengthsOk, unusedAt, unusedOk, sound}
+use Rattle.endpoint.specs.Parts.{numbersOk, placeOk}
+use Rattle.endpoint.proofs.Tests.{all-at, all-hold, alike, zeros-at, zeros-of, regroup}
 use Rattle.endpoint.proofs.Packs.{Tidy, length-tab, length-block}
 
 abbrev pub Numbers : Endpoint → Bool
@@ -30,6 +31,10 @@ unfolding sound numbersOk allOf
 parts e =
     regroup (inRange 0 5 (e .state)) (leb (e .waiting) 8) (leb (e .waiting) (e .accepted)) (lengthsOk (e .waiting) (e .lengths))
     (unusedOk (e .lengths) (e .blocks)) _
+
+pub numbers-few : (e : Endpoint) → Numbers e ≡ true → e .waiting ≤ 8
+unfolding numbersOk allOf
+numbers-few e h = leb-true (e .waiting) 8 (both (leb (e .waiting) 8) _ (both (inRange 0 5 (e .state)) _ h .1) .0)
 
 -- lengths
 waits : (w i x : ℕ) → lengthOk w i x ≡ true → i < w → (1 ≤ x) × (x ≤ 64)
@@ -49,11 +54,87 @@ module _ (w : ℕ) (l : List ℕ) (h : lengthsOk w l ≡ true) where
   unfolding lengthsOk
   length-at i k = all-at (λ j. lengthOk w j (getD l j 0)) 8 i k h
 
-  pub short : length l ≡ 8 → (i : ℕ) → getD l i 0 ≤ 64
-  short e i =
-      by-lt i 8
-      (λ k. by-lt i w (λ m. waits w i (getD l i 0) (length-at i k) m .1) (λ m. omega (arith, rests w i (getD l i 0) (length-at i k) m)))
-      (λ k. rw (List·getD-eq-default l 0 {n = i} (omega arith)) (omega arith))
+-- blocks
+clear-at : (l b : List ℕ) → unusedOk l b ≡ true → (k : ℕ) → k < 512 → getD l (k / 64) 0 ≤ k % 64 → getD b k 0 ≡ 0
+unfolding unusedOk unusedAt
+clear-at l b u k h m =
+    let i = k / 64 in
+    let n = getD l i 0 in
+    let z = all-at (λ j. zeros (unusedAt l b j)) 8 i (omega arith) u in
+    let at : i * 64 + n + (k % 64 - n) ≡ k = omega arith in
+    let d = drop (i * 64 + n) b in
+    rw at at (sym (getD-drop (i * 64 + n) b (k % 64 - n) 0) ∙ sym (getD-take (64 - n) d (k % 64 - n) 0 (omega arith)) ∙ zeros-at (take (64 - n) d) (k % 64 - n) z)
+
+-- The places where blocks wait, and what is unused after them in one run: the same tests in another order.
+module _ (w : ℕ) (l b : List ℕ) (w8 : w ≤ 8) (l8 : length l ≡ 8) (l512 : length b ≡ 512) where
+  abbrev Waiting : Bool
+  Waiting = allBelow w (placeOk l b)
+
+  abbrev After : Bool
+  After = zeros (drop w l) && zeros (drop (w * 64) b)
+
+  module _ (h : Waiting ≡ true) (k : After ≡ true) where
+    place-at : (i : ℕ) → i < w → (inRange 1 64 (getD l i 0) ≡ true) × (zeros (unusedAt l b i) ≡ true)
+    unfolding placeOk
+    place-at i m = both (inRange 1 64 (getD l i 0)) _ (all-at (placeOk l b) w i m h)
+
+    no-length : (i : ℕ) → w ≤ i → getD l i 0 ≡ 0
+    no-length i m =
+        let at : w + (i - w) ≡ i = omega arith in
+        rw at at (sym (getD-drop w l (i - w) 0) ∙ zeros-at (drop w l) (i - w) (both (zeros (drop w l)) _ k .0))
+
+    no-octet : (j : ℕ) → w * 64 ≤ j → getD b j 0 ≡ 0
+    no-octet j m =
+        let at : w * 64 + (j - w * 64) ≡ j = omega arith in
+        rw at at (sym (getD-drop (w * 64) b (j - w * 64) 0) ∙ zeros-at (drop (w * 64) b) (j - w * 64) (both (zeros (drop w l)) _ k .1))
+
+    lengths-so : (i : ℕ) → lengthOk w i (getD l i 0) ≡ true
+    unfolding lengthOk when
+    lengths-so i =
+        by-lt i w (λ m. rw (lt-ltb i w m) (place-at i m .0)) (λ m. rw (le-ltb i w m) (eq-eqb (getD l i 0) 0 (no-length i m)))
+
+    unused-so : (i : ℕ) → zeros (unusedAt l b i) ≡ true
+    unfolding unusedAt
+    unused-so i =
+        by-lt i w (λ m. place-at i m .1)
+        (λ m.
+        let n = getD l i 0 in
+        let d = drop (i * 64 + n) b in
+        zeros-of (take (64 - n) d)
+        (λ j v.
+        let v′ : j < 64 - n = omega (arith, length-take (64 - n) d, min-le-left (64 - n) (length d)) in
+        getD-take (64 - n) d j 0 v′ ∙ getD-drop (i * 64 + n) b j 0 ∙ no-octet (i * 64 + n + j) (omega arith)))
+
+  module _ (h : lengthsOk w l ≡ true) (k : unusedOk l b ≡ true) where
+    waiting-so : (i : ℕ) → i < w → placeOk l b i ≡ true
+    unfolding placeOk unusedOk
+    waiting-so i m =
+        let x = waits w i (getD l i 0) (length-at w l h i (omega arith)) m in
+        joined (in-range 1 64 (getD l i 0) (x .0) (x .1)) (all-at (λ j. zeros (unusedAt l b j)) 8 i (omega arith) k)
+
+    after-so : After ≡ true
+    after-so =
+        joined
+        (zeros-of (drop w l)
+        (λ j v. getD-drop w l j 0 ∙ rests w (w + j) (getD l (w + j) 0) (length-at w l h (w + j) (omega (arith, length-drop w l))) (omega arith)))
+        (zeros-of (drop (w * 64) b)
+        (λ j v.
+        let n : w * 64 + j < 512 = omega (arith, length-drop (w * 64) b) in
+        let i = (w * 64 + j) / 64 in
+        getD-drop (w * 64) b j 0
+        ∙ clear-at l b k (w * 64 + j) n (omega (arith, rests w i (getD l i 0) (length-at w l h i (omega arith)) (omega arith)))))
+
+  pub in-one-run : (Waiting && After) ≡ (lengthsOk w l && unusedOk l b)
+  unfolding lengthsOk unusedOk
+  in-one-run =
+      alike (Waiting && After) (lengthsOk w l && unusedOk l b)
+      (λ t.
+      let p = both Waiting After t in
+      joined (all-hold (λ i. lengthOk w i (getD l i 0)) 8 (λ i _. lengths-so (p .0) (p .1) i))
+      (all-hold (λ i. zeros (unusedAt l b i)) 8 (λ i _. unused-so (p .0) (p .1) i)))
+      (λ t.
+      let p = both (lengthsOk w l) (unusedOk l b) t in
+      joined (all-hold (placeOk l b) w (λ i m. waiting-so (p .0) (p .1) i m)) (after-so (p .0) (p .1)))
 
 inserted : (a b c s r : Bool) → (a && (b && (c && r))) ≡ true → s ≡ true → (a && (b && (c && (s && r)))) ≡ true
 inserted a b c s r h k =
@@ -73,18 +154,7 @@ module _ (e : Endpoint) (s : sound e ≡ true) (l8 : length (e .lengths) ≡ 8) 
   unused-ok = both (lengthsOk (e .waiting) (e .lengths)) _ (arrays-ok .1) .1
 
   few : e .waiting ≤ 8
-  unfolding numbersOk allOf
-  few = leb-true (e .waiting) 8 (both (leb (e .waiting) 8) _ (both (inRange 0 5 (e .state)) _ (arrays-ok .0) .1) .0)
-
-  clear-at : (k : ℕ) → k < 512 → getD (e .lengths) (k / 64) 0 ≤ k % 64 → getD (e .blocks) k 0 ≡ 0
-  unfolding unusedOk unusedAt
-  clear-at k h m =
-      let i = k / 64 in
-      let n = getD (e .lengths) i 0 in
-      let z = all-at (λ j. zeros (unusedAt (e .lengths) (e .blocks) j)) 8 i (omega arith) unused-ok in
-      let at : i * 64 + n + (k % 64 - n) ≡ k = omega arith in
-      let d = drop (i * 64 + n) (e .blocks) in
-      rw at at (sym (getD-drop (i * 64 + n) (e .blocks) (k % 64 - n) 0) ∙ sym (getD-take (64 - n) d (k % 64 - n) 0 (omega arith)) ∙ zeros-at (take (64 - n) d) (k % 64 - n) z)
+  few = numbers-few e (arrays-ok .0)
 
   pub tidy : Tidy (e .waiting) (e .lengths) (e .blocks)
   tidy = record {
@@ -92,9 +162,9 @@ module _ (e : Endpoint) (s : sound e ≡ true) (l8 : length (e .lengths) ≡ 8) 
     bytes = l512;
     few = few;
     some = λ i h. waits (e .waiting) i (getD (e .lengths) i 0) (length-at (e .waiting) (e .lengths) lengths-ok i (omega (arith, few))) h .0;
-    short = λ i h. short (e .waiting) (e .lengths) lengths-ok l8 i;
+    short = λ i h. waits (e .waiting) i (getD (e .lengths) i 0) (length-at (e .waiting) (e .lengths) lengths-ok i (omega (arith, few))) h .1;
     unused = λ i h k. rests (e .waiting) i (getD (e .lengths) i 0) (length-at (e .waiting) (e .lengths) lengths-ok i k) h;
-    clear = clear-at;
+    clear = clear-at (e .lengths) (e .blocks) unused-ok;
   }
 
   sized-tab : (w : ℕ) → w ≤ e .waiting → sized (tab w (blockAt (e .lengths) (e .blocks))) ≡ true

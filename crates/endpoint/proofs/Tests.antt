@@ -1,8 +1,8 @@
 -- Laws of the tests of soundness. Assumes nothing.
 use Prim.Native.Nat.{ℕ, zero, suc, _+_, _<_}
-use mathlib.Core.Path.{_≡_, refl, sym, _∙_}
+use mathlib.Core.Path.{_≡_, refl, sym, ap, _∙_}
 use mathlib.Core.Logic.{⊎-elim}
-use mathlib.Core.Bool.{Bool, true, false, _&&_, and-false}
+use mathlib.Core.Bool.{Bool, true, false, _&&_, and-true, and-false, and-assoc}
 use mathlib.Core.List.{List, [], _∷_, _++_}
 use native.Mathlib.Nat.{le-of-suc-le-suc, not-suc-le-zero, eq-or-lt-of-le}
 use native.Mathlib.Numerals.{add-one}
@@ -37,33 +37,15 @@ alike true b f g = sym (f refl)
 alike false true f g = g refl
 alike false false f g = refl
 
--- the sum of a list
-unfoldable pub total : List ℕ → ℕ
-total [] = 0
-total (x ∷ s) = x + total s
+zeros-append : (s t : List ℕ) → zeros (s ++ t) ≡ (zeros s && zeros t)
+unfolding zeros
+zeros-append [] t = refl
+zeros-append (x ∷ s) t = rw (zeros-append s t) (sym (and-assoc (eqb x 0) (zeros s) (zeros t)))
 
-total-append : (s t : List ℕ) → total (s ++ t) ≡ total s + total t
-unfolding total
-total-append [] t = omega arith
-total-append (x ∷ s) t = rw (total-append s t) (omega arith)
-
-pub total-more : (s : List ℕ) (i : ℕ) → i < length s → total (take (i + 1) s) ≡ total (take i s) + getD s i 0
-unfolding total
-total-more s i h = rw (add-one, take-suc s i 0 h) (total-append (take i s) (getD s i 0 ∷ []) ∙ omega arith)
-
--- a sum is 0 where each element is
-none-left : (s : List ℕ) → total s ≡ 0 → zeros s ≡ true
-unfolding total zeros
-none-left [] h = refl
-none-left (x ∷ s) h = joined (eq-eqb x 0 (omega arith)) (none-left s (omega arith))
-
-sums-none : (s : List ℕ) → zeros s ≡ true → total s ≡ 0
-unfolding total zeros
-sums-none [] h = refl
-sums-none (x ∷ s) h = let b = both (eqb x 0) (zeros s) h in omega (arith, eqb-true x 0 (b .0), sums-none s (b .1))
-
-pub zeros-total : (s : List ℕ) → eqb (total s) 0 ≡ zeros s
-zeros-total s = alike (eqb (total s) 0) (zeros s) (λ h. none-left s (eqb-true (total s) 0 h)) (λ h. eq-eqb (total s) 0 (sums-none s h))
+-- one element more
+pub zeros-more : (s : List ℕ) (i : ℕ) → i < length s → (zeros (take i s) && eqb (getD s i 0) 0) ≡ zeros (take (i + 1) s)
+unfolding zeros
+zeros-more s i h = sym (rw (add-one, take-suc s i 0 h) (zeros-append (take i s) (getD s i 0 ∷ []) ∙ ap (λ (b : Bool). zeros (take i s) && b) (and-true (eqb (getD s i 0) 0))))
 
 pub zeros-at : (s : List ℕ) (i : ℕ) → zeros s ≡ true → getD s i 0 ≡ 0
 unfolding zeros

@@ -3,17 +3,20 @@ use decide::CLOSED;
 use decide::CLOSING;
 use decide::ESTABLISHED;
 use decide::LISTENING;
+use decide::Numbers;
 use decide::PASSIVE_OPENING;
 ghost use mathlib.Core.Path.{_≡_};
-ghost use Prim.Native.Nat.{ℕ, _≤_, _<_};
-ghost use lib.ListN.{length, getD};
+ghost use mathlib.Core.Bool.{_&&_};
+ghost use Prim.Native.Nat.{_+_, _≤_, _<_};
+ghost use lib.ListN.{length};
+ghost use Rattle.octets.specs.Sizes.{queueSize};
 ghost use Rattle.octets.specs.Test.{when};
-ghost use Rattle.octets.specs.Octets.{put};
+ghost use Rattle.octets.specs.Octets.{put, bytes};
 ghost use Rattle.protocol.specs.Endpoint as abstract;
-ghost use Rattle.endpoint.specs.View.{pack};
-ghost use Rattle.endpoint.specs.Sound.{zeros, lengthOk, lengthsOk, unusedOk, sound};
+ghost use Rattle.endpoint.specs.View.{placesSize, pack};
+ghost use Rattle.endpoint.specs.Sound.{zeros, lengthsOk, unusedOk, sound};
 ghost use Rattle.endpoint.specs.Record.{recordSize, encode, decode};
-ghost use Rattle.endpoint.specs.Parts.{numbersOk};
+ghost use Rattle.endpoint.specs.Parts.{numbersOk, placeOk, recordOf, numbersOf, numbersIn};
 
 // Document 01's record of an end: L and D are local and remote, t is accepted, e is delivered, w is waiting.
 pub struct Endpoint {
@@ -98,78 +101,118 @@ fn numbers_ok(
                             ))))))
 }
 
-fn length_ok(waiting: usize, i: usize, x: u8) -> bool
-    ensures { λ r. ⌜ r ≡ lengthOk waiting i x ⌝ }
-{
-    when(
-        i < waiting,
-        (1 <= x) & (x <= Endpoint::LONGEST_BLOCK as u8),
-        x == 0,
-    )
-}
-
-fn lengths_ok(waiting: usize, lengths: &[u8]) -> bool
-    requires { ⌜ length (now lengths) ≡ 8 ⌝ }
-    ensures { λ r. ⌜ r ≡ lengthsOk waiting (now (lengths .entry)) ⌝ }
-{
-    let mut ok = true;
-    let mut i = 0;
-    while i < Endpoint::QUEUE_SIZE {
-        ok = ok & length_ok(waiting, i, lengths[i]);
-        i += 1;
-    }
-    ok
-}
-
-// Whether all of s is 0. The octets are added up, so that the loop has no branch.
+// Whether all of s is 0. The loop has no branch, so that it takes many octets at once.
 fn is_clear(s: &[u8]) -> bool
-    requires { ⌜ length (now s) ≤ 64 ⌝ }
     ensures { λ r. ⌜ r ≡ zeros (now (s .entry)) ⌝ }
 {
-    let mut sum = 0u32;
-    let mut i = 0;
-    while i < s.len() {
-        sum += wide32(s[i]);
-        i += 1;
-    }
-    sum == 0
-}
-
-fn unused_ok(lengths: &[u8], blocks: &[u8]) -> bool
-    requires { ⌜ (length (now lengths) ≡ 8) × ((length (now blocks) ≡ 512) × ((i : ℕ) → getD (now lengths) i 0 ≤ 64)) ⌝ }
-    ensures { λ r. ⌜ r ≡ unusedOk (now (lengths .entry)) (now (blocks .entry)) ⌝ }
-{
     let mut ok = true;
     let mut i = 0;
-    while i < Endpoint::QUEUE_SIZE {
-        let at = i * Endpoint::LONGEST_BLOCK;
-        let n = wide(lengths[i]);
-        ok = ok & is_clear(&blocks[at + n..at + Endpoint::LONGEST_BLOCK]);
+    while i < s.len() {
+        ok = ok & (s[i] == 0);
         i += 1;
     }
     ok
 }
 
-// Question 12: is the record sound?
-pub fn is_sound(e: Endpoint) -> bool
-    ensures { λ r. ⌜ r ≡ sound e ⌝ }
+// Place i, where a block waits: its length is 1 to 64, and zeros follow it.
+fn place_ok(lengths: &[u8], blocks: &[u8], i: usize) -> bool
+    requires { ⌜ (length (now blocks) ≡ placesSize) × ((length (now lengths) ≡ queueSize) × (i < queueSize)) ⌝ }
+    ensures { λ r. ⌜ r ≡ placeOk (now (lengths .entry)) (now (blocks .entry)) i ⌝ }
+{
+    let n = wide(lengths[i]);
+    if n < 1 {
+        return false;
+    }
+    if Endpoint::LONGEST_BLOCK < n {
+        return false;
+    }
+    let at = i * Endpoint::LONGEST_BLOCK;
+    is_clear(&blocks[at + n..at + Endpoint::LONGEST_BLOCK])
+}
+
+// The places where blocks wait, one by one; then all that is unused after them, in one run.
+fn places_ok(waiting: usize, lengths: &[u8], blocks: &[u8]) -> bool
+    requires { ⌜ (length (now blocks) ≡ placesSize) × ((length (now lengths) ≡ queueSize) × (waiting ≤ queueSize)) ⌝ }
+    ensures { λ r. ⌜ r ≡ (lengthsOk waiting (now (lengths .entry)) && unusedOk (now (lengths .entry)) (now (blocks .entry))) ⌝ }
+{
+    let mut ok = true;
+    let mut i = 0;
+    while i < waiting {
+        ok = ok & place_ok(lengths, blocks, i);
+        i += 1;
+    }
+    let at = waiting * Endpoint::LONGEST_BLOCK;
+    ok & (is_clear(&lengths[waiting..]) & is_clear(&blocks[at..]))
+}
+
+// Question 12: is the record of these numbers, lengths and blocks sound?
+pub fn is_sound<'a>(n: Numbers, lengths: &'a [u8], blocks: &'a [u8]) -> bool
+    requires { ⌜ (length (now blocks) ≡ placesSize) × (length (now lengths) ≡ queueSize) ⌝ }
+    ensures { λ r. ⌜ r ≡ sound (recordOf n (now (lengths .entry)) (now (blocks .entry))) ⌝ }
 {
     if !numbers_ok(
-        e.state,
-        e.local,
-        e.remote,
-        e.accepted,
-        e.delivered,
-        wide32(e.waiting),
+        n.state,
+        n.local,
+        n.remote,
+        n.accepted,
+        n.delivered,
+        wide32(n.waiting),
     ) {
         return false;
     }
-    let lengths = e.lengths;
-    if !lengths_ok(wide(e.waiting), &lengths) {
-        return false;
+    places_ok(wide(n.waiting), lengths, blocks)
+}
+
+pub fn numbers_of(e: Endpoint) -> Numbers
+    ensures { λ r. ⌜ r ≡ numbersOf e ⌝ }
+{
+    Numbers {
+        state: e.state,
+        local: e.local,
+        remote: e.remote,
+        accepted: e.accepted,
+        delivered: e.delivered,
+        waiting: e.waiting,
     }
-    let blocks = e.blocks;
-    unused_ok(&lengths, &blocks)
+}
+
+// The numbers of the record in the first 538 octets of s.
+pub fn load_numbers(s: &[u8]) -> Numbers
+    requires { ⌜ recordSize ≤ length (now s) ⌝ }
+    ensures { λ r. ⌜ r ≡ numbersOf (decode (now (s .entry))) ⌝ }
+{
+    Numbers {
+        state: s[0],
+        local: octets::load32(s, 1),
+        remote: octets::load32(s, 5),
+        accepted: octets::load32(s, 9),
+        delivered: octets::load32(s, 13),
+        waiting: s[17],
+    }
+}
+
+// Writes x into the four octets of d from at, where they do not hold it yet.
+fn change32(d: &mut [u8], at: usize, x: u32)
+    requires { ⌜ at + 4 ≤ length (now d) ⌝ }
+    ensures { λ _. ⌜ now (d .exit) ≡ put (now (d .entry)) at (bytes 4 x) ⌝ }
+{
+    if octets::load32(d, at) == x {
+        return;
+    }
+    octets::store32(d, at, x);
+}
+
+// Writes the numbers of a record at the start of out.
+pub fn store_numbers(n: Numbers, out: &mut [u8])
+    requires { ⌜ recordSize ≤ length (now out) ⌝ }
+    ensures { λ _. ⌜ now (out .exit) ≡ put (now (out .entry)) 0 (numbersIn n) ⌝ }
+{
+    octets::store8(out, 0, n.state);
+    change32(out, 1, n.local);
+    change32(out, 5, n.remote);
+    change32(out, 9, n.accepted);
+    change32(out, 13, n.delivered);
+    octets::store8(out, 17, n.waiting);
 }
 
 // Writes the record's 538 octets at the start of out. No other octet of out changes.
@@ -177,35 +220,9 @@ pub fn encode(e: Endpoint, out: &mut [u8])
     requires { ⌜ recordSize ≤ length (now out) ⌝ }
     ensures { λ _. ⌜ now (out .exit) ≡ put (now (out .entry)) 0 (encode e) ⌝ }
 {
-    octets::store8(out, 0, e.state);
-    octets::store32(out, 1, e.local);
-    octets::store32(out, 5, e.remote);
-    octets::store32(out, 9, e.accepted);
-    octets::store32(out, 13, e.delivered);
-    octets::store8(out, 17, e.waiting);
+    store_numbers(numbers_of(e), out);
     let lengths = e.lengths;
     octets::copy(out, 18, &lengths);
     let blocks = e.blocks;
     octets::copy(out, 26, &blocks);
-}
-
-// The record in the first 538 octets of s.
-pub fn decode(s: &[u8]) -> Endpoint
-    requires { ⌜ recordSize ≤ length (now s) ⌝ }
-    ensures { λ r. ⌜ r ≡ decode (now (s .entry)) ⌝ }
-{
-    let mut lengths = [0u8; 8];
-    octets::copy(&mut lengths, 0, &s[18..26]);
-    let mut blocks = [0u8; 512];
-    octets::copy(&mut blocks, 0, &s[26..538]);
-    Endpoint {
-        state: s[0],
-        local: octets::load32(s, 1),
-        remote: octets::load32(s, 5),
-        accepted: octets::load32(s, 9),
-        delivered: octets::load32(s, 13),
-        waiting: s[17],
-        lengths,
-        blocks,
-    }
 }

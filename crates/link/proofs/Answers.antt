@@ -1,42 +1,43 @@
--- What a call on a lent record answers, from what the call by value answers. Assumes nothing.
+-- What a call on a lent record answers, from its plan. Assumes nothing.
 use Prim.Native.Nat.{ℕ, _≤_, _<_}
 use mathlib.Core.Path.{_≡_, refl, sym, ap, _∙_}
 use mathlib.Core.Logic.{_≢_}
 use mathlib.Core.List.{List, []}
+use native.Mathlib.Omega.{arith}
 use borrow.Author.Tests.{le-leb, lt-leb}
-use lib.ListN.{length, take, drop, take-append-drop}
+use lib.ListN.{length, take, drop, length-drop, take-append-drop}
 use lib.Seq.{length-take-le}
 use Rattle.octets.specs.Test.{when, first, Outcome, refused, ok, refusing, mapped, numberOf}
 use Rattle.octets.specs.Octets.{put, left, Octets}
+use Rattle.frame.specs.Frame.{Block}
+use Rattle.protocol.specs.Endpoint as abstract
 use Rattle.protocol.specs.Endpoint.{fresh}
 use Rattle.protocol.specs.Table.{Step}
 use Rattle.endpoint.specs.declared.Endpoint.{Endpoint}
-use Rattle.machine.specs.declared.Answer.{Answer}
+use Rattle.plan.specs.declared.Plan.{Plan}
+use Rattle.plan.specs.Plan.{noticeOf, sentIn, endpointAfter, Room}
 use Rattle.endpoint.specs.View.{pack, view}
 use Rattle.endpoint.specs.Sound.{sound}
 use Rattle.endpoint.specs.Record.{encode, decode}
-use Rattle.machine.specs.Calls.{answerOf, Answered}
+use Rattle.machine.specs.Calls.{answerOf}
+use Rattle.machine.specs.Carried.{carried, Prepared}
+use Rattle.machine.proofs.Carries.{buffer-is, ready-to, leaves}
 use Rattle.endpoint.proofs.Record.{encode-decode}
-use Rattle.calls.specs.Calls.{Call, buffer, asked, performed, recordAfter, bufferAfter}
+use Rattle.calls.specs.Calls.{Call, buffer, wire, asked, performed, recordAfter, bufferAfter}
 use Rattle.link.specs.Record.{format}
-use Rattle.link.specs.Lent.{noticeOf, sentOf, blockOf, toldOf, Lent}
+use Rattle.link.specs.Lent.{sentOf, blockOf, toldOf, Lent}
 use Rattle.link.proofs.Up.{Right}
 
--- the numbers that a call by value answers are those of its outcome
-number-of : (e : Endpoint) (o : Outcome Step) → answerOf e o .number ≡ numberOf o
-unfolding answerOf numberOf
-number-of e (refused n) = refl
-number-of e (ok x) = refl
+-- the numbers of an endpoint that are told
+record Told (a : abstract.Endpoint) (e : Endpoint) : Type 0 where
+  state : a .state ≡ e .state
+  local : a .local ≡ e .local
+  remote : a .remote ≡ e .remote
 
-notice-of : (e : Endpoint) (o : Outcome Step) → answerOf e o .notice ≡ noticeOf o
-unfolding answerOf noticeOf
-notice-of e (refused n) = refl
-notice-of e (ok x) = refl
-
-sent-of : (e : Endpoint) (o : Outcome Step) → answerOf e o .sent ≡ sentOf o
-unfolding answerOf sentOf
-sent-of e (refused n) = refl
-sent-of e (ok x) = refl
+sent-is : (o : Outcome Step) → length (wire (sentIn o)) ≡ sentOf o
+unfolding sentIn wire sentOf
+sent-is (refused n) = refl
+sent-is (ok x) = refl
 
 -- a record written over itself
 rewritten : (rec : List ℕ) → 538 ≤ length rec → Octets rec → put rec 0 (encode (decode rec)) ≡ rec
@@ -78,68 +79,74 @@ module _ (rec : List ℕ) (long : 538 ≤ length rec) where
   unfolding performed refusing first when
   enough c = rw (le-leb 538 (length rec) long) refl
 
-  told : (o : Outcome Step) → answerOf (decode rec) o .endpoint ≡ toldOf rec o
-  unfolding toldOf answerOf when
-  told (refused n) = rw (le-leb 538 (length rec) long) refl
-  told (ok x) = refl
+  told : (o : Outcome Step) → Told (endpointAfter (view (decode rec)) o) (toldOf rec o)
+  unfolding endpointAfter toldOf view pack when
+  told (refused n) = rw (le-leb 538 (length rec) long) (record { state = refl; local = refl; remote = refl })
+  told (ok x) = record { state = refl; local = refl; remote = refl }
 
-  kept : (o : Outcome Step) → answerOf (decode rec) o .number ≢ 0 → rec ≡ recordAfter format rec o
-  unfolding answerOf recordAfter mapped left
+  kept : (o : Outcome Step) → numberOf o ≢ 0 → rec ≡ recordAfter format rec o
+  unfolding numberOf recordAfter mapped left
   kept (refused n) h = refl
   kept (ok x) h = absurd (h refl)
 
-  stored : Octets rec → (o : Outcome Step) → answerOf (decode rec) o .number ≡ 0
-      → put rec 0 (encode (answerOf (decode rec) o .endpoint)) ≡ recordAfter format rec o
+  stored : Octets rec → (o : Outcome Step) → put rec 0 (encode (answerOf (decode rec) o .endpoint)) ≡ recordAfter format rec o
   unfolding answerOf recordAfter mapped left
-  stored oc (refused n) h = rewritten rec long oc
-  stored oc (ok x) h = refl
+  stored oc (refused n) = rewritten rec long oc
+  stored oc (ok x) = refl
 
-  none-refused : (o : Outcome Step) → answerOf (decode rec) o .number ≢ 0 → [] ≡ blockOf o
-  unfolding answerOf blockOf
+  none-refused : (o : Outcome Step) → numberOf o ≢ 0 → [] ≡ blockOf o
+  unfolding numberOf blockOf
   none-refused (refused n) h = refl
   none-refused (ok x) h = absurd (h refl)
 
-  module _ (c : Call) {out′ : List ℕ} {a : Answer}
-      (w : Answered (decode rec) (asked (sound (decode rec)) (view (decode rec)) c) (buffer c) out′ a) where
+  pub lengths-8 : length (decode rec .lengths) ≡ 8
+  unfolding decode
+  lengths-8 = length-take-le 8 (drop 18 rec) (rw length-drop (omega arith))
+
+  pub blocks-512 : length (decode rec .blocks) ≡ 512
+  unfolding decode
+  blocks-512 = length-take-le 512 (drop 26 rec) (rw length-drop (omega arith))
+
+  module _ (c : Call) {b : Block} {out′ : List ℕ} {sent : ℕ} {p : Plan}
+      (w : Prepared (decode rec) b (asked (sound (decode rec)) (view (decode rec)) c) (buffer c) out′ sent p) where
     abbrev o : Outcome Step
     o = asked (sound (decode rec)) (view (decode rec)) c
 
-    abbrev answer : Answer
-    answer = answerOf (decode rec) o
+    abbrev Answers : List ℕ → ℕ → Type 0
+    Answers rec′ r = Lent (performed format rec c) rec (buffer c) rec′ out′ r (p .numbers .state) (p .notice) (p .numbers .local) (p .numbers .remote) sent
 
-    gives : (rec′ : List ℕ) (r : ℕ) → r ≡ answer .number → rec′ ≡ recordAfter format rec o
-        → Lent (performed format rec c) rec (buffer c) rec′ out′ r (answer .endpoint .state) (answer .notice) (answer .endpoint .local) (answer .endpoint .remote) (answer .sent)
+    gives : (rec′ : List ℕ) (r : ℕ) → r ≡ p .number → rec′ ≡ recordAfter format rec o → Answers rec′ r
+    unfolding view
     gives rec′ r e er =
+        let k = w .comes .endpoint in
         rw (enough c)
         (record {
-          is-number = e ∙ number-of (decode rec) o;
-          is-state = ap (λ (x : Endpoint). x .state) (told o);
-          is-notice = notice-of (decode rec) o;
-          is-local = ap (λ (x : Endpoint). x .local) (told o);
-          is-remote = ap (λ (x : Endpoint). x .remote) (told o);
-          is-sent = sent-of (decode rec) o;
+          is-number = e ∙ w .comes .number;
+          is-state = ap (λ (x : abstract.Endpoint). x .state) k ∙ told o .state;
+          is-notice = w .comes .notice;
+          is-local = ap (λ (x : abstract.Endpoint). x .local) k ∙ told o .local;
+          is-remote = ap (λ (x : abstract.Endpoint). x .remote) k ∙ told o .remote;
+          is-sent = w .sends .count ∙ sent-is o;
           is-rec = er;
-          is-out = w .octets;
+          is-out = w .sends .octets ∙ buffer-is (buffer c) o;
         })
 
-    pub lent-refused : a .number ≢ 0
-        → Lent (performed format rec c) rec (buffer c) rec out′ (a .number) (a .endpoint .state) (a .notice) (a .endpoint .local) (a .endpoint .remote) (a .sent)
-    lent-refused h = rw (w .answer) (gives rec (answer .number) refl (kept o (λ z. h (ap (λ (x : Answer). x .number) (w .answer) ∙ z))))
+    pub lent-refused : p .number ≢ 0 → Answers rec (p .number)
+    lent-refused h = gives rec (p .number) refl (kept o (λ z. h (w .comes .number ∙ z)))
 
-    pub lent-stored : Octets rec → a .number ≡ 0 → {rec′ : List ℕ} → rec′ ≡ put rec 0 (encode (a .endpoint)) → {r : ℕ} → r ≡ 0
-        → Lent (performed format rec c) rec (buffer c) rec′ out′ r (a .endpoint .state) (a .notice) (a .endpoint .local) (a .endpoint .remote) (a .sent)
+    pub lent-stored : Octets rec → p .number ≡ 0 → {rec′ : List ℕ} → rec′ ≡ put rec 0 (encode (carried p b (decode rec))) → {r : ℕ} → r ≡ 0 → Answers rec′ r
     lent-stored oc h {rec′} e {r} z =
-        let n : answer .number ≡ 0 = sym (ap (λ (x : Answer). x .number) (w .answer)) ∙ h in
-        rw (w .answer) (gives rec′ r (z ∙ sym n) (e ∙ ap (λ (x : Answer). put rec 0 (encode (x .endpoint))) (w .answer) ∙ stored oc o n))
+        gives rec′ r (z ∙ sym h) (e ∙ ap (λ (x : Endpoint). put rec 0 (encode x)) (leaves (decode rec) lengths-8 blocks-512 c w h) ∙ stored oc o)
 
-    pub refused-none : a .number ≢ 0 → [] ≡ blockOf (performed format rec c)
-    refused-none h = rw (enough c) (none-refused o (λ z. h (ap (λ (x : Answer). x .number) (w .answer) ∙ z)))
+    -- the plan can be carried out
+    pub fits : p .number ≡ 0 → (decode rec .waiting ≤ 8) × Room (p .queue) b (decode rec .waiting)
+    fits h = ready-to (decode rec) lengths-8 blocks-512 c w h
 
-    is-notice : a .notice ≡ noticeOf o
-    is-notice = ap (λ (x : Answer). x .notice) (w .answer) ∙ notice-of (decode rec) o
+    pub refused-none : p .number ≢ 0 → [] ≡ blockOf (performed format rec c)
+    refused-none h = rw (enough c) (none-refused o (λ z. h (w .comes .number ∙ z)))
 
-    pub up-none : {s : List ℕ} → Right s (blockOf o) (noticeOf o) → a .notice ≢ 5 → [] ≡ blockOf (performed format rec c)
-    up-none r h = rw (enough c) (sym (r .nothing (λ z. h (is-notice ∙ z))))
+    pub up-none : {s : List ℕ} → Right s (blockOf o) (noticeOf o) → p .notice ≢ 5 → [] ≡ blockOf (performed format rec c)
+    up-none r h = rw (enough c) (sym (r .nothing (λ z. h (w .comes .notice ∙ z))))
 
-    pub up-some : {s : List ℕ} → Right s (blockOf o) (noticeOf o) → a .notice ≡ 5 → (drop 14 s ≡ blockOf (performed format rec c)) × (14 ≤ length s)
-    up-some r h = let b = r .some (sym is-notice ∙ h) in (rw (enough c) (sym (b .0)), b .1)
+    pub up-some : {s : List ℕ} → Right s (blockOf o) (noticeOf o) → p .notice ≡ 5 → (drop 14 s ≡ blockOf (performed format rec c)) × (14 ≤ length s)
+    up-some r h = let b = r .some (sym (w .comes .notice) ∙ h) in (rw (enough c) (sym (b .0)), b .1)

@@ -19,7 +19,8 @@ use Rattle.protocol.specs.Table.{notice, rule, Step, apply, step}
 use Rattle.protocol.specs.Network.{deliver, Call, perform}
 use Rattle.protocol.proofs.Facts.{Found, hand-up, found}
 use Rattle.calls.specs.Calls.{receive, said, asked, ownQuestions}
-use Rattle.link.specs.Lent.{noticeOf, blockIn, blockOf}
+use Rattle.plan.specs.Plan.{noticeOf}
+use Rattle.link.specs.Lent.{blockIn, blockOf}
 
 -- a notice 5 comes with the octets from 14 on, any other with none
 pub record Right (s block : List ℕ) (n : ℕ) : Type 0 where

@@ -7,18 +7,15 @@ use lib.ListN.{length}
 use Rattle.octets.specs.Test.{when, first, Outcome, refused, ok, outcome, numberOf}
 use Rattle.frame.specs.Frame.{Block}
 use Rattle.protocol.specs.Endpoint.{fresh}
-use Rattle.protocol.specs.Table.{Indication, none, connected, rejected, closedByPartner, closeFinished, handedUp, notice, Step}
+use Rattle.protocol.specs.Table.{Indication, none, connected, rejected, closedByPartner, closeFinished, handedUp, Step}
+use Rattle.plan.specs.Plan.{noticeOf}
 use Rattle.endpoint.specs.declared.Endpoint.{Endpoint}
 use Rattle.endpoint.specs.View.{pack}
 use Rattle.endpoint.specs.Record.{recordSize, decode}
 use Rattle.calls.specs.Calls.{wire, recordAfter, bufferAfter}
 use Rattle.link.specs.Record.{format}
 
--- the notice, and the length of the frame sent; a refusal has neither
-unfoldable pub noticeOf : Outcome Step → ℕ
-noticeOf (refused n) = 0
-noticeOf (ok x) = notice (x .indication)
-
+-- the length of the frame sent; a refusal sends none
 unfoldable pub sentOf : Outcome Step → ℕ
 sentOf (refused n) = 0
 sentOf (ok x) = length (wire (x .sent))

@@ -1,10 +1,18 @@
 // The calls of an end on lent buffers: its record of 538 octets, a request or a frame, and room for a frame out.
 use endpoint::Endpoint;
+use plan::Plan;
 ghost use mathlib.Core.Path.{_≡_};
+ghost use Prim.Native.Nat.{_≤_};
+ghost use lib.ListN.{length, drop};
+ghost use Rattle.octets.specs.Sizes.{queueSize};
 ghost use Rattle.octets.specs.Test.{numberOf};
-ghost use Rattle.octets.specs.Octets.{left};
+ghost use Rattle.octets.specs.Octets.{put, left};
 ghost use Rattle.calls.specs.Calls.{performed};
 ghost use Rattle.calls.specs.Calls as calls;
+ghost use Rattle.plan.specs.Plan.{Room};
+ghost use Rattle.endpoint.specs.Record.{recordSize, encode, decode};
+ghost use Rattle.machine.specs.Calls.{requestOutcome, receiveOutcome};
+ghost use Rattle.machine.specs.Carried.{carried, Prepared};
 ghost use Rattle.link.specs.Record.{format};
 ghost use Rattle.link.specs.Lent.{Lent, Received, Called, freshIn};
 
@@ -21,6 +29,36 @@ pub extern "C" fn dock_fresh(rec: &mut [u8]) -> u8
     }
     endpoint::encode(Endpoint::fresh(), rec);
     0
+}
+
+// Plans a request, or the receiving of a frame, on the record's own octets.
+fn plan_request(rec: &[u8], s: &[u8], out: &mut [u8], sent: &mut usize) -> Plan
+    requires { ⌜ recordSize ≤ length (now rec) ⌝ }
+    ensures { λ r. ⌜ Prepared (decode (now (rec .entry))) (drop 2 (now (s .entry))) (requestOutcome (decode (now (rec .entry))) (now (s .entry)) (now (out .entry))) (now (out .entry)) (now (out .exit)) (now (sent .exit)) r ⌝ }
+{
+    let n = endpoint::load_numbers(rec);
+    machine::plan_request(n, &rec[18..26], &rec[26..538], s, out, sent)
+}
+
+fn plan_receive(rec: &[u8], s: &[u8], out: &mut [u8], sent: &mut usize) -> Plan
+    requires { ⌜ recordSize ≤ length (now rec) ⌝ }
+    ensures { λ r. ⌜ Prepared (decode (now (rec .entry))) (drop 2 (now (s .entry))) (receiveOutcome (decode (now (rec .entry))) (now (s .entry)) (now (out .entry))) (now (out .entry)) (now (out .exit)) (now (sent .exit)) r ⌝ }
+{
+    let n = endpoint::load_numbers(rec);
+    machine::plan_receive(n, &rec[18..26], &rec[26..538], s, out, sent)
+}
+
+// Carries a plan out where the record lies: its numbers, and of the lengths and blocks what changes.
+fn carry_out(rec: &mut [u8], p: Plan, s: &[u8])
+    requires { ⌜ (recordSize ≤ length (now rec)) × ((decode (now rec) .waiting ≤ queueSize) × Room (p .queue) (drop 2 (now s)) (decode (now rec) .waiting)) ⌝ }
+    ensures { λ _. ⌜ now (rec .exit) ≡ put (now (rec .entry)) 0 (encode (carried p (drop 2 (now (s .entry))) (decode (now (rec .entry))))) ⌝ }
+{
+    let waiting = endpoint::wide(rec[17]);
+    let queue = p.queue;
+    let n = p.numbers;
+    endpoint::store_numbers(n, rec);
+    machine::change_lengths(queue, waiting, s, &mut rec[18..26]);
+    machine::change_blocks(queue, waiting, s, &mut rec[26..538]);
 }
 
 // A request, the timer call among them: s has its octets. Answers the number; state, notice, L, D and the length of the frame
@@ -46,17 +84,16 @@ pub extern "C" fn dock_request(
         *sent = 0;
         return 11;
     }
-    let asked = machine::request(endpoint::decode(rec), s, out);
-    let e = asked.endpoint;
-    *state = e.state;
+    let asked = plan_request(rec, s, out, sent);
+    let n = asked.numbers;
+    *state = n.state;
     *notice = asked.notice;
-    *local = e.local;
-    *remote = e.remote;
-    *sent = asked.sent;
+    *local = n.local;
+    *remote = n.remote;
     if asked.number != 0 {
         return asked.number;
     }
-    endpoint::encode(e, rec);
+    carry_out(rec, asked, s);
     0
 }
 
@@ -84,19 +121,18 @@ pub fn receive<'a>(
         *sent = 0;
         return &s[..0];
     }
-    let answer = machine::receive(endpoint::decode(rec), s, out);
-    let e = answer.endpoint;
-    *number = answer.number;
-    *state = e.state;
-    *notice = answer.notice;
-    *local = e.local;
-    *remote = e.remote;
-    *sent = answer.sent;
-    if answer.number != 0 {
+    let heard = plan_receive(rec, s, out, sent);
+    let n = heard.numbers;
+    *number = heard.number;
+    *state = n.state;
+    *notice = heard.notice;
+    *local = n.local;
+    *remote = n.remote;
+    if heard.number != 0 {
         return &s[..0];
     }
-    endpoint::encode(e, rec);
-    if answer.notice != 5 {
+    carry_out(rec, heard, s);
+    if heard.notice != plan::HANDED_UP {
         return &s[..0];
     }
     &s[14..]

@@ -1,6 +1,3 @@
-pub mod Calls
-pub mod Requests
-pub mod Reading
 pub mod Ready
-pub mod Found
+pub mod Carries
 pub mod Laws

@@ -1,17 +1,17 @@
 -- Questions 11 and 12, and what follows them. Assumes nothing.
 use Prim.Native.Nat.{ℕ, _≤_, _<_}
 use mathlib.Core.Path.{_≡_, refl}
-use mathlib.Core.Bool.{true, false}
+use mathlib.Core.Bool.{Bool, true, false}
 use mathlib.Core.List.{List}
+use native.Mathlib.Omega.{arith}
 use borrow.Author.Tests.{le-leb, lt-leb}
+use lib.Dec.{leb}
 use lib.ListN.{length}
-use Rattle.octets.specs.Test.{when, first, refused, ok, refusing, mapped, andThen}
-use Rattle.frame.specs.Frame.{Frame, Request}
-use Rattle.frame.specs.Read.{readFrame, readRequest}
-use Rattle.protocol.specs.Table.{step}
-use Rattle.protocol.specs.Requests.{request}
-use Rattle.protocol.specs.Network.{perform}
-use Rattle.calls.specs.Calls.{said, asked}
+use Rattle.octets.specs.Test.{when, first, Outcome, refused, refusing, numberOf}
+use Rattle.protocol.specs.Endpoint as abstract
+use Rattle.protocol.specs.Table.{Step}
+use Rattle.calls.specs.Calls.{Call, buffer, said, asked}
+use Rattle.plan.specs.Plan.{requested, heard}
 use Rattle.endpoint.specs.declared.Endpoint.{Endpoint}
 use Rattle.endpoint.specs.View.{view}
 use Rattle.endpoint.specs.Sound.{sound}
@@ -26,13 +26,9 @@ module _ (e : Endpoint) (out s : List ℕ) where
   unfolding requestOutcome asked refusing first when
   request-12 h k = rw (le-leb 78 (length out) h, k) refl
 
-  pub request-refused : 78 ≤ length out → sound e ≡ true → (n : ℕ) → readRequest s ≡ refused n → requestOutcome e s out ≡ refused n
-  unfolding requestOutcome asked refusing first when andThen said mapped
-  request-refused h k n p = rw (le-leb 78 (length out) h, k, p) refl
-
-  pub request-read : 78 ≤ length out → sound e ≡ true → (q : Request) → readRequest s ≡ ok q → requestOutcome e s out ≡ request q (view e)
-  unfolding requestOutcome asked refusing first when andThen said mapped perform
-  request-read h k q p = rw (le-leb 78 (length out) h, k, p) refl
+  pub request-ready : 78 ≤ length out → sound e ≡ true → requestOutcome e s out ≡ requested s (view e)
+  unfolding requestOutcome asked refusing first when said requested
+  request-ready h k = rw (le-leb 78 (length out) h, k) refl
 
   pub receive-11 : length out < 78 → receiveOutcome e s out ≡ refused 11
   unfolding receiveOutcome asked refusing first when
@@ -42,10 +38,17 @@ module _ (e : Endpoint) (out s : List ℕ) where
   unfolding receiveOutcome asked refusing first when
   receive-12 h k = rw (le-leb 78 (length out) h, k) refl
 
-  pub receive-refused : 78 ≤ length out → sound e ≡ true → (n : ℕ) → readFrame s ≡ refused n → receiveOutcome e s out ≡ refused n
-  unfolding receiveOutcome asked refusing first when andThen said mapped
-  receive-refused h k n p = rw (le-leb 78 (length out) h, k, p) refl
+  pub receive-ready : 78 ≤ length out → sound e ≡ true → receiveOutcome e s out ≡ heard s (view e)
+  unfolding receiveOutcome asked refusing first when said heard
+  receive-ready h k = rw (le-leb 78 (length out) h, k) refl
 
-  pub receive-read : 78 ≤ length out → sound e ≡ true → (f : Frame) → readFrame s ≡ ok f → receiveOutcome e s out ≡ ok (step (view e) f)
-  unfolding receiveOutcome asked refusing first when andThen said mapped perform
-  receive-read h k f p = rw (le-leb 78 (length out) h, k, p) refl
+-- only a sound record's call is accepted
+held-up : (room fine : Bool) (o : Outcome Step) → numberOf (refusing (when room (when fine 0 12) 11) o) ≡ 0 → fine ≡ true
+unfolding when refusing numberOf
+held-up true true o h = refl
+held-up true false o h = absurd (omega arith)
+held-up false fine o h = absurd (omega arith)
+
+pub accepts-sound : (fine : Bool) (e : abstract.Endpoint) (c : Call) → numberOf (asked fine e c) ≡ 0 → fine ≡ true
+unfolding asked first
+accepts-sound fine e c h = held-up (leb 78 (length (buffer c))) fine _ h

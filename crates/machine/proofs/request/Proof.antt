@@ -1,86 +1,35 @@
-use mathlib.Core.Path.{_≡_, sym, ap, _∙_}
-use mathlib.Core.Bool.{true}
-use borrow.Author.Tests.{not-true, not-false}
 use denote.Ref.{now}
-use Rattle.frame.specs.declared.RequestRead.{RequestRead}
-use Rattle.frame.specs.Answer.{requestRead}
-use Rattle.endpoint.specs.Sound.{sound}
-use Rattle.machine.proofs.Calls.{refuses}
-use Rattle.machine.proofs.Ready.{request-11, request-12, request-refused, request-read}
+use Rattle.calls.specs.Calls as calls
+use Rattle.machine.specs.Calls.{requestOutcome}
+use Rattle.machine.proofs.Carries.{ready-to, answers}
 use borrow.Author.Needs.{needs}
 use Rattle.machine.proofs.request.Statement.{statement}
 use Rattle.machine.proofs.request.Tie as tie
 
--- 12 has been passed
-is-fine : (c : tie.Else2) → sound (c .before .before .before .before .before .args .e) ≡ true
-is-fine c = sym (c .before .is-sound .ensures) ∙ not-false (c .before .is-sound .result) (c .if2 .left)
+numbers-of-requires : tie.Need-numbers-of-requires
+numbers-of-requires c κs = search needs
 
-refuse-requires : tie.Need-refuse-requires
-refuse-requires c κs = search needs
+plan-request-requires : tie.Need-plan-request-requires
+plan-request-requires c κs = search needs
 
-returns : tie.Need-returns
-returns c = let a = c .before .before .before .before .args in refuses (a .e) 11 (request-11 (a .e) (now (a .out)) (now (a .s)) (c .before .if1 .taken)) (c .refuse .ensures)
-
-is-sound-requires : tie.Need-is-sound-requires
-is-sound-requires c κs = search needs
-
-refuse-requires-2 : tie.Need-refuse-requires-2
-refuse-requires-2 c κs = search needs
-
-returns-2 : tie.Need-returns-2
-returns-2 c = let a = c .before .before .before .before .before .before .args in refuses (a .e) 12 (request-12 (a .e) (now (a .out)) (now (a .s)) (c .before .before .before .if1 .left) (sym (c .before .before .is-sound .ensures) ∙ not-true (c .before .before .is-sound .result) (c .before .if2 .taken))) (c .refuse2 .ensures)
-
-read-request-requires : tie.Need-read-request-requires
-read-request-requires c κs = search needs
-
-enum-known-read : tie.Need-enum-known-read
-enum-known-read c = search needs
-
-perform-requires : tie.Need-perform-requires
-unfolding requestRead
-perform-requires c κs = let p = c .before .before .before .before in (is-fine (p .before), (search needs, sym (p .read-request .ensures) ∙ ap (λ (x : RequestRead). requestRead x (now (c .before .before .before .before .before .before .before .before .before .before .args .s))) (c .before .before .read .given .1)))
-
-enum-known-read-2 : tie.Need-enum-known-read-2
-enum-known-read-2 c = search needs
-
-refuse-requires-3 : tie.Need-refuse-requires-3
-refuse-requires-3 c κs = search needs
+finish-requires : tie.Need-finish-requires
+unfolding requestOutcome
+finish-requires c κs =
+    let s = c .before .before .before .before .before .before .before .before .before .before .before .before .before in
+    ready-to (s .args .t1) (search needs) (search needs) (calls.request (now (s .args .s)) (now (s .args .out)))
+    (rw (c .before .before .before .before .before .before .before .before .before .before .numbers-of .ensures) at (c .before .before .plan-request .ensures))
 
 same-length : tie.Need-same-length
 same-length c = search needs
 
-returns-3 : tie.Need-returns-3
-unfolding requestRead
-returns-3 c =
-    let p = c .before .before .before .before .before .before .before in
-    let a = c .before .before .before .before .before .before .before .before .before .before .before .before .before .args in
-    let s = now (a .s) in
-    let q = sym (p .read-request .ensures) ∙ ap (λ (x : RequestRead). requestRead x s) (c .before .before .before .before .before .read .given .1) in
-    rw (request-read (a .e) (now (a .out)) s (c .before .before .before .before .before .before .before .before .before .before .if1 .left) (is-fine (p .before)) _ q) (c .before .before .perform .ensures)
-
-returns-4 : tie.Need-returns-4
-unfolding requestRead
-returns-4 c =
-    let p = c .before .before .before .before in
-    let a = c .before .before .before .before .before .before .before .before .before .before .args in
-    let s = now (a .s) in
-    let q = sym (p .read-request .ensures) ∙ ap (λ (x : RequestRead). requestRead x s) (c .before .before .read2 .given .1) in
-    refuses (a .e) _ (request-refused (a .e) (now (a .out)) s (c .before .before .before .before .before .before .before .if1 .left) (is-fine (p .before)) _ q) (c .refuse3 .ensures)
+returns : tie.Need-returns
+unfolding requestOutcome
+returns c =
+    let s = c .before .before .before .before .before .before .before .before .before .before .before .before .before .before in
+    answers (s .args .t1) (search needs) (search needs) (calls.request (now (s .args .s)) (now (s .args .out)))
+    (rw (c .before .before .before .before .before .before .before .before .before .before .before .numbers-of .ensures) at (c .before .before .before .plan-request .ensures)) (c .finish .ensures)
 
 pub request-spec : {M : Type 1} → statement M
 request-spec =
     tie.close
-    (tie.spec
-    refuse-requires
-    returns
-    is-sound-requires
-    refuse-requires-2
-    returns-2
-    read-request-requires
-    enum-known-read
-    perform-requires
-    enum-known-read-2
-    refuse-requires-3
-    same-length
-    returns-3
-    returns-4)
+    (tie.spec numbers-of-requires plan-request-requires finish-requires same-length returns)

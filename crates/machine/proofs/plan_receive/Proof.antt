@@ -1,0 +1,111 @@
+use mathlib.Core.Path.{_≡_, refl, sym, _∙_}
+use mathlib.Core.Bool.{true}
+use lib.ListN.{length, drop}
+use native.Mathlib.Nat.{sub-zero}
+use denote.Ref.{now}
+use borrow.Author.Tests.{not-true, not-false}
+use Rattle.plan.specs.declared.Plan.{Plan}
+use Rattle.plan.specs.Plan.{Comes}
+use Rattle.endpoint.specs.declared.Endpoint.{Endpoint}
+use Rattle.endpoint.specs.View.{blockAt, view}
+use Rattle.endpoint.specs.Sound.{sound}
+use Rattle.endpoint.specs.Parts.{recordOf}
+use Rattle.endpoint.proofs.Packs.{count}
+use Rattle.machine.specs.Calls.{receiveOutcome}
+use Rattle.machine.proofs.Ready.{receive-11, receive-12, receive-ready}
+use Rattle.machine.proofs.Carries.{oldest-at, laden, first-short, refusal, prepares}
+use native.Mathlib.Omega.{arith}
+use borrow.Author.Needs.{needs}
+use Rattle.machine.proofs.plan_receive.Statement.{statement}
+use Rattle.machine.proofs.plan_receive.Tie as tie
+
+-- the record that is asked about
+abbrev asked : tie.Start → Endpoint
+asked c = recordOf (c .args .n) (now (c .args .lengths)) (now (c .args .blocks))
+
+-- 12 has been passed
+is-fine : (c : tie.Else2) → sound (asked (c .before .before .before .before .before .before .before)) ≡ true
+is-fine c = sym (c .before .is-sound .ensures) ∙ not-false (c .before .is-sound .result) (c .if2 .left)
+
+-- what the plan comes to
+planned : (c : tie.After-receive) → let s = c .before .before .before .before .before .before .before .before in
+    Comes (s .args .n) (view (asked s) .queue) (drop 2 (now (s .args .s))) (blockAt (now (s .args .lengths)) (now (s .args .blocks)) 0) (receiveOutcome (asked s) (now (s .args .s)) (now (s .args .out))) (c .receive .result)
+unfolding view
+planned c =
+    let s = c .before .before .before .before .before .before .before .before in
+    let e = asked s in
+    rw (receive-ready e (now (s .args .out)) (now (s .args .s)) (c .before .before .before .if1 .left) (is-fine (c .before)))
+    (c .receive .ensures (drop 2 (now (s .args .s))) (view e .queue) (blockAt (e .lengths) (e .blocks) 0) (count e) (oldest-at e))
+
+refuse-requires : tie.Need-refuse-requires
+refuse-requires c κs = search needs
+
+returns : tie.Need-returns
+returns c =
+    let s = c .before .before .before .before .before .before in
+    refusal (asked s) (drop 2 (now (s .args .s))) 11 (receive-11 (asked s) (now (s .args .out)) (now (s .args .s)) (c .before .if1 .taken)) (c .refuse .ensures) refl
+
+is-sound-requires : tie.Need-is-sound-requires
+is-sound-requires c κs = search needs
+
+refuse-requires-2 : tie.Need-refuse-requires-2
+refuse-requires-2 c κs = search needs
+
+returns-2 : tie.Need-returns-2
+returns-2 c =
+    let s = c .before .before .before .before .before .before .before .before in
+    refusal (asked s) (drop 2 (now (s .args .s))) 12
+    (receive-12 (asked s) (now (s .args .out)) (now (s .args .s)) (c .before .before .before .if1 .left) (sym (c .before .before .is-sound .ensures) ∙ not-true (c .before .before .is-sound .result) (c .before .if2 .taken)))
+    (c .refuse2 .ensures) refl
+
+receive-requires : tie.Need-receive-requires
+receive-requires c κs = let s = c .before .before .before .before .before .before .before in laden (asked s) (is-fine c) (s .pre .1) (s .pre .0)
+
+shared-slice-read-wide : tie.Need-shared-slice-read-wide
+shared-slice-read-wide c = search needs
+
+wide-requires : tie.Need-wide-requires
+wide-requires c κs = search needs
+
+sub-send-reply : tie.Need-sub-send-reply
+sub-send-reply c = search needs
+
+part-send-reply-start : tie.Need-part-send-reply-start
+part-send-reply-start c = search needs
+
+part-send-reply-end : tie.Need-part-send-reply-end
+part-send-reply-end c = let s = c .before .before .before .before .before .before .before .before .before .before in omega (arith, s .pre, first-short (asked s) (is-fine (c .before .before .before)) (s .pre .1) (s .pre .0), c .wide .ensures .0)
+
+send-reply-requires : tie.Need-send-reply-requires
+send-reply-requires c κs =
+    let s = c .before .before .before .before .before .before .before .before .before .before .before .before in
+    let k = first-short (asked s) (is-fine (c .before .before .before .before .before)) (s .pre .1) (s .pre .0) in
+    (search needs, (omega (arith, k, c .before .before .wide .ensures .0), length (view (asked s) .queue), planned (c .before .before .before .before) .room))
+
+same-length : tie.Need-same-length
+same-length c = search needs
+
+returns-3 : tie.Need-returns-3
+unfolding blockAt
+returns-3 c =
+    let s = c .before .before .before .before .before .before .before .before .before .before .before .before .before .before .before in
+    prepares (asked s) (planned (c .before .before .before .before .before .before .before)) (rw (c .before .before .before .before .before .wide .ensures .0, sub-zero) at (c .before .before .send-reply .ensures))
+
+pub plan-receive-spec : {M : Type 1} → statement M
+plan-receive-spec =
+    tie.close
+    (tie.spec
+    refuse-requires
+    returns
+    is-sound-requires
+    refuse-requires-2
+    returns-2
+    receive-requires
+    shared-slice-read-wide
+    wide-requires
+    sub-send-reply
+    part-send-reply-start
+    part-send-reply-end
+    send-reply-requires
+    same-length
+    returns-3)

@@ -1,0 +1,4 @@
+pub mod Comes
+pub mod Requests
+pub mod Found
+pub mod Reading

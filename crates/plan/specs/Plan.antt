@@ -1,0 +1,87 @@
+-- A plan: what a call does to the numbers of a record, what becomes of its waiting blocks, and what is sent.
+use Prim.Native.Nat.{ℕ, _≤_, _<_}
+use mathlib.Core.Path.{_≡_}
+use mathlib.Core.List.{List, [], _∷_, _++_}
+use lib.ListN.{length, drop}
+use Rattle.octets.specs.Sizes.{longestBlock, queueSize}
+use Rattle.octets.specs.Test.{Outcome, refused, ok, mapped, andThen, numberOf}
+use Rattle.octets.specs.Octets.{put}
+use Rattle.frame.specs.Frame.{Block}
+use Rattle.frame.specs.Read.{readFrame, readRequest}
+use Rattle.frame.specs.Answer.{frameOf}
+use Rattle.protocol.specs.Endpoint.{Endpoint}
+use Rattle.protocol.specs.Table.{Sent, nothing, frame, Step, notice}
+use Rattle.protocol.specs.Network.{Call, ask, deliver, perform}
+use Rattle.calls.specs.Calls.{wire}
+use Rattle.decide.specs.declared.Numbers.{Numbers}
+use Rattle.decide.specs.Rows.{holding}
+use Rattle.plan.specs.declared.Queue.{Queue}
+use Rattle.plan.specs.declared.Queue.the-variants.{Keep, Join, Release}
+use Rattle.plan.specs.declared.Reply.{Reply}
+use Rattle.plan.specs.declared.Reply.the-variants as reply
+use Rattle.plan.specs.declared.Plan.{Plan}
+
+-- what a request and what receiving come to, of octets and an endpoint that questions 11 and 12 have passed
+unfoldable pub requested : List ℕ → Endpoint → Outcome Step
+requested s e = andThen (mapped ask (readRequest s)) (λ (x : Call). perform x e)
+
+unfoldable pub heard : List ℕ → Endpoint → Outcome Step
+heard s e = andThen (mapped deliver (readFrame s)) (λ (x : Call). perform x e)
+
+-- what a call answers besides: a refusal has no notice, sends nothing and leaves the endpoint
+unfoldable pub noticeOf : Outcome Step → ℕ
+noticeOf (refused n) = 0
+noticeOf (ok x) = notice (x .indication)
+
+unfoldable pub sentIn : Outcome Step → Sent
+sentIn (refused n) = nothing
+sentIn (ok x) = x .sent
+
+unfoldable pub endpointAfter : Endpoint → Outcome Step → Endpoint
+endpointAfter e (refused n) = e
+endpointAfter e (ok x) = x .endpoint
+
+-- the waiting blocks q after the plan; b is the request's block
+unfoldable pub queueAfter : Queue → Block → List Block → List Block
+queueAfter Keep b q = q
+queueAfter Join b q = q ++ (b ∷ [])
+queueAfter (Release k) b q = drop k q
+
+-- where b joins w blocks there is a place for it, and no more leave than wait
+abbrev pub Room : Queue → Block → ℕ → Type 0
+Room Keep b w = Unit {0}
+Room Join b w = (w < queueSize) × ((1 ≤ length b) × (length b ≤ longestBlock))
+Room (Release k) b w = k ≤ w
+
+-- the block that goes out with a DATA: the one that joins, else the oldest
+abbrev pub blockOut : Queue → Block → Block → Block
+blockOut Keep b old = old
+blockOut Join b old = b
+blockOut (Release k) b old = old
+
+unfoldable pub sentBy : Reply → Block → Sent
+sentBy reply.Nothing b = nothing
+sentBy (reply.Frame h) b = frame (frameOf h b)
+
+-- the first of the waiting blocks, if there are any
+abbrev pub Oldest : List Block → Block → Type 0
+Oldest [] old = Unit {0}
+Oldest (b ∷ q) old = b ≡ old
+
+-- The plan p comes to the outcome o, of an endpoint with these numbers and the waiting blocks q.
+pub record Comes (n : Numbers) (q : List Block) (b old : Block) (o : Outcome Step) (p : Plan) : Type 0 where
+  pub number : p .number ≡ numberOf o
+  pub notice : p .notice ≡ noticeOf o
+  pub endpoint : holding (p .numbers) (queueAfter (p .queue) b q) ≡ endpointAfter (holding n q) o
+  pub counted : p .numbers .waiting ≡ length (queueAfter (p .queue) b q)
+  pub room : Room (p .queue) b (length q)
+  pub sent : sentBy (p .reply) (blockOut (p .queue) b old) ≡ sentIn o
+
+-- of every endpoint of these numbers, where b is the request's block
+abbrev pub Planned : Numbers → Block → (Endpoint → Outcome Step) → Plan → Type 0
+Planned n b does p = (q : List Block) (old : Block) → length q ≡ n .waiting → Oldest q old → Comes n q b old (does (holding n q)) p
+
+-- What is left in the buffer where x is sent, and the count of its octets.
+pub record Sends (x : Sent) (out out′ : List ℕ) (n : ℕ) : Type 0 where
+  pub count : n ≡ length (wire x)
+  pub octets : out′ ≡ put out 0 (wire x)
