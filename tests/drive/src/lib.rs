@@ -1,4 +1,4 @@
-//! What is asked of a line program for one end, and how its answers are compared.
+//! What is asked of a line program for one end or for a bench, and how its answers are compared.
 
 pub mod altered;
 pub mod comparison;
@@ -8,4 +8,5 @@ pub mod odd;
 pub mod program;
 pub mod script;
 pub mod sessions;
+pub mod subject;
 pub mod typed;
