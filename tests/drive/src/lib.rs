@@ -1,6 +1,7 @@
 //! What is asked of a line program for one end or for a bench, and how its answers are compared.
 
 pub mod altered;
+pub mod bench;
 pub mod comparison;
 mod end;
 pub mod nearby;
