@@ -23,11 +23,12 @@ pub fn scripts() -> impl Iterator<Item = Script> {
 pub fn long(seed: u64) -> Script {
     let mut random = Random::new(seed);
     let mut writer = Writer::default();
+    let manner = Manner::any(&mut random);
+    writer.session(&mut random, manner, BEFORE);
     writer.fill(&mut random, PLACES);
     for _ in 0..IN_VAIN {
         writer.request(random.pick(&Side::BOTH), &[TIMER]);
     }
-    let manner = Manner::any(&mut random);
     writer.session(&mut random, manner, AFTER);
     writer.script
 }
