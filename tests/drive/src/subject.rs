@@ -1,9 +1,8 @@
 //! The programs of the reference that others are compared with.
 
-use reference::bench::{self, book, Order};
 use reference::record::RECORD;
 use reference::stream::Lines;
-use reference::{line, program};
+use reference::{bench, line, program};
 
 /// A program of the reference, as it starts.
 pub trait Subject: Lines + Default {
@@ -42,14 +41,9 @@ impl Subject for bench::program::Program {
     const LEAD: usize = 2;
 
     fn meeting(&self, line: &[u8]) -> Option<(&[u8; RECORD], Vec<u8>)> {
-        let (side, message) = match Order::read(&line::read(line).ok()?).ok()? {
-            Order::Request(side, request) => (side, request.to_vec()),
-            Order::Delivery(number) => {
-                let (sender, frame) = book::find(self.used(), number).ok()?;
-                (sender.other(), frame.to_vec())
-            }
-        };
-        Some((self.record(side), message))
+        let bytes = line::read(line).ok()?;
+        let (side, message) = cases::bench::meeting(self.used(), &bytes)?;
+        Some((self.record(side), message.to_vec()))
     }
 }
 
