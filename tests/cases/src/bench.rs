@@ -7,7 +7,7 @@ mod scene;
 #[cfg(test)]
 mod tests;
 
-pub use desk::{Bench, Lent, Named, Reference, Reply};
+pub use desk::{Bench, Lent, Named, Reference, Reply, TextBench};
 
 use crate::coverage::Coverage;
 use crate::group::{Group, Score};
@@ -32,7 +32,12 @@ pub fn compare<B: Bench>(rounds: usize) -> Score {
     [calls, coverage.report()].into_iter().sum()
 }
 
-/// The same without a report of the steps, which are noted.
+/// Compares the generated lines of text, so many rounds of 10,000, and reports them.
+pub fn compare_texts<T: TextBench>(rounds: usize) -> Score {
+    texts::<T>(rounds).report()
+}
+
+/// As `compare`, without a report of the steps, which are noted.
 fn calls<B: Bench>(rounds: usize, coverage: &mut Coverage) -> Score {
     let lines = lines::<B>(rounds, coverage);
     let [named, none] = questions::<B>(rounds);
@@ -54,19 +59,38 @@ pub fn meeting<'a>(used: &'a [Place], line: &'a [u8]) -> Option<(Side, &'a [u8])
 fn lines<B: Bench>(rounds: usize, coverage: &mut Coverage) -> Group {
     let expected = &[0, 3, 4, 5, 6, 7, 8, 9, 10, 11, 12, 13, 14];
     let mut group = Group::new("bench lines", expected);
-    let mut random = Random::new(40);
+    for_each_line(rounds, 40, |random, scene| {
+        let line = scene.line(random);
+        let buffers = Buffers::any(random, scene, &line);
+        let number = buffers.compare_line(&mut group, B::line, Reference::line);
+        if !matches!(number, 11 | 12) {
+            see(coverage, scene, &line);
+        }
+    });
+    group
+}
+
+/// The same lines as text, some with wrong characters or lengths.
+fn texts<T: TextBench>(rounds: usize) -> Group {
+    let expected = &[0, 1, 2, 3, 4, 5, 6, 7, 8, 9, 10, 11, 12, 13, 14];
+    let mut group = Group::new("bench lines of text", expected);
+    for_each_line(rounds, 42, |random, scene| {
+        let text = scene.text(random);
+        let buffers = Buffers::any(random, scene, &text);
+        buffers.compare_line(&mut group, T::text, Reference::text);
+    });
+    group
+}
+
+/// Makes one case for each line of so many rounds.
+fn for_each_line(rounds: usize, seed: u64, mut case: impl FnMut(&mut Random, &Scene)) {
+    let mut random = Random::new(seed);
     for _ in 0..rounds * SCENES {
         let scene = Scene::any(&mut random);
         for _ in 0..LINES {
-            let line = scene.line(&mut random);
-            let buffers = Buffers::any(&mut random, &scene, &line);
-            let number = buffers.compare_line::<B>(&mut group);
-            if !matches!(number, 11 | 12) {
-                see(coverage, &scene, &line);
-            }
+            case(&mut random, &scene);
         }
     }
-    group
 }
 
 /// The question, asked where there is a frame to name, and where there is none or it is refused.

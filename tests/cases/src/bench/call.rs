@@ -1,6 +1,6 @@
 //! One call, the buffers lent to it, and what it answers and leaves there.
 
-use super::desk::{Bench, Lent, Named, Reference, Reply};
+use super::desk::{Bench, Lent, Named, Reference, Reply, Take};
 use super::scene::Scene;
 use crate::group::Group;
 use crate::guarded::Guarded;
@@ -55,10 +55,10 @@ impl Buffers {
         }
     }
 
-    /// One case: this implementation and the reference take the line. Gives the right number.
-    pub fn compare_line<B: Bench>(&self, group: &mut Group) -> u8 {
-        let found = self.after(|buffers| buffers.take_line::<B>());
-        let right = self.after(|buffers| buffers.take_line::<Reference>());
+    /// One case: an implementation takes the line, and the reference does. Gives the right number.
+    pub fn compare_line(&self, group: &mut Group, found: Take, right: Take) -> u8 {
+        let found = self.after(|buffers| buffers.line(found));
+        let right = self.after(|buffers| buffers.line(right));
         let number = right.reply.end.number;
         group.check(self, number, &found, &right);
         number
@@ -94,15 +94,15 @@ impl Buffers {
         }
     }
 
-    /// The line, taken by this implementation.
-    fn take_line<B: Bench>(&mut self) -> Reply {
+    /// The line, taken so.
+    fn line(&mut self, take: Take) -> Reply {
         let lent = Lent {
             records: self.records.each_mut().map(Guarded::bytes_mut),
             book: self.book.bytes_mut(),
             count: self.count,
             out: self.out.bytes_mut(),
         };
-        B::line(lent, self.line.bytes())
+        take(lent, self.line.bytes())
     }
 
     /// The question, asked of this implementation.

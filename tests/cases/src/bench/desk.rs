@@ -1,7 +1,7 @@
 //! The calls that an implementation of a bench offers.
 
 use crate::lent;
-use reference::bench::{self, Side};
+use reference::bench::{self, Answer, Side};
 use reference::refusal;
 
 /// One implementation.
@@ -12,6 +12,15 @@ pub trait Bench {
     /// receiver's record.
     fn name(records: [&[u8]; 2], book: &[u8], count: usize) -> Named;
 }
+
+/// One implementation that takes lines of text.
+pub trait TextBench {
+    /// A bench line as text, without its line feed.
+    fn text(lent: Lent, text: &[u8]) -> Reply;
+}
+
+/// How an implementation takes a line.
+pub type Take = fn(Lent, &[u8]) -> Reply;
 
 /// What is lent to a bench line.
 pub struct Lent<'a> {
@@ -52,11 +61,7 @@ impl Bench for Reference {
     fn line(lent: Lent, line: &[u8]) -> Reply {
         let start = lent.book.as_ptr();
         let answer = bench::line(lent.records, lent.book, lent.count, line, lent.out);
-        Reply {
-            side: answer.side,
-            end: lent::Reply::of(&answer.end, start),
-            count: answer.count,
-        }
+        Reply::of(&answer, start)
     }
 
     fn name(records: [&[u8]; 2], book: &[u8], count: usize) -> Named {
@@ -64,6 +69,25 @@ impl Bench for Reference {
         Named {
             frame: changing.iter().flatten().next().copied(),
             number: refusal::number(changing),
+        }
+    }
+}
+
+impl TextBench for Reference {
+    fn text(lent: Lent, text: &[u8]) -> Reply {
+        let start = lent.book.as_ptr();
+        let answer = bench::text(lent.records, lent.book, lent.count, text, lent.out);
+        Reply::of(&answer, start)
+    }
+}
+
+impl Reply {
+    /// An answer of the reference, with a book that starts here.
+    fn of(answer: &Answer, start: *const u8) -> Self {
+        Self {
+            side: answer.side,
+            end: lent::Reply::of(&answer.end, start),
+            count: answer.count,
         }
     }
 }

@@ -1,13 +1,14 @@
 //! Scenes: two sound records and a book, right or damaged, and lines for them.
 
-use crate::alter::alter;
+use crate::alter::{alter, damage as spoil};
 use crate::near;
 use crate::random::Random;
 use crate::records::sound;
-use crate::sample::FRAME_KINDS;
+use crate::sample::{hex_digits, FRAME_KINDS};
 use reference::bench::book::{self, Place, BOOK, HEAD, PLACE, PLACES};
 use reference::bench::{self, Side, DELIVER, REQUEST_A, REQUEST_B};
 use reference::frame::LONGEST_FRAME;
+use reference::line::{self, LONGEST_LINE};
 use reference::record::RECORD;
 
 /// A session has so many lines at most.
@@ -122,6 +123,23 @@ impl Scene {
             13..=18 => self.request(random),
             _ => self.delivery(random),
         }
+    }
+
+    /// A line of text for this scene, now and then with wrong characters or a wrong length.
+    pub fn text(&self, random: &mut Random) -> Vec<u8> {
+        let mut text = line::write(&self.line(random));
+        match random.within(0..=15) {
+            0 | 1 => spoil(random, &mut text),
+            2 => text.truncate(random.within(0..=text.len())),
+            3 => text.extend(random.bytes_within(1..=3)),
+            4 => text = random.bytes_within(0..=200),
+            5 => {
+                let length = random.within(LONGEST_LINE - 2..=LONGEST_LINE + 4);
+                text = hex_digits(random, length);
+            }
+            _ => {}
+        }
+        text
     }
 
     /// A request of some end.

@@ -1,6 +1,6 @@
 //! The comparison finds what is wrong, and nothing else.
 
-use super::{calls, compare, Bench, Lent, Named, Reference, Reply};
+use super::{calls, compare, compare_texts, Bench, Lent, Named, Reference, Reply, TextBench};
 use crate::coverage::Coverage;
 use reference::bench::book::{self, BOOK, HEAD, PLACE, PLACES};
 use reference::bench::{self, Side};
@@ -258,6 +258,52 @@ fn every_fault_of_a_line_is_found() {
         failed::<Broken<TAKES_A_LENGTH_OF_8>>(),
         failed::<Broken<CUTS_THE_COUNT>>(),
     ];
+    assert!(failed.iter().all(|&failed| failed > 0), "{failed:?}");
+}
+
+/// Takes text with a fault.
+struct Misreading<const FAULT: u8>;
+
+const ASKS_1_BEFORE_12: u8 = 0;
+const ASKS_2_BEFORE_1: u8 = 1;
+const TELLS_OF_B_AS_2_REFUSES: u8 = 2;
+const TAKES_CAPITALS: u8 = 3;
+const TAKES_158_DIGITS: u8 = 4;
+
+impl<const FAULT: u8> TextBench for Misreading<FAULT> {
+    fn text(lent: Lent, text: &[u8]) -> Reply {
+        let is_digit = |character: &u8| matches!(character, b'0'..=b'9' | b'a'..=b'f');
+        let lower = text.to_ascii_lowercase();
+        let mut reply = match FAULT {
+            TAKES_CAPITALS => Reference::text(lent, &lower),
+            TAKES_158_DIGITS if text.len() == 158 => Reference::text(lent, &text[..156]),
+            _ => Reference::text(lent, text),
+        };
+        match FAULT {
+            ASKS_1_BEFORE_12 if text.len() % 2 == 1 => reply.end.number = 1,
+            ASKS_2_BEFORE_1 if reply.end.number == 1 && !text.iter().all(is_digit) => {
+                reply.end.number = 2;
+            }
+            TELLS_OF_B_AS_2_REFUSES if reply.end.number == 2 && text.starts_with(b"51") => {
+                reply.side = Side::B;
+            }
+            _ => {}
+        }
+        reply
+    }
+}
+
+#[test]
+fn every_fault_with_text_is_found() {
+    assert_eq!(compare_texts::<Reference>(1).failed, 0);
+    let failed = [
+        compare_texts::<Misreading<ASKS_1_BEFORE_12>>(1),
+        compare_texts::<Misreading<ASKS_2_BEFORE_1>>(1),
+        compare_texts::<Misreading<TELLS_OF_B_AS_2_REFUSES>>(1),
+        compare_texts::<Misreading<TAKES_CAPITALS>>(1),
+        compare_texts::<Misreading<TAKES_158_DIGITS>>(1),
+    ]
+    .map(|score| score.failed);
     assert!(failed.iter().all(|&failed| failed > 0), "{failed:?}");
 }
 
