@@ -2,8 +2,8 @@
 
 use super::{calls, compare, compare_texts, Bench, Lent, Named, Reference, Reply, TextBench};
 use crate::coverage::Coverage;
-use reference::bench::book::{self, BOOK, HEAD, PLACE, PLACES};
-use reference::bench::{self, Side};
+use reference::bench::book::{self, Place, BOOK, HEAD, PLACE, PLACES};
+use reference::bench::{self, Side, DELIVER, REQUEST_A};
 use reference::frame::LONGEST_FRAME;
 use reference::record::{Record, RECORD};
 use reference::Frame;
@@ -83,7 +83,7 @@ fn assert_named(records: [&[u8]; 2], book: &[u8], count: usize, frame: Option<us
         let [mut a, mut b] = records.map(<[u8]>::to_vec);
         let [high, low] = (number as u16).to_be_bytes();
         let out = &mut [0; LONGEST_FRAME];
-        let line = [bench::DELIVER, high, low];
+        let line = [DELIVER, high, low];
         let mut book = book.to_vec();
         let answer = bench::line([&mut a, &mut b], &mut book, count, &line, out);
         answer.end.number == 0 && [a, b] != records.map(<[u8]>::to_vec)
@@ -169,58 +169,37 @@ impl<const FAULT: u8> Bench for Broken<FAULT> {
             count,
             out,
         } = lent;
-        let mut other = [0; RECORD];
-        let mut longer = book.to_vec();
-        longer.resize(BOOK.max(book.len()), 0);
-        let delivered = match *line {
-            [bench::DELIVER, high, low] => usize::from(u16::from_be_bytes([high, low])),
-            _ => PLACES,
-        };
-        let place = book.as_chunks::<PLACE>().0.get(delivered).copied();
-        let rest = count * usize::from(count < PLACES) * PLACE;
-        let rest_before = book.get(rest..rest + PLACE).map(<[u8]>::to_vec);
-        let lent = Lent {
-            records: match FAULT {
-                FORGETS_THE_OTHER_RECORD if line.first() == Some(&bench::REQUEST_A) => {
-                    [&mut *a, &mut other]
-                }
-                _ => [&mut *a, &mut *b],
+        let before = book.to_vec();
+        let mut fresh = [0; RECORD];
+        let mut longer = [&book[..], &[0; BOOK]].concat();
+        let forgets_b = FAULT == FORGETS_THE_OTHER_RECORD && line.starts_with(&[REQUEST_A]);
+        let forgets_length = FAULT == FORGETS_THE_BOOKS_LENGTH && book.len() < BOOK;
+        let broken = Lent {
+            records: [&mut *a, if forgets_b { &mut fresh } else { &mut *b }],
+            book: if forgets_length {
+                &mut longer
+            } else {
+                &mut *book
             },
-            book: match FAULT {
-                FORGETS_THE_BOOKS_LENGTH if book.len() < BOOK => &mut longer,
-                _ => &mut *book,
-            },
-            count: match FAULT {
-                TAKES_513 if count == PLACES + 1 => PLACES,
-                CUTS_THE_COUNT => count & 0xffff,
-                LOOKS_BEYOND_THE_COUNT if (count..PLACES).contains(&delivered) => delivered + 1,
-                _ => count,
-            },
+            count: Self::count(count, line),
             out: &mut *out,
         };
-        let mut reply = Reference::line(lent, line);
-        let sent = reply.end.sent;
+        let mut reply = Reference::line(broken, line);
+        Self::spoil_reply(&mut reply, count, delivered(&before, line));
         match FAULT {
-            LEAVES_THE_REST_OF_THE_PLACE if sent > 0 => {
-                let kept = &rest_before.unwrap()[HEAD + sent..];
-                book[count * PLACE + HEAD + sent..][..kept.len()].copy_from_slice(kept);
+            LEAVES_THE_REST_OF_THE_PLACE if reply.end.sent > 0 => {
+                let rest = count * PLACE + HEAD + reply.end.sent..(count + 1) * PLACE;
+                book[rest.clone()].copy_from_slice(&before[rest]);
             }
-            WRITES_PAST_THE_FRAME if (1..out.len()).contains(&sent) => out[sent] ^= 1,
+            WRONG_SENDER if reply.end.sent > 0 => book[count * PLACE] ^= 1,
             WRITES_THE_PLACE_AS_IT_REFUSES if reply.end.number == 10 && count < PLACES => {
                 book[count * PLACE] ^= 1;
             }
-            STORES_THE_RECORD_BEFORE_14 if reply.end.number == 14 => {
-                let record = if reply.side == Side::A { a } else { b };
-                record[RECORD - 1] ^= 1;
+            WRITES_PAST_THE_FRAME if (1..out.len()).contains(&reply.end.sent) => {
+                out[reply.end.sent] ^= 1;
             }
-            FORGETS_THE_COUNT if sent > 0 => reply.count = count,
-            ASKS_14_OF_ALL if count == PLACES && reply.end.number == 0 => reply.end.number = 14,
-            TELLS_OF_A_AS_IT_REFUSES if reply.end.number > 0 => reply.side = Side::A,
-            WRONG_SENDER if sent > 0 => book[count * PLACE] ^= 1,
-            BLOCK_IN_THE_FRAME if reply.end.notice == 5 => reply.end.block = 14..15,
-            ASKS_THE_REST_OF_THE_PLACE if place.is_some_and(has_rest) => reply.end.number = 13,
-            TAKES_A_LENGTH_OF_8 if reply.end.number == 13 && place.is_some_and(|p| p[1] == 8) => {
-                reply.end.number = 4;
+            STORES_THE_RECORD_BEFORE_14 if reply.end.number == 14 => {
+                [a, b][reply.side.index()][RECORD - 1] ^= 1;
             }
             _ => {}
         }
@@ -232,8 +211,49 @@ impl<const FAULT: u8> Bench for Broken<FAULT> {
     }
 }
 
+impl<const FAULT: u8> Broken<FAULT> {
+    /// The count that it goes by.
+    fn count(count: usize, line: &[u8]) -> usize {
+        match FAULT {
+            TAKES_513 if count == PLACES + 1 => PLACES,
+            CUTS_THE_COUNT => count & 0xffff,
+            LOOKS_BEYOND_THE_COUNT if (count..PLACES).contains(&number(line)) => number(line) + 1,
+            _ => count,
+        }
+    }
+
+    /// Spoils an answer to a line, which may have delivered the frame in this place.
+    fn spoil_reply(reply: &mut Reply, count: usize, place: Option<Place>) {
+        let end = &mut reply.end;
+        match FAULT {
+            FORGETS_THE_COUNT if end.sent > 0 => reply.count = count,
+            ASKS_14_OF_ALL if count == PLACES && end.number == 0 => end.number = 14,
+            TELLS_OF_A_AS_IT_REFUSES if end.number > 0 => reply.side = Side::A,
+            BLOCK_IN_THE_FRAME if end.notice == 5 => end.block = 14..15,
+            ASKS_THE_REST_OF_THE_PLACE if place.is_some_and(has_rest) => end.number = 13,
+            TAKES_A_LENGTH_OF_8 if end.number == 13 && place.is_some_and(|place| place[1] == 8) => {
+                end.number = 4;
+            }
+            _ => {}
+        }
+    }
+}
+
+/// The number of the frame that a line delivers; if it delivers none, a number beyond the book.
+fn number(line: &[u8]) -> usize {
+    match *line {
+        [DELIVER, high, low] => usize::from(u16::from_be_bytes([high, low])),
+        _ => PLACES,
+    }
+}
+
+/// The place that a line delivers from.
+fn delivered(book: &[u8], line: &[u8]) -> Option<Place> {
+    book.as_chunks().0.get(number(line)).copied()
+}
+
 /// Has the place other bytes than 0 after its frame?
-fn has_rest(place: book::Place) -> bool {
+fn has_rest(place: Place) -> bool {
     let rest = place.get(HEAD + usize::from(place[1])..);
     rest.is_some_and(|rest| rest.iter().any(|&byte| byte != 0))
 }
