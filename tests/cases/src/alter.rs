@@ -11,8 +11,9 @@ pub fn alter(random: &mut Random, bytes: &mut Vec<u8>) {
         1 => bytes.extend(random.bytes_within(1..=20)),
         2 => bytes[random.within(0..=last)] = random.byte(),
         3 => {
-            if let Some(place) = count_place(bytes[0]) {
-                bytes[place] = random.within(0..=70) as u8;
+            let place = count_place(bytes[0]);
+            if let Some(count) = place.and_then(|place| bytes.get_mut(place)) {
+                *count = random.within(0..=70) as u8;
             }
         }
         _ => {}

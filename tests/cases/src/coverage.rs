@@ -51,6 +51,16 @@ impl Coverage {
             failed: unseen.len() as u64,
         }
     }
+
+    /// Prints how many steps were made. Each one that is missing to this many is a failed case.
+    pub fn report_least(&self, least: usize) -> Score {
+        let seen = self.0.len();
+        println!("steps: {seen} seen, {least} expected at least");
+        Score {
+            passed: 0,
+            failed: least.saturating_sub(seen) as u64,
+        }
+    }
 }
 
 impl Step {
@@ -147,5 +157,7 @@ mod tests {
         assert_eq!(coverage.report().failed, 295);
         coverage.see(&closed, &[1, 0, 0, 0, 7, 0, 0, 0, 0]);
         assert_eq!(coverage.report().failed, 294);
+        assert_eq!(coverage.report_least(2).failed, 0);
+        assert_eq!(coverage.report_least(5).failed, 3);
     }
 }

@@ -19,9 +19,32 @@ impl Guarded {
 
     /// A buffer of these bytes.
     pub fn of(random: &mut Random, bytes: &[u8]) -> Self {
-        let mut buffer = Self::any(random, bytes.len());
-        buffer.bytes_mut().copy_from_slice(bytes);
-        buffer
+        let guards = [(); 2].map(|()| random.bytes(GUARD));
+        Self(Hex([&guards[0], bytes, &guards[1]].concat()))
+    }
+
+    /// A buffer with these bytes, mostly as they are, else cut or lengthened.
+    pub fn resized(random: &mut Random, mut bytes: Vec<u8>) -> Self {
+        let last = bytes.len() - 1;
+        match random.within(0..=31) {
+            0 => bytes.truncate(random.within(0..=last)),
+            1 => bytes.truncate(last),
+            2..=8 => bytes.extend(random.bytes_within(1..=30)),
+            _ => {}
+        }
+        Self::of(random, &bytes)
+    }
+
+    /// The first and the last byte that differ from those before, counted from the buffer's
+    /// start, and the bytes from the one to the other. The guard before it has negative numbers.
+    pub fn changed(&self, before: &Self) -> Option<(Range<isize>, Hex)> {
+        let differs = |(after, before): (&u8, &u8)| after != before;
+        let mut pairs = self.0 .0.iter().zip(&before.0 .0);
+        let first = pairs.clone().position(differs)?;
+        let end = pairs.rposition(differs)? + 1;
+        let place = |index: usize| index as isize - GUARD as isize;
+        let bytes = Hex(self.0 .0[first..end].to_vec());
+        Some((place(first)..place(end), bytes))
     }
 
     /// The buffer without its guards.
@@ -38,5 +61,25 @@ impl Guarded {
     /// Where the buffer stands between its guards.
     fn inner(&self) -> Range<usize> {
         GUARD..self.0 .0.len() - GUARD
+    }
+}
+
+#[cfg(test)]
+mod tests {
+    use super::*;
+
+    #[test]
+    fn changes_are_found_in_the_buffer_and_its_guards() {
+        let before = Guarded::of(&mut Random::new(0), &[1, 2, 3, 4]);
+        let mut after = before.clone();
+        assert_eq!(after.changed(&before), None);
+        after.bytes_mut()[1] = 7;
+        assert_eq!(after.changed(&before), Some((1..2, Hex(vec![7]))));
+        after.bytes_mut()[3] = 8;
+        assert_eq!(after.changed(&before), Some((1..4, Hex(vec![7, 3, 8]))));
+        after.0 .0[GUARD - 1] ^= 1;
+        assert_eq!(after.changed(&before).unwrap().0, -1..4);
+        after.0 .0[GUARD + 4] ^= 1;
+        assert_eq!(after.changed(&before).unwrap().0, -1..5);
     }
 }

@@ -1,6 +1,7 @@
 //! Generated cases with fixed seeds, and how they are compared and reported.
 
 pub mod alter;
+pub mod bench;
 pub mod coverage;
 pub mod group;
 pub mod guarded;

@@ -28,6 +28,11 @@ pub fn frame(random: &mut Random, record: &[u8; RECORD]) -> Vec<u8> {
         1.. if is_open(record) => random.pick(&[DATA, ACK]),
         _ => random.pick(&FRAME_KINDS),
     };
+    frame_of(random, record, kind)
+}
+
+/// A frame of this kind for this end.
+pub fn frame_of(random: &mut Random, record: &[u8; RECORD], kind: u8) -> Vec<u8> {
     let numbers = Numbers::of(record);
     let third = match kind {
         DATA => near(random, numbers.handed_up),

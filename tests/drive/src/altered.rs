@@ -5,17 +5,22 @@ use crate::script::Script;
 use crate::sessions::session;
 use cases::alter::{alter, damage};
 use cases::random::Random;
+use reference::bench::{REQUEST_A, REQUEST_B};
 use reference::line;
 
 const SOURCES: u64 = 8;
 const CALLS: usize = 2_000;
 
-/// All scripts of this sort; every other one lacks its last line feed.
+/// All scripts of this sort for one end.
 pub fn scripts() -> impl Iterator<Item = Script> {
-    let sources = (300..300 + SOURCES).flat_map(|seed| {
+    of((300..300 + SOURCES).flat_map(|seed| {
         let [first, second] = session(seed, 2 * CALLS);
         [first, second, nearby::script(seed, CALLS)]
-    });
+    }))
+}
+
+/// These scripts with faults; every other one lacks its last line feed.
+pub fn of(sources: impl Iterator<Item = Script>) -> impl Iterator<Item = Script> {
     (400..).zip(sources).map(|(seed, source)| {
         let script = altered(seed, &source);
         match seed % 2 {
@@ -47,11 +52,13 @@ fn altered(seed: u64, source: &Script) -> Script {
     script
 }
 
-/// The line's message, altered in most cases.
+/// The line's message, altered in most cases; on a bench line that of the end.
 fn with_fault(random: &mut Random, line: &[u8]) -> Vec<u8> {
-    let mut message = line::read(line).expect("a line of the source").to_vec();
+    let bytes = line::read(line).expect("a line of the source");
+    let lead = usize::from(matches!(bytes[0], REQUEST_A | REQUEST_B));
+    let mut message = bytes[lead..].to_vec();
     alter(random, &mut message);
-    message
+    [&bytes[..lead], &message].concat()
 }
 
 /// The line with a wrong character, or cut, or lengthened.

@@ -2,28 +2,30 @@
 
 use crate::program::{self, Run};
 use crate::script::Script;
+use crate::subject::Subject;
 use cases::coverage::Coverage;
 use cases::group::Group;
-use reference::line;
-use reference::program::Program;
 use std::ffi::OsString;
 use std::fmt;
+use std::marker::PhantomData;
 
 /// So many bytes of a line or an answer are shown.
 const SHOWN: usize = 200;
 
-/// A program under test, and what it was asked.
-pub struct Comparison {
+/// A program under test beside one of the reference, and what it was asked.
+pub struct Comparison<P> {
     program: OsString,
     pub coverage: Coverage,
+    reference: PhantomData<P>,
 }
 
-impl Comparison {
+impl<P: Subject> Comparison<P> {
     /// A comparison of this program that has asked nothing yet.
     pub fn new(program: OsString) -> Self {
         Self {
             program,
             coverage: Coverage::default(),
+            reference: PhantomData,
         }
     }
 
@@ -46,16 +48,15 @@ impl Comparison {
 
     /// Compares the program's answer to each line of a script.
     fn script(&mut self, group: &mut Group, number: u32, script: &Script, run: &Run) {
-        let mut reference = Program::default();
+        let mut reference = P::default();
         let mut found = Answers(&run.output);
         for (place, line) in (1..).zip(script.lines()) {
             self.see(&reference, line);
-            let mut right = Vec::new();
-            reference.line(line, &mut right);
+            let right = reference.answer(line);
             let found = found.next().unwrap_or_default();
             group.check(
                 &format_args!("{:?}, line {place} of script {number}", Text(line)),
-                number_of(&right),
+                P::number(&right),
                 &Text(found),
                 &Text(&right),
             );
@@ -70,21 +71,15 @@ impl Comparison {
     }
 
     /// Notes the step that the reference is about to make.
-    fn see(&mut self, reference: &Program, line: &[u8]) {
-        if let Ok(message) = line::read(line) {
-            self.coverage.see(reference.record(), &message);
+    fn see(&mut self, reference: &P, line: &[u8]) {
+        if let Some((record, message)) = reference.meeting(line) {
+            self.coverage.see(record, &message);
         }
     }
 }
 
-/// The number of an answer of the reference.
-pub fn number_of(answer: &[u8]) -> u8 {
-    let first = line::read(&answer[..2]).expect("an answer line starts with two digits");
-    first[0] - 0x80
-}
-
-/// The answers in an output, each with all lines up to the next. An answer line starts with 8, a
-/// frame's line does not.
+/// The answers in an output, each with all lines up to the next. An answer line starts with 8, or
+/// on the bench with 5; a frame's line starts with neither.
 struct Answers<'a>(&'a [u8]);
 
 impl<'a> Iterator for Answers<'a> {
@@ -94,7 +89,10 @@ impl<'a> Iterator for Answers<'a> {
         if self.0.is_empty() {
             return None;
         }
-        let next = self.0.windows(2).position(|pair| pair == b"\n8");
+        let next = self
+            .0
+            .windows(2)
+            .position(|pair| matches!(pair, b"\n8" | b"\n5"));
         let length = next.map_or(self.0.len(), |line_feed| line_feed + 1);
         let (answer, rest) = self.0.split_at(length);
         self.0 = rest;
@@ -121,36 +119,51 @@ impl fmt::Debug for Text<'_> {
 mod tests {
     use super::*;
 
+    type Bench = reference::bench::program::Program;
+    type Line = reference::program::Program;
+
     const INPUT: &[u8] = b"40\n040000000000000001\nzz";
     const OUTPUT: &[u8] =
         b"8002000000000100000000\n010000000100000000\n8000020000000100000000\n8200000000000100000000\n";
+    const BENCH_INPUT: &[u8] = b"5140\n520000\n520001\nzz";
+    const BENCH_OUTPUT: &[u8] = b"518002000000000100000000\n010000000100000000\n\
+        508000000000000000000000\n040000000000000001\n518000020000000100000000\n\
+        508200000000000000000000\n";
 
-    /// How many lines passed and failed with this output.
-    fn score(output: &[u8], succeeded: bool) -> (u64, u64) {
+    /// How many lines of this input passed and failed with this output.
+    fn score<P: Subject>(input: &[u8], output: &[u8], succeeded: bool) -> (u64, u64) {
         let mut group = Group::new("test", &[]);
         let run = Run {
             output: output.to_vec(),
             succeeded,
         };
-        let script = Script(INPUT.to_vec());
-        Comparison::new(OsString::new()).script(&mut group, 0, &script, &run);
+        let script = Script(input.to_vec());
+        Comparison::<P>::new(OsString::new()).script(&mut group, 0, &script, &run);
         let score = group.report();
         (score.passed, score.failed)
     }
 
-    #[test]
-    fn every_byte_counts() {
-        assert_eq!(score(OUTPUT, true), (3, 0));
-        for place in 0..OUTPUT.len() {
-            let mut output = OUTPUT.to_vec();
+    /// Every byte of the right output of so many lines counts.
+    fn assert_all_counts<P: Subject>(input: &[u8], right: &[u8], lines: u64) {
+        assert_eq!(score::<P>(input, right, true), (lines, 0));
+        for place in 0..right.len() {
+            let mut output = right.to_vec();
             output[place] ^= 1;
-            assert!(score(&output, true).1 > 0, "place {place}");
-            assert!(score(&OUTPUT[..place], true).1 > 0, "length {place}");
+            assert!(score::<P>(input, &output, true).1 > 0, "place {place}");
+            let shorter = &right[..place];
+            assert!(score::<P>(input, shorter, true).1 > 0, "length {place}");
         }
     }
 
     #[test]
+    fn every_byte_counts() {
+        assert_all_counts::<Line>(INPUT, OUTPUT, 3);
+        assert_all_counts::<Bench>(BENCH_INPUT, BENCH_OUTPUT, 4);
+    }
+
+    #[test]
     fn surplus_output_and_a_failing_program_count() {
+        let score = |output: &[u8], succeeded| score::<Line>(INPUT, output, succeeded);
         assert_eq!(score(&[OUTPUT, b"8"].concat(), true), (3, 1));
         assert_eq!(score(&[OUTPUT, b"\n"].concat(), true), (2, 1));
         assert_eq!(score(OUTPUT, false), (3, 1));

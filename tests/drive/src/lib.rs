@@ -1,6 +1,7 @@
-//! What is asked of a line program for one end, and how its answers are compared.
+//! What is asked of a line program for one end or for a bench, and how its answers are compared.
 
 pub mod altered;
+pub mod bench;
 pub mod comparison;
 mod end;
 pub mod nearby;
@@ -8,4 +9,5 @@ pub mod odd;
 pub mod program;
 pub mod script;
 pub mod sessions;
+pub mod subject;
 pub mod typed;

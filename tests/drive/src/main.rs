@@ -6,17 +6,20 @@
 
 use cases::group::{Group, Score};
 use drive::comparison::Comparison;
-use drive::{altered, nearby, odd, sessions, typed};
-use std::env;
+use drive::{altered, nearby, odd, program, sessions, typed};
+use reference::program::Program;
 use std::process::ExitCode;
 
+/// So many calls of a session are typed or not, as they are one end's or the other's.
+const TYPED: usize = 1_000;
+
 fn main() -> ExitCode {
-    let Some(program) = env::args_os().nth(1) else {
-        eprintln!("usage: drive PROGRAM");
+    let Some(program) = program::named("drive PROGRAM") else {
         return ExitCode::FAILURE;
     };
-    let typed = typed::group(&program);
-    let mut comparison = Comparison::new(program);
+    let [script, _] = sessions::session(600, TYPED);
+    let typed = typed::group::<Program>(&program, &script);
+    let mut comparison = Comparison::<Program>::new(program);
     let groups = [
         comparison.group("sessions", &[0, 8, 10], sessions::scripts()),
         comparison.group("numbers nearby", &[0, 7, 8, 10], nearby::scripts()),

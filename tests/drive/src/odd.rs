@@ -3,63 +3,73 @@
 use crate::script::Script;
 use cases::random::Random;
 use cases::sample::{hex_digits, message, EDGES};
-use reference::frame::LONGEST_FRAME;
-use reference::line::LONGEST_LINE;
+use reference::frame::{DATA, LONGEST_FRAME};
+use reference::line::{self, LONGEST_LINE};
+use reference::request::{CONNECT, SEND};
 
 /// The run of the document.
-const RUN: &[u8] = b"41\n010000000700000000\n030000000700000001\n\
+pub const RUN: &[u8] = b"41\n010000000700000000\n030000000700000001\n\
     08000000070000000100000000026162\nzz\n";
 const MEGABYTE: usize = 1 << 20;
 const RANDOM_SCRIPTS: usize = 20;
 const RANDOM_BYTES: usize = 4_000;
 
-/// All scripts of this sort.
+/// All scripts of this sort for one end.
 pub fn scripts() -> Vec<Script> {
-    let run = Script(RUN.to_vec());
-    let mut scripts = vec![
-        run.clone(),
-        run.unfinished(),
-        lengths(),
-        characters(),
-        kinds(),
-        counts(),
-        edges(),
-    ];
-    scripts.extend(few_bytes());
-    scripts.extend(megabytes());
+    let mut scripts = of(RUN, &[&[]]);
+    scripts.push(edges());
+    scripts
+}
+
+/// The scripts for a program with this run, whose requests stand after one of these leads.
+pub fn of(run: &[u8], leads: &[&[u8]]) -> Vec<Script> {
+    let whole = Script(run.to_vec());
+    let unfinished = whole.clone().unfinished();
+    let mut scripts = vec![whole, unfinished, lengths(), characters()];
+    for lead in leads {
+        scripts.push(kinds(lead));
+        scripts.push(counts(run, lead));
+        scripts.extend(few_bytes(lead));
+    }
+    scripts.extend(megabytes(run));
     scripts.extend(random_bytes());
     scripts
 }
 
-/// Inputs of very few bytes.
-fn few_bytes() -> impl Iterator<Item = Script> {
-    let inputs: [&[u8]; 14] = [
+/// Inputs of very few bytes, some with a request after this lead.
+fn few_bytes(lead: &[u8]) -> Vec<Script> {
+    let request = line::write(&[lead, &[CONNECT]].concat());
+    let surroundings: [(&[u8], &[u8]); 8] = [
+        (b"", b""),
+        (b"", b"\n"),
+        (b"", b"\r\n"),
+        (b"\r\n", b""),
+        (b"", b"\0\n"),
+        (b" ", b"\n"),
+        (b"", b" \n"),
+        (b"\xff\xfe", b"\n"),
+    ];
+    let requests = surroundings.map(|(before, after)| [before, &request, after].concat());
+    let inputs: [&[u8]; 6] = [
         b"",
         b"\n",
         b"\n\n\n",
-        b"4",
-        b"40",
-        b"40\n",
-        b"40\r\n",
-        b"\r\n40",
+        &request[..request.len() - 1],
         b"\0",
-        b"40\0\n",
-        b" 40\n",
-        b"40 \n",
-        b"\xff\xfe40\n",
         "é\n".as_bytes(),
     ];
-    inputs.into_iter().map(|input| Script(input.to_vec()))
+    let inputs = inputs.map(<[u8]>::to_vec);
+    requests.into_iter().chain(inputs).map(Script).collect()
 }
 
 /// Lines of a megabyte: first, between others, last and unfinished, and with other characters.
-fn megabytes() -> [Script; 4] {
+fn megabytes(run: &[u8]) -> [Script; 4] {
     let long = vec![b'0'; MEGABYTE];
     let odd = vec![0xff; MEGABYTE + 1];
-    let lines: [&[u8]; 3] = [b"41", &long, b"42"];
-    let between = Script::from_iter(lines);
-    let last = Script::from_iter([b"41".as_slice(), &long]).unfinished();
-    let mixed = Script::from_iter([&odd, RUN.trim_ascii_end(), &odd, b"45"]);
+    let run = run.trim_ascii_end();
+    let between = Script::from_iter([run, &long, run]);
+    let last = Script::from_iter([run, &long]).unfinished();
+    let mixed = Script::from_iter([&odd, run, &odd, run]);
     [Script(long), between, last, mixed]
 }
 
@@ -84,29 +94,28 @@ fn characters() -> Script {
     script
 }
 
-/// Every kind with every number of bytes after it.
-fn kinds() -> Script {
+/// Every kind after this lead, with every number of bytes after it.
+fn kinds(lead: &[u8]) -> Script {
     let mut random = Random::new(501);
     let mut script = Script::default();
     for kind in 0..=u8::MAX {
         let lengths = match kind {
-            0x00..=0x0a | 0x3f..=0x53 => 0..LONGEST_FRAME,
+            0x00..=0x0a | 0x3f..=0x53 => 0..LONGEST_FRAME - lead.len(),
             _ => 0..3,
         };
         for length in lengths {
-            let mut bytes = vec![kind];
-            bytes.extend(random.bytes(length));
-            script.push(&bytes);
+            script.push(&[lead, &[kind], &random.bytes(length)].concat());
         }
     }
     script
 }
 
-/// DATA and send with every count byte, followed by fewer bytes, as many and more.
-fn counts() -> Script {
-    let mut script = Script(RUN.to_vec());
-    for kind in [0x08, 0x44] {
-        let fixed = message(kind, &[7, 1, 1], &[]);
+/// After this run, DATA and send after this lead with every count byte, followed by fewer bytes,
+/// as many and more.
+fn counts(run: &[u8], lead: &[u8]) -> Script {
+    let mut script = Script(run.to_vec());
+    for kind in [DATA, SEND] {
+        let fixed = [lead, &message(kind, &[7, 1, 1], &[])].concat();
         for count in 0..=u8::MAX {
             let right = usize::from(count);
             for length in [0, right.saturating_sub(1), right, right + 1] {

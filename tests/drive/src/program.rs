@@ -1,6 +1,7 @@
 //! Running the program under test.
 
-use std::ffi::OsStr;
+use std::env;
+use std::ffi::{OsStr, OsString};
 use std::io::{Read, Result, Write};
 use std::process::{Command, Stdio};
 use std::thread;
@@ -10,6 +11,15 @@ pub struct Run {
     pub output: Vec<u8>,
     /// Did it end with the exit status of success?
     pub succeeded: bool,
+}
+
+/// The program that the command line names. Without one, this usage is printed.
+pub fn named(usage: &str) -> Option<OsString> {
+    let program = env::args_os().nth(1);
+    if program.is_none() {
+        eprintln!("usage: {usage}");
+    }
+    program
 }
 
 /// Runs the program with this input to its end.

@@ -32,7 +32,8 @@ pub fn session(seed: u64, calls: usize) -> [Script; 2] {
             _ => (&mut second, &first.end),
         };
         let message = if random.within(1..=10) <= deliveries && !partner.sent.is_empty() {
-            side.delivery(&mut random, &partner.sent)
+            let number = side.taken.next(&mut random, partner.sent.len());
+            partner.sent[number].clone()
         } else {
             request(&mut random, side.end.state())
         };
@@ -45,27 +46,31 @@ pub fn session(seed: u64, calls: usize) -> [Script; 2] {
 #[derive(Default)]
 struct Side {
     end: End,
-    /// The partner's frames before this number have reached the end or are late.
-    taken: usize,
+    taken: Taken,
 }
 
-impl Side {
-    /// A frame of the partner: mostly the next one, else the newest, a recent one or any.
-    fn delivery(&mut self, random: &mut Random, sent: &[Vec<u8>]) -> Vec<u8> {
-        let newest = sent.len() - 1;
+/// The partner's frames before this number have reached the end or are late.
+#[derive(Clone, Copy, Default)]
+pub struct Taken(usize);
+
+impl Taken {
+    /// One of so many frames, 1 at least: mostly the next one, else the newest, a recent one or
+    /// any.
+    pub fn next(&mut self, random: &mut Random, frames: usize) -> usize {
+        let newest = frames - 1;
         let number = match random.within(0..=9) {
             0 => random.within(0..=newest),
             1 => random.within(newest.saturating_sub(8)..=newest),
             2 => newest,
-            _ => self.taken.min(newest),
+            _ => self.0.min(newest),
         };
-        self.taken = self.taken.max(number + 1);
-        sent[number].clone()
+        self.0 = self.0.max(number + 1);
+        number
     }
 }
 
 /// A request that keeps the session going from this state, or seldom any.
-fn request(random: &mut Random, state: State) -> Vec<u8> {
+pub fn request(random: &mut Random, state: State) -> Vec<u8> {
     let kind = match (state, random.within(0..=31)) {
         (_, 0) => random.pick(&REQUEST_KINDS),
         (State::Closed, _) => random.pick(&[CONNECT, LISTEN]),
@@ -80,14 +85,14 @@ fn request(random: &mut Random, state: State) -> Vec<u8> {
 #[cfg(test)]
 mod tests {
     use super::*;
+    use crate::subject::Subject;
     use reference::program::Program;
 
     /// How many answers to this script have this notice.
     fn notices(script: &Script, notice: &str) -> usize {
         let mut program = Program::default();
         let answers = script.lines().filter(|line| {
-            let mut answer = Vec::new();
-            program.line(line, &mut answer);
+            let answer = program.answer(line);
             answer[4..6] == *notice.as_bytes()
         });
         answers.count()

@@ -1,9 +1,9 @@
 //! A person at the program: the next line is typed only when the last one is answered.
 
-use crate::comparison::{number_of, Text};
-use crate::sessions::session;
+use crate::comparison::Text;
+use crate::script::Script;
+use crate::subject::Subject;
 use cases::group::Group;
-use reference::program::Program;
 use std::ffi::OsStr;
 use std::io::{Error, ErrorKind, Read, Result, Write};
 use std::process::{Child, ChildStdin, Command, Stdio};
@@ -11,31 +11,29 @@ use std::sync::mpsc::{channel, Receiver};
 use std::thread;
 use std::time::Duration;
 
-const CALLS: usize = 1_000;
 /// An answer that takes longer is none.
 const PATIENCE: Duration = Duration::from_secs(5);
 
-/// Types a session's lines, a character at a time.
-pub fn group(program: &OsStr) -> Group {
+/// Types a script's lines, a character at a time.
+pub fn group<P: Subject>(program: &OsStr, script: &Script) -> Group {
     let mut group = Group::new("typed", &[0]);
-    if let Err(error) = typed(program, &mut group) {
+    if let Err(error) = typed::<P>(program, script, &mut group) {
         group.fail(&format_args!("the program cannot be typed to: {error}"));
     }
     group
 }
 
-fn typed(program: &OsStr, group: &mut Group) -> Result<()> {
+fn typed<P: Subject>(program: &OsStr, script: &Script, group: &mut Group) -> Result<()> {
     let mut dialogue = Dialogue::start(program)?;
-    let mut reference = Program::default();
-    for line in session(600, CALLS)[0].lines() {
-        let mut right = Vec::new();
-        reference.line(line, &mut right);
+    let mut reference = P::default();
+    for line in script.lines() {
+        let right = reference.answer(line);
         dialogue.say(line)?;
         let found = dialogue.hear(right.len());
         if found.len() < right.len() {
             return Err(Error::new(ErrorKind::TimedOut, "a line is not answered"));
         }
-        group.check(&Text(line), number_of(&right), &Text(&found), &Text(&right));
+        group.check(&Text(line), P::number(&right), &Text(&found), &Text(&right));
     }
     if let Some(surplus) = dialogue.end()? {
         group.fail(&format_args!("ended with {:?}", Text(&surplus)));
@@ -111,10 +109,12 @@ impl Dialogue {
 #[cfg(test)]
 mod tests {
     use super::*;
+    use reference::program::Program;
 
     /// How many answers of this program pass and fail.
     fn score(program: &str) -> (u64, u64) {
-        let score = group(OsStr::new(program)).report();
+        let script = Script::from_iter([b"40".as_slice(), b"45", b"zz"]);
+        let score = group::<Program>(OsStr::new(program), &script).report();
         (score.passed, score.failed)
     }
 

@@ -29,6 +29,19 @@ impl Answer<'_> {
         Self::silent(record, refusal.number())
     }
 
+    /// The same without its block, so that nothing is borrowed.
+    pub fn without_block(self) -> Answer<'static> {
+        Answer {
+            number: self.number,
+            state: self.state,
+            notice: self.notice,
+            local: self.local,
+            remote: self.remote,
+            sent: self.sent,
+            block: None,
+        }
+    }
+
     /// This number and the record as it stands; nothing is told, sent or handed up.
     fn silent(record: &[u8], number: u8) -> Self {
         let (state, local, remote) = record::summary(record);
@@ -100,6 +113,6 @@ fn make<'a>(
 }
 
 /// Question 11: the first bytes of a lent buffer, if it has so many.
-fn start<const LENGTH: usize>(buffer: &mut [u8]) -> Result<&mut [u8; LENGTH], Refusal> {
+pub fn start<const LENGTH: usize>(buffer: &mut [u8]) -> Result<&mut [u8; LENGTH], Refusal> {
     buffer.first_chunk_mut().ok_or(Refusal::Buffer)
 }

@@ -3,6 +3,7 @@
 //! It is kept plain and direct: its purpose is to be compared with the first
 //! implementation, call by call and byte by byte.
 
+pub mod bench;
 pub mod block;
 pub mod buffer;
 pub mod call;
@@ -17,6 +18,7 @@ pub mod refusal;
 pub mod request;
 pub mod state;
 mod step;
+pub mod stream;
 mod waiting;
 
 pub use block::Block;

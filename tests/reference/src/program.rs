@@ -2,14 +2,12 @@
 
 use crate::call::{either, Answer};
 use crate::frame::LONGEST_FRAME;
-use crate::line::{self, LONGEST_LINE};
+use crate::line;
 use crate::record::{self, RECORD};
-use std::io::{ErrorKind, Read, Result, Write};
+use crate::stream::Lines;
 
 /// The first byte of an answer line for number 0.
 const SUCCESS: u8 = 0x80;
-/// So many bytes of input are taken at once.
-const PORTION: usize = 1 << 14;
 
 /// A line program, which holds one end.
 pub struct Program {
@@ -30,30 +28,22 @@ impl Program {
     pub fn record(&self) -> &[u8; RECORD] {
         &self.record
     }
+}
 
-    /// Takes one line, without its line feed; appends the answer line and, if a frame is sent,
-    /// its line.
-    pub fn line(&mut self, line: &[u8], output: &mut Vec<u8>) {
-        match line::read(line) {
-            Ok(message) => self.message(&message, output),
-            Err(refusal) => append_answer(&Answer::refused(&self.record, refusal), output),
-        }
-    }
-
-    /// Takes the bytes of a line.
-    fn message(&mut self, message: &[u8], output: &mut Vec<u8>) {
+impl Lines for Program {
+    fn line(&mut self, line: &[u8], output: &mut Vec<u8>) {
         let mut frame = [0; LONGEST_FRAME];
-        let answer = either(&mut self.record, message, &mut frame);
-        append_answer(&answer, output);
-        if answer.sent > 0 {
-            line::append(&frame[..answer.sent], output);
-            output.push(b'\n');
-        }
+        let bytes = line::read(line);
+        let answer = match &bytes {
+            Ok(message) => either(&mut self.record, message, &mut frame),
+            Err(refusal) => Answer::refused(&self.record, *refusal),
+        };
+        append_answer(&answer, &frame, output);
     }
 }
 
-/// Appends the answer line.
-fn append_answer(answer: &Answer, output: &mut Vec<u8>) {
+/// Appends the answer line and, if a frame is sent, its line.
+pub fn append_answer(answer: &Answer, frame: &[u8], output: &mut Vec<u8>) {
     line::append(
         &[SUCCESS + answer.number, answer.state, answer.notice],
         output,
@@ -65,81 +55,20 @@ fn append_answer(answer: &Answer, output: &mut Vec<u8>) {
         line::append(block.bytes(), output);
     }
     output.push(b'\n');
-}
-
-/// Runs a line program with a fresh end to the end of the input. All answers are written
-/// whenever the input at hand is used up.
-pub fn run(mut input: impl Read, mut output: impl Write) -> Result<()> {
-    let mut reader = Reader::default();
-    let mut portion = [0; PORTION];
-    let mut answers = Vec::new();
-    loop {
-        let length = match input.read(&mut portion) {
-            Err(error) if error.kind() == ErrorKind::Interrupted => continue,
-            length => length?,
-        };
-        match length {
-            0 => reader.end(&mut answers),
-            _ => reader.take(&portion[..length], &mut answers),
-        }
-        output.write_all(&answers)?;
-        output.flush()?;
-        answers.clear();
-        if length == 0 {
-            return Ok(());
-        }
-    }
-}
-
-/// Splits the input into lines for a program.
-#[derive(Default)]
-struct Reader {
-    program: Program,
-    /// The line begun: all of it, or so much that it is too long.
-    begun: Vec<u8>,
-}
-
-impl Reader {
-    /// Takes a portion of the input, which may begin and end within a line.
-    fn take(&mut self, portion: &[u8], answers: &mut Vec<u8>) {
-        for piece in portion.split_inclusive(|&byte| byte == b'\n') {
-            match piece.strip_suffix(b"\n") {
-                Some(rest) => {
-                    self.lengthen(rest);
-                    self.finish(answers);
-                }
-                None => self.lengthen(piece),
-            }
-        }
-    }
-
-    /// The input ends: text after the last line feed is a line too.
-    fn end(&mut self, answers: &mut Vec<u8>) {
-        if !self.begun.is_empty() {
-            self.finish(answers);
-        }
-    }
-
-    /// Adds a piece to the line begun. Of a line that is too long no more is kept.
-    fn lengthen(&mut self, piece: &[u8]) {
-        let room = (LONGEST_LINE + 1).saturating_sub(self.begun.len());
-        self.begun.extend(&piece[..piece.len().min(room)]);
-    }
-
-    /// The line begun is complete.
-    fn finish(&mut self, answers: &mut Vec<u8>) {
-        self.program.line(&self.begun, answers);
-        self.begun.clear();
+    if answer.sent > 0 {
+        line::append(&frame[..answer.sent], output);
+        output.push(b'\n');
     }
 }
 
 #[cfg(test)]
 mod tests {
     use super::*;
+    use crate::stream::run;
 
     fn output(input: &[u8]) -> String {
         let mut output = Vec::new();
-        run(input, &mut output).unwrap();
+        run(Program::default(), input, &mut output).unwrap();
         String::from_utf8(output).unwrap()
     }
 
@@ -214,19 +143,9 @@ mod tests {
     }
 
     #[test]
-    fn a_line_may_come_in_pieces_and_be_of_any_length() {
-        /// Gives one byte at a time.
-        struct Dripping<'a>(&'a [u8]);
-        impl Read for Dripping<'_> {
-            fn read(&mut self, buffer: &mut [u8]) -> Result<usize> {
-                self.0.read(&mut buffer[..1])
-            }
-        }
+    fn a_line_may_be_of_any_length() {
         let long = format!("{}\n{RUN}", "0".repeat(100_000));
-        let mut dripped = Vec::new();
-        run(Dripping(long.as_bytes()), &mut dripped).unwrap();
-        assert_eq!(dripped, output(long.as_bytes()).as_bytes());
         let answers = format!("8100000000000000000000\n{ANSWERS}");
-        assert_eq!(dripped, answers.as_bytes());
+        assert_eq!(output(long.as_bytes()), answers);
     }
 }

@@ -26,8 +26,12 @@ pub enum Refusal {
     WaitingFull = 10,
     /// A lent buffer is too small.
     Buffer = 11,
-    /// The record is not sound.
+    /// A record is not sound, or the book's count is above 512.
     Unsound = 12,
+    /// The book does not hold that frame.
+    Absent = 13,
+    /// The book has no place left for the frame to send.
+    BookFull = 14,
 }
 
 impl Refusal {
@@ -51,5 +55,6 @@ mod tests {
         assert_eq!(number(Ok(())), 0);
         assert_eq!(number::<()>(Err(Refusal::LineLength)), 1);
         assert_eq!(number::<()>(Err(Refusal::Buffer)), 11);
+        assert_eq!(number::<()>(Err(Refusal::BookFull)), 14);
     }
 }

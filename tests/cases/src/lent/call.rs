@@ -27,9 +27,9 @@ impl Buffers {
     pub fn any(random: &mut Random, record: &[u8], message: &[u8]) -> Self {
         let frame = random.bytes(LONGEST_FRAME);
         Self {
-            record: resized(random, record.to_vec()),
+            record: Guarded::resized(random, record.to_vec()),
             message: Guarded::of(random, message),
-            out: resized(random, frame),
+            out: Guarded::resized(random, frame),
         }
     }
 
@@ -41,18 +41,6 @@ impl Buffers {
             out: Guarded::any(random, LONGEST_FRAME),
         }
     }
-}
-
-/// A buffer with these bytes, mostly as they are, else cut or lengthened.
-fn resized(random: &mut Random, mut bytes: Vec<u8>) -> Guarded {
-    let last = bytes.len() - 1;
-    match random.within(0..=31) {
-        0 => bytes.truncate(random.within(0..=last)),
-        1 => bytes.truncate(last),
-        2..=8 => bytes.extend(random.bytes_within(1..=30)),
-        _ => {}
-    }
-    Guarded::of(random, &bytes)
 }
 
 impl Call {

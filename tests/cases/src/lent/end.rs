@@ -36,30 +36,32 @@ impl End for Reference {
     }
 
     fn request(record: &mut [u8], request: &[u8], out: &mut [u8]) -> Reply {
-        reply(request, &call::request(record, request, out))
+        Reply::of(&call::request(record, request, out), request.as_ptr())
     }
 
     fn receive(record: &mut [u8], frame: &[u8], out: &mut [u8]) -> Reply {
-        reply(frame, &call::receive(record, frame, out))
+        Reply::of(&call::receive(record, frame, out), frame.as_ptr())
     }
 }
 
-/// An answer of the reference to a call with this message.
-fn reply(message: &[u8], answer: &Answer) -> Reply {
-    Reply {
-        number: answer.number,
-        state: answer.state,
-        notice: answer.notice,
-        local: answer.local,
-        remote: answer.remote,
-        sent: answer.sent,
-        block: answer.block.map_or(0..0, |block| place(message, block)),
+impl Reply {
+    /// An answer of the reference, whose block is part of the bytes that start here.
+    pub fn of(answer: &Answer, start: *const u8) -> Self {
+        Self {
+            number: answer.number,
+            state: answer.state,
+            notice: answer.notice,
+            local: answer.local,
+            remote: answer.remote,
+            sent: answer.sent,
+            block: answer.block.map_or(0..0, |block| place(block, start)),
+        }
     }
 }
 
-/// Where the block stands in the message.
-fn place(message: &[u8], block: Block) -> Range<usize> {
+/// Where the block stands in the bytes that start here.
+fn place(block: Block, start: *const u8) -> Range<usize> {
     let bytes = block.bytes();
-    let start = bytes.as_ptr().addr() - message.as_ptr().addr();
+    let start = bytes.as_ptr().addr() - start.addr();
     start..start + bytes.len()
 }

@@ -1,7 +1,9 @@
 //! The line program: reads standard input to its end, answers on standard output.
 
+use reference::program::Program;
+use reference::stream::run;
 use std::io::{stdin, stdout, Result};
 
 fn main() -> Result<()> {
-    reference::program::run(stdin().lock(), stdout().lock())
+    run(Program::default(), stdin().lock(), stdout().lock())
 }

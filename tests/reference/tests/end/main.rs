@@ -1,7 +1,9 @@
-//! One end, called on lent buffers.
+//! One end, and a bench of two, called on lent buffers.
 
+mod bench;
 mod buffers;
 mod edges;
 mod frames;
+mod question;
 mod requests;
 mod sample;

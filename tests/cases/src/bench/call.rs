@@ -1,0 +1,143 @@
+//! One call, the buffers lent to it, and what it answers and leaves there.
+
+use super::desk::{Bench, Lent, Named, Reference, Reply, Take};
+use super::scene::Scene;
+use crate::group::Group;
+use crate::guarded::Guarded;
+use crate::random::Random;
+use crate::records;
+use reference::bench;
+use reference::bench::book::PLACES;
+use reference::frame::LONGEST_FRAME;
+use std::fmt::{self, Debug};
+
+/// Counts above 512, some of which are small numbers where only their last bytes are looked at.
+const TOO_MANY: [usize; 8] = [
+    PLACES + 1,
+    PLACES + 2,
+    2 * PLACES,
+    u16::MAX as usize,
+    (1 << 16) + 1,
+    u32::MAX as usize,
+    (1 << 32) + 1,
+    usize::MAX,
+];
+
+/// The buffers of a call: what it updates, what it reads and what it writes.
+#[derive(Clone, Debug, PartialEq)]
+pub struct Buffers {
+    count: usize,
+    line: Guarded,
+    records: [Guarded; 2],
+    book: Guarded,
+    out: Guarded,
+}
+
+impl Buffers {
+    /// Buffers with this scene and line: mostly as they are, else with a wrong record or count,
+    /// or shorter or longer than needed.
+    pub fn any(random: &mut Random, scene: &Scene, line: &[u8]) -> Self {
+        let mut records = scene.records;
+        if random.within(0..=11) == 0 {
+            records[random.within(0..=1)] = records::any(random);
+        }
+        let count = match random.within(0..=23) {
+            0 => random.pick(&TOO_MANY),
+            _ => scene.count,
+        };
+        let frame = random.bytes(LONGEST_FRAME);
+        Self {
+            count,
+            line: Guarded::of(random, line),
+            records: records.map(|record| Guarded::resized(random, record.to_vec())),
+            book: Guarded::resized(random, scene.book.clone()),
+            out: Guarded::resized(random, frame),
+        }
+    }
+
+    /// One case: an implementation takes the line, and the reference does. Gives the right number.
+    pub fn compare_line(&self, group: &mut Group, found: Take, right: Take) -> u8 {
+        let found = self.after(|buffers| buffers.line(found));
+        let right = self.after(|buffers| buffers.line(right));
+        let number = right.reply.end.number;
+        group.check(self, number, &found, &right);
+        number
+    }
+
+    /// One case, in the first group if there is a frame to name, else in the second: what this
+    /// implementation names is right.
+    pub fn compare_question<B: Bench>(&self, groups: &mut [Group; 2]) {
+        let found = self.after(|buffers| buffers.ask::<B>());
+        let mut right = self.after(|buffers| buffers.ask::<Reference>());
+        let group = &mut groups[usize::from(right.reply.frame.is_none())];
+        if self.is_right(found.reply.frame) {
+            right.reply.frame = found.reply.frame;
+        }
+        group.check(self, right.reply.number, &found, &right);
+    }
+
+    /// Is it the number of a frame whose delivery now would be accepted and change a record?
+    fn is_right(&self, frame: Option<usize>) -> bool {
+        let records = self.records.each_ref().map(Guarded::bytes);
+        let changing = bench::changing(records, self.book.bytes(), self.count).unwrap_or_default();
+        frame.is_some_and(|frame| changing.contains(&frame))
+    }
+
+    /// Makes the call on a copy of the buffers.
+    fn after<R>(&self, call: impl FnOnce(&mut Self) -> R) -> After<'_, R> {
+        let mut after = self.clone();
+        let reply = call(&mut after);
+        After {
+            before: self,
+            reply,
+            after,
+        }
+    }
+
+    /// The line, taken so.
+    fn line(&mut self, take: Take) -> Reply {
+        let lent = Lent {
+            records: self.records.each_mut().map(Guarded::bytes_mut),
+            book: self.book.bytes_mut(),
+            count: self.count,
+            out: self.out.bytes_mut(),
+        };
+        take(lent, self.line.bytes())
+    }
+
+    /// The question, asked of this implementation.
+    fn ask<B: Bench>(&mut self) -> Named {
+        let records = self.records.each_ref().map(Guarded::bytes);
+        B::name(records, self.book.bytes(), self.count)
+    }
+}
+
+/// What a call answered, and all buffers after it. Two are equal if all their bytes are.
+struct After<'a, R> {
+    before: &'a Buffers,
+    reply: R,
+    after: Buffers,
+}
+
+impl<R: PartialEq> PartialEq for After<'_, R> {
+    fn eq(&self, other: &Self) -> bool {
+        self.reply == other.reply && self.after == other.after
+    }
+}
+
+/// The answer and the bytes that changed are shown.
+impl<R: Debug> Debug for After<'_, R> {
+    fn fmt(&self, out: &mut fmt::Formatter) -> fmt::Result {
+        let (before, after) = (self.before, &self.after);
+        let [a, b] = &after.records;
+        let [a_before, b_before] = &before.records;
+        out.debug_struct("After")
+            .field("reply", &self.reply)
+            .field("a", &a.changed(a_before))
+            .field("b", &b.changed(b_before))
+            .field("book", &after.book.changed(&before.book))
+            .field("out", &after.out.changed(&before.out))
+            .field("line", &after.line.changed(&before.line))
+            .finish()
+    }
+}

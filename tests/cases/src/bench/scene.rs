@@ -1,0 +1,274 @@
+//! Scenes: two sound records and a book, right or damaged, and lines for them.
+
+use crate::alter::{alter, damage as spoil};
+use crate::near;
+use crate::random::Random;
+use crate::records::sound;
+use crate::sample::{hex_digits, FRAME_KINDS};
+use reference::bench::book::{self, Place, BOOK, HEAD, PLACE, PLACES};
+use reference::bench::{self, Side, DELIVER, REQUEST_A, REQUEST_B};
+use reference::frame::LONGEST_FRAME;
+use reference::line::{self, LONGEST_LINE};
+use reference::record::RECORD;
+
+/// A session has so many lines at most.
+const SESSION: usize = 900;
+
+/// Two records, the book and its count.
+pub struct Scene {
+    pub records: [[u8; RECORD]; 2],
+    pub book: Vec<u8>,
+    pub count: usize,
+}
+
+impl Scene {
+    /// A session's bench, or sound records with a book of frames whose numbers are near theirs;
+    /// some places are damaged.
+    pub fn any(random: &mut Random) -> Self {
+        let mut scene = match random.within(0..=3) {
+            0 => Self::session(random),
+            _ => Self::near(random),
+        };
+        let damaged = random.pick(&[0, 0, 16, 64, PLACES]);
+        for _ in 0..damaged {
+            let number = random.within(0..=PLACES - 1);
+            damage(random, &mut scene.places_mut()[number]);
+        }
+        scene
+    }
+
+    /// The bench after a session.
+    fn session(random: &mut Random) -> Self {
+        let mut scene = Self {
+            records: [[0; RECORD]; 2],
+            book: vec![0; BOOK],
+            count: 0,
+        };
+        for _ in 0..random.within(0..=SESSION) {
+            let line = match random.within(0..=1) {
+                0 => scene.request(random),
+                _ => scene.delivery(random),
+            };
+            let [a, b] = &mut scene.records;
+            let out = &mut [0; LONGEST_FRAME];
+            scene.count = bench::line([a, b], &mut scene.book, scene.count, &line, out).count;
+        }
+        scene
+    }
+
+    /// Any records, and a frame for one of them in every place, in use or not.
+    fn near(random: &mut Random) -> Self {
+        let records = [sound(random), sound(random)];
+        let mut book = Vec::with_capacity(BOOK);
+        for _ in 0..PLACES {
+            let sender = random.pick(&Side::BOTH);
+            let record = &records[sender.other().index()];
+            let frame = match random.within(0..=1) {
+                0 => {
+                    let kind = random.pick(&FRAME_KINDS);
+                    near::frame_of(random, record, kind)
+                }
+                _ => near::frame(random, record),
+            };
+            book.extend(book::place(sender, &frame));
+        }
+        let count = match random.within(0..=7) {
+            0 | 1 => PLACES,
+            2 => PLACES - 1,
+            3 => random.within(0..=3),
+            4 => random.within(0..=40),
+            _ => random.within(0..=PLACES),
+        };
+        Self {
+            records,
+            book,
+            count,
+        }
+    }
+
+    /// The places in use.
+    pub fn used(&self) -> &[Place] {
+        &self.book.as_chunks().0[..self.count]
+    }
+
+    /// Damages frames until the delivery of this many at most would change a record.
+    pub fn thin(&mut self, random: &mut Random, left: usize) {
+        let records = self.records.each_ref().map(|record| &record[..]);
+        let changing = bench::changing(records, &self.book, self.count);
+        let mut changing = changing.expect("the records are sound");
+        while changing.len() > left {
+            let number = changing.swap_remove(random.within(0..=changing.len() - 1));
+            let place = &mut self.places_mut()[number];
+            match random.within(0..=3) {
+                0 => place[0] = random.pick(&[2, 255]),
+                1 => place[1] = random.pick(&[0, 8, 79, 255]),
+                2 => place[HEAD] = random.pick(&[0, 0x0a, 0x40]),
+                _ => place[HEAD + 1..HEAD + 9].fill(0),
+            }
+        }
+    }
+
+    /// A line for this scene: mostly a request or a delivery, else one with a fault.
+    pub fn line(&self, random: &mut Random) -> Vec<u8> {
+        let record = &self.records[random.within(0..=1)];
+        match random.within(0..=31) {
+            0 => random.bytes_within(0..=90),
+            1 => near::frame(random, record),
+            2 => near::request(random, record),
+            3 => [&[lead(random)], &near::frame(random, record)[..]].concat(),
+            4 => [&[DELIVER], &random.bytes_within(0..=4)[..]].concat(),
+            5 => [&[random.byte()], &self.request(random)[1..]].concat(),
+            6 | 7 => deliver(self.number_beyond(random)),
+            8..=12 => self.altered_request(random),
+            13..=18 => self.request(random),
+            _ => self.delivery(random),
+        }
+    }
+
+    /// A line of text for this scene, now and then with wrong characters or a wrong length.
+    pub fn text(&self, random: &mut Random) -> Vec<u8> {
+        let mut text = line::write(&self.line(random));
+        match random.within(0..=15) {
+            0 | 1 => spoil(random, &mut text),
+            2 => text.truncate(random.within(0..=text.len())),
+            3 => text.extend(random.bytes_within(1..=3)),
+            4 => text = random.bytes_within(0..=200),
+            5 => {
+                let length = random.within(LONGEST_LINE - 2..=LONGEST_LINE + 4);
+                text = hex_digits(random, length);
+            }
+            _ => {}
+        }
+        text
+    }
+
+    /// A request of some end.
+    fn request(&self, random: &mut Random) -> Vec<u8> {
+        let lead = lead(random);
+        let side = Side::of(lead - REQUEST_A).expect("the lead names an end");
+        let request = near::request(random, &self.records[side.index()]);
+        [&[lead], &request[..]].concat()
+    }
+
+    /// A request of some end with a fault.
+    fn altered_request(&self, random: &mut Random) -> Vec<u8> {
+        let line = self.request(random);
+        let mut request = line[1..].to_vec();
+        alter(random, &mut request);
+        [&line[..1], &request].concat()
+    }
+
+    /// The delivery of a frame in use, often one of the last.
+    fn delivery(&self, random: &mut Random) -> Vec<u8> {
+        let last = self.count.saturating_sub(1);
+        deliver(match random.within(0..=2) {
+            0 => random.within(last.saturating_sub(5)..=last),
+            _ => random.within(0..=last),
+        })
+    }
+
+    /// A number that the book does not hold, in most cases.
+    fn number_beyond(&self, random: &mut Random) -> usize {
+        let beyond = [
+            self.count,
+            self.count + 1,
+            PLACES - 1,
+            PLACES,
+            PLACES + 1,
+            0xff00,
+            0xffff,
+        ];
+        match random.within(0..=3) {
+            0 => random.within(0..=0xffff),
+            _ => random.pick(&beyond),
+        }
+    }
+
+    /// All places.
+    fn places_mut(&mut self) -> &mut [Place] {
+        self.book.as_chunks_mut().0
+    }
+}
+
+/// The first byte of a line with a request.
+fn lead(random: &mut Random) -> u8 {
+    random.pick(&[REQUEST_A, REQUEST_B])
+}
+
+/// The delivery of the frame of this number.
+fn deliver(number: usize) -> Vec<u8> {
+    let [high, low] = (number as u16).to_be_bytes();
+    vec![DELIVER, high, low]
+}
+
+/// Damages a place: its sender, its length, what follows its frame, its frame, or all of it.
+fn damage(random: &mut Random, place: &mut Place) {
+    let length = usize::from(place[1]).min(LONGEST_FRAME);
+    match random.within(0..=7) {
+        0 => place[0] = random.pick(&[2, 3, 128, 255]),
+        1 => place[1] = random.pick(&[0, 1, 8, 79, 80, 255]),
+        2 => place[1] = random.pick(&[9, 10, 13, 14, 15, 77, 78]),
+        3 => {
+            let tail = &mut place[HEAD + length..];
+            tail.copy_from_slice(&random.bytes(tail.len()));
+        }
+        4 => *place = [(); PLACE].map(|()| random.byte()),
+        5 => place[HEAD + random.within(0..=8)] = random.byte(),
+        _ if length > 0 => {
+            let mut frame = place[HEAD..][..length].to_vec();
+            alter(random, &mut frame);
+            frame.truncate(LONGEST_FRAME);
+            *place = book::place(Side::of(place[0]).unwrap_or_default(), &frame);
+        }
+        _ => {}
+    }
+}
+
+#[cfg(test)]
+mod tests {
+    use super::*;
+    use reference::record::Record;
+
+    #[test]
+    fn scenes_are_sound_and_their_books_of_all_lengths() {
+        let mut random = Random::new(0);
+        let [mut empty, mut last, mut full] = [0; 3];
+        for _ in 0..300 {
+            let mut scene = Scene::any(&mut random);
+            assert_eq!(scene.book.len(), BOOK);
+            for record in &mut scene.records {
+                assert!(Record::read(record).is_ok());
+            }
+            match scene.count {
+                0 => empty += 1,
+                511 => last += 1,
+                512 => full += 1,
+                count => assert!(count < PLACES),
+            }
+        }
+        assert!(empty > 3 && last > 10 && full > 10, "{empty} {last} {full}");
+    }
+
+    #[test]
+    fn a_scene_is_thinned_to_what_is_left() {
+        let mut random = Random::new(1);
+        for left in [0, 1, 2].repeat(30) {
+            let mut scene = Scene::any(&mut random);
+            scene.thin(&mut random, left);
+            let records = scene.records.each_ref().map(|record| &record[..]);
+            let changing = bench::changing(records, &scene.book, scene.count).unwrap();
+            assert!(changing.len() <= left, "{changing:?}");
+        }
+    }
+
+    #[test]
+    fn damaged_places_are_often_not_held() {
+        let mut random = Random::new(2);
+        let lost = (0..1_000).filter(|_| {
+            let mut place = book::place(Side::B, &[4, 0, 0, 0, 0, 0, 0, 0, 1]);
+            damage(&mut random, &mut place);
+            book::find(&[place], 0).is_err()
+        });
+        assert!((200..700).contains(&lost.count()));
+    }
+}

@@ -1,0 +1,379 @@
+//! The comparison finds what is wrong, and nothing else.
+
+use super::{calls, compare, compare_texts, Bench, Lent, Named, Reference, Reply, TextBench};
+use crate::coverage::Coverage;
+use reference::bench::book::{self, Place, BOOK, HEAD, PLACE, PLACES};
+use reference::bench::{self, Side, DELIVER, REQUEST_A};
+use reference::frame::LONGEST_FRAME;
+use reference::record::{Record, RECORD};
+use reference::Frame;
+
+/// The reference, with its promises checked at each call.
+struct Checked;
+
+impl Bench for Checked {
+    fn line(lent: Lent, line: &[u8]) -> Reply {
+        let Lent {
+            records: [a, b],
+            book,
+            count,
+            out,
+        } = lent;
+        let before = [&*a, &*b, &*book, &*out].map(<[u8]>::to_vec);
+        let records = [&mut *a, &mut *b];
+        let again = Lent {
+            records,
+            book: &mut *book,
+            count,
+            out: &mut *out,
+        };
+        let reply = Reference::line(again, line);
+        let after = [&*a, &*b, &*book, &*out].map(<[u8]>::to_vec);
+        match reply.end.number {
+            0 => assert_accepted(&before, &after, count, &reply),
+            _ => assert_refused(&before, &after, count, &reply),
+        }
+        reply
+    }
+
+    fn name(records: [&[u8]; 2], book: &[u8], count: usize) -> Named {
+        let named = Reference::name(records, book, count);
+        match named.number {
+            0 => assert_named(records, book, count, named.frame),
+            _ => assert_eq!(named.frame, None),
+        }
+        named
+    }
+}
+
+/// The records of A and B, the book and the buffer for the frame.
+type All = [Vec<u8>; 4];
+
+/// A refusal leaves all bytes and the count, and tells nothing.
+fn assert_refused(before: &All, after: &All, count: usize, reply: &Reply) {
+    assert_eq!(before, after);
+    assert_eq!(reply.count, count);
+    let end = &reply.end;
+    assert_eq!((end.notice, end.sent, end.block.len()), (0, 0, 0));
+}
+
+/// A success leaves sound records, the other end's as it was; what it sends is a readable frame,
+/// written to the buffer and, whole, to the next place; all other bytes stay.
+fn assert_accepted(before: &All, after: &All, count: usize, reply: &Reply) {
+    let mut right = before.clone();
+    let end = reply.side.index();
+    let record = *after[end].first_chunk::<RECORD>().unwrap();
+    assert!(Record::read(&mut record.clone()).is_ok());
+    right[end][..RECORD].copy_from_slice(&record);
+    let sent = reply.end.sent;
+    if sent > 0 {
+        let frame = &after[3][..sent];
+        assert!(Frame::read(frame).is_ok());
+        right[2][count * PLACE..][..PLACE].copy_from_slice(&book::place(reply.side, frame));
+        right[3][..sent].copy_from_slice(frame);
+    }
+    assert!(*after == right);
+    assert_eq!(reply.count, count + usize::from(sent > 0));
+    assert!(reply.count <= PLACES);
+}
+
+/// Deliveries say the same: all frames up to the one named change nothing, and that one does.
+fn assert_named(records: [&[u8]; 2], book: &[u8], count: usize, frame: Option<usize>) {
+    let changes = |number: usize| {
+        let [mut a, mut b] = records.map(<[u8]>::to_vec);
+        let [high, low] = (number as u16).to_be_bytes();
+        let out = &mut [0; LONGEST_FRAME];
+        let line = [DELIVER, high, low];
+        let mut book = book.to_vec();
+        let answer = bench::line([&mut a, &mut b], &mut book, count, &line, out);
+        answer.end.number == 0 && [a, b] != records.map(<[u8]>::to_vec)
+    };
+    let last = frame.map_or(count, |frame| frame + 1);
+    let first_change = (last.saturating_sub(20)..last).find(|&number| changes(number));
+    assert_eq!(first_change, frame);
+}
+
+#[test]
+fn the_reference_equals_itself_and_keeps_its_promises() {
+    let score = compare::<Checked>(8);
+    assert_eq!(score.failed, 0);
+    assert!(score.passed > 80_000);
+}
+
+#[test]
+#[ignore = "takes long; for a build with all optimisations"]
+fn half_a_million_calls() {
+    let score = compare::<Reference>(50);
+    assert_eq!(score.failed, 0);
+    assert!(score.passed > 500_000);
+}
+
+/// How many calls of one round fail.
+fn failed<B: Bench>() -> u64 {
+    calls::<B>(1, &mut Coverage::default()).failed
+}
+
+/// Names the last frame of all that may be named.
+struct Last;
+
+impl Bench for Last {
+    fn line(lent: Lent, line: &[u8]) -> Reply {
+        Reference::line(lent, line)
+    }
+
+    fn name(records: [&[u8]; 2], book: &[u8], count: usize) -> Named {
+        match bench::changing(records, book, count) {
+            Ok(changing) => Named {
+                number: 0,
+                frame: changing.last().copied(),
+            },
+            Err(refusal) => Named {
+                number: refusal.number(),
+                frame: None,
+            },
+        }
+    }
+}
+
+#[test]
+fn any_frame_of_the_right_ones_may_be_named() {
+    assert_eq!(failed::<Last>(), 0);
+}
+
+/// The reference with a fault in its lines.
+struct Broken<const FAULT: u8>;
+
+const LEAVES_THE_REST_OF_THE_PLACE: u8 = 0;
+const WRITES_PAST_THE_FRAME: u8 = 1;
+const WRITES_THE_PLACE_AS_IT_REFUSES: u8 = 2;
+const STORES_THE_RECORD_BEFORE_14: u8 = 3;
+const FORGETS_THE_COUNT: u8 = 4;
+const ASKS_14_OF_ALL: u8 = 5;
+const TELLS_OF_A_AS_IT_REFUSES: u8 = 6;
+const TAKES_513: u8 = 7;
+const FORGETS_THE_OTHER_RECORD: u8 = 8;
+const WRONG_SENDER: u8 = 9;
+const LOOKS_BEYOND_THE_COUNT: u8 = 10;
+const BLOCK_IN_THE_FRAME: u8 = 11;
+const ASKS_THE_REST_OF_THE_PLACE: u8 = 12;
+const FORGETS_THE_BOOKS_LENGTH: u8 = 13;
+const TAKES_A_LENGTH_OF_8: u8 = 14;
+const CUTS_THE_COUNT: u8 = 15;
+const FAULTS: usize = 16;
+
+impl<const FAULT: u8> Bench for Broken<FAULT> {
+    fn line(lent: Lent, line: &[u8]) -> Reply {
+        let Lent {
+            records: [a, b],
+            book,
+            count,
+            out,
+        } = lent;
+        let before = book.to_vec();
+        let mut fresh = [0; RECORD];
+        let mut longer = [&book[..], &[0; BOOK]].concat();
+        let forgets_b = FAULT == FORGETS_THE_OTHER_RECORD && line.starts_with(&[REQUEST_A]);
+        let forgets_length = FAULT == FORGETS_THE_BOOKS_LENGTH && book.len() < BOOK;
+        let broken = Lent {
+            records: [&mut *a, if forgets_b { &mut fresh } else { &mut *b }],
+            book: if forgets_length {
+                &mut longer
+            } else {
+                &mut *book
+            },
+            count: Self::count(count, line),
+            out: &mut *out,
+        };
+        let mut reply = Reference::line(broken, line);
+        Self::spoil_reply(&mut reply, count, delivered(&before, line));
+        match FAULT {
+            LEAVES_THE_REST_OF_THE_PLACE if reply.end.sent > 0 => {
+                let rest = count * PLACE + HEAD + reply.end.sent..(count + 1) * PLACE;
+                book[rest.clone()].copy_from_slice(&before[rest]);
+            }
+            WRONG_SENDER if reply.end.sent > 0 => book[count * PLACE] ^= 1,
+            WRITES_THE_PLACE_AS_IT_REFUSES if reply.end.number == 10 && count < PLACES => {
+                book[count * PLACE] ^= 1;
+            }
+            WRITES_PAST_THE_FRAME if (1..out.len()).contains(&reply.end.sent) => {
+                out[reply.end.sent] ^= 1;
+            }
+            STORES_THE_RECORD_BEFORE_14 if reply.end.number == 14 => {
+                [a, b][reply.side.index()][RECORD - 1] ^= 1;
+            }
+            _ => {}
+        }
+        reply
+    }
+
+    fn name(records: [&[u8]; 2], book: &[u8], count: usize) -> Named {
+        Reference::name(records, book, count)
+    }
+}
+
+impl<const FAULT: u8> Broken<FAULT> {
+    /// The count that it goes by.
+    fn count(count: usize, line: &[u8]) -> usize {
+        match FAULT {
+            TAKES_513 if count == PLACES + 1 => PLACES,
+            CUTS_THE_COUNT => count & 0xffff,
+            LOOKS_BEYOND_THE_COUNT if (count..PLACES).contains(&number(line)) => number(line) + 1,
+            _ => count,
+        }
+    }
+
+    /// Spoils an answer to a line, which may have delivered the frame in this place.
+    fn spoil_reply(reply: &mut Reply, count: usize, place: Option<Place>) {
+        let end = &mut reply.end;
+        match FAULT {
+            FORGETS_THE_COUNT if end.sent > 0 => reply.count = count,
+            ASKS_14_OF_ALL if count == PLACES && end.number == 0 => end.number = 14,
+            TELLS_OF_A_AS_IT_REFUSES if end.number > 0 => reply.side = Side::A,
+            BLOCK_IN_THE_FRAME if end.notice == 5 => end.block = 14..15,
+            ASKS_THE_REST_OF_THE_PLACE if place.is_some_and(has_rest) => end.number = 13,
+            TAKES_A_LENGTH_OF_8 if end.number == 13 && place.is_some_and(|place| place[1] == 8) => {
+                end.number = 4;
+            }
+            _ => {}
+        }
+    }
+}
+
+/// The number of the frame that a line delivers; if it delivers none, a number beyond the book.
+fn number(line: &[u8]) -> usize {
+    match *line {
+        [DELIVER, high, low] => usize::from(u16::from_be_bytes([high, low])),
+        _ => PLACES,
+    }
+}
+
+/// The place that a line delivers from.
+fn delivered(book: &[u8], line: &[u8]) -> Option<Place> {
+    book.as_chunks().0.get(number(line)).copied()
+}
+
+/// Has the place other bytes than 0 after its frame?
+fn has_rest(place: Place) -> bool {
+    let rest = place.get(HEAD + usize::from(place[1])..);
+    rest.is_some_and(|rest| rest.iter().any(|&byte| byte != 0))
+}
+
+#[test]
+fn every_fault_of_a_line_is_found() {
+    let failed: [u64; FAULTS] = [
+        failed::<Broken<LEAVES_THE_REST_OF_THE_PLACE>>(),
+        failed::<Broken<WRITES_PAST_THE_FRAME>>(),
+        failed::<Broken<WRITES_THE_PLACE_AS_IT_REFUSES>>(),
+        failed::<Broken<STORES_THE_RECORD_BEFORE_14>>(),
+        failed::<Broken<FORGETS_THE_COUNT>>(),
+        failed::<Broken<ASKS_14_OF_ALL>>(),
+        failed::<Broken<TELLS_OF_A_AS_IT_REFUSES>>(),
+        failed::<Broken<TAKES_513>>(),
+        failed::<Broken<FORGETS_THE_OTHER_RECORD>>(),
+        failed::<Broken<WRONG_SENDER>>(),
+        failed::<Broken<LOOKS_BEYOND_THE_COUNT>>(),
+        failed::<Broken<BLOCK_IN_THE_FRAME>>(),
+        failed::<Broken<ASKS_THE_REST_OF_THE_PLACE>>(),
+        failed::<Broken<FORGETS_THE_BOOKS_LENGTH>>(),
+        failed::<Broken<TAKES_A_LENGTH_OF_8>>(),
+        failed::<Broken<CUTS_THE_COUNT>>(),
+    ];
+    assert!(failed.iter().all(|&failed| failed > 0), "{failed:?}");
+}
+
+/// Takes text with a fault.
+struct Misreading<const FAULT: u8>;
+
+const ASKS_1_BEFORE_12: u8 = 0;
+const ASKS_2_BEFORE_1: u8 = 1;
+const TELLS_OF_B_AS_2_REFUSES: u8 = 2;
+const TAKES_CAPITALS: u8 = 3;
+const TAKES_158_DIGITS: u8 = 4;
+
+impl<const FAULT: u8> TextBench for Misreading<FAULT> {
+    fn text(lent: Lent, text: &[u8]) -> Reply {
+        let is_digit = |character: &u8| matches!(character, b'0'..=b'9' | b'a'..=b'f');
+        let lower = text.to_ascii_lowercase();
+        let mut reply = match FAULT {
+            TAKES_CAPITALS => Reference::text(lent, &lower),
+            TAKES_158_DIGITS if text.len() == 158 => Reference::text(lent, &text[..156]),
+            _ => Reference::text(lent, text),
+        };
+        match FAULT {
+            ASKS_1_BEFORE_12 if text.len() % 2 == 1 => reply.end.number = 1,
+            ASKS_2_BEFORE_1 if reply.end.number == 1 && !text.iter().all(is_digit) => {
+                reply.end.number = 2;
+            }
+            TELLS_OF_B_AS_2_REFUSES if reply.end.number == 2 && text.starts_with(b"51") => {
+                reply.side = Side::B;
+            }
+            _ => {}
+        }
+        reply
+    }
+}
+
+#[test]
+fn every_fault_with_text_is_found() {
+    assert_eq!(compare_texts::<Reference>(1).failed, 0);
+    let failed = [
+        compare_texts::<Misreading<ASKS_1_BEFORE_12>>(1),
+        compare_texts::<Misreading<ASKS_2_BEFORE_1>>(1),
+        compare_texts::<Misreading<TELLS_OF_B_AS_2_REFUSES>>(1),
+        compare_texts::<Misreading<TAKES_CAPITALS>>(1),
+        compare_texts::<Misreading<TAKES_158_DIGITS>>(1),
+    ]
+    .map(|score| score.failed);
+    assert!(failed.iter().all(|&failed| failed > 0), "{failed:?}");
+}
+
+/// The reference with a fault in its answers to the question.
+struct Misnaming<const FAULT: u8>;
+
+const ALWAYS_NONE: u8 = 0;
+const NAMES_THE_NEXT: u8 = 1;
+const NAMES_WHAT_14_REFUSES: u8 = 2;
+const LOOKS_AT_ONE_TOO_FEW: u8 = 3;
+const NEVER_REFUSES: u8 = 4;
+const NAMES_WHAT_ONLY_SENDS: u8 = 5;
+
+impl<const FAULT: u8> Bench for Misnaming<FAULT> {
+    fn line(lent: Lent, line: &[u8]) -> Reply {
+        Reference::line(lent, line)
+    }
+
+    fn name(records: [&[u8]; 2], book: &[u8], count: usize) -> Named {
+        let right = Reference::name(records, book, count);
+        match (FAULT, right.number) {
+            (NEVER_REFUSES, _) => Named { number: 0, ..right },
+            (_, 1..) => right,
+            (ALWAYS_NONE, _) => Named::default(),
+            (NAMES_THE_NEXT, _) => Named {
+                frame: right.frame.map(|frame| frame + 1),
+                ..right
+            },
+            (NAMES_WHAT_14_REFUSES, _) if count == PLACES => {
+                Reference::name(records, book, count - 1)
+            }
+            (LOOKS_AT_ONE_TOO_FEW, _) if count > 0 => Reference::name(records, book, count - 1),
+            (NAMES_WHAT_ONLY_SENDS, _) if right.frame.is_none() && count > 0 => Named {
+                frame: Some(0),
+                ..right
+            },
+            _ => right,
+        }
+    }
+}
+
+#[test]
+fn every_fault_of_the_question_is_found() {
+    let failed = [
+        failed::<Misnaming<ALWAYS_NONE>>(),
+        failed::<Misnaming<NAMES_THE_NEXT>>(),
+        failed::<Misnaming<NAMES_WHAT_14_REFUSES>>(),
+        failed::<Misnaming<LOOKS_AT_ONE_TOO_FEW>>(),
+        failed::<Misnaming<NEVER_REFUSES>>(),
+        failed::<Misnaming<NAMES_WHAT_ONLY_SENDS>>(),
+    ];
+    assert!(failed.iter().all(|&failed| failed > 0), "{failed:?}");
+}

@@ -1,0 +1,77 @@
+//! Books that are filled to their last places and beyond, in the midst of a session.
+
+use super::writer::{Manner, Writer};
+use crate::script::Script;
+use cases::random::Random;
+use reference::bench::book::PLACES;
+use reference::bench::Side;
+use reference::request::TIMER;
+
+const SCRIPTS: u64 = 60;
+/// So many lines at most before the book is filled.
+const BEFORE: usize = 300;
+const AFTER: usize = 300;
+/// So many timer calls come in vain.
+const IN_VAIN: usize = 400;
+
+/// All scripts of this sort.
+pub fn scripts() -> impl Iterator<Item = Script> {
+    (2_000..2_000 + SCRIPTS).map(script)
+}
+
+/// A session whose book is full for long, so that it is full too where many lines are lost.
+pub fn long(seed: u64) -> Script {
+    let mut random = Random::new(seed);
+    let mut writer = Writer::default();
+    let manner = Manner::any(&mut random);
+    writer.session(&mut random, manner, BEFORE);
+    writer.fill(&mut random, PLACES);
+    for _ in 0..IN_VAIN {
+        writer.request(random.pick(&Side::BOTH), &[TIMER]);
+    }
+    writer.session(&mut random, manner, AFTER);
+    writer.script
+}
+
+/// A session in which the book suddenly has at most three places left, and which goes on.
+fn script(seed: u64) -> Script {
+    let mut random = Random::new(seed);
+    let mut writer = Writer::default();
+    let manner = Manner::any(&mut random);
+    let before = random.within(0..=BEFORE);
+    writer.session(&mut random, manner, before);
+    let frames = random.within(PLACES - 3..=PLACES);
+    writer.fill(&mut random, frames);
+    let manner = Manner::any(&mut random);
+    writer.session(&mut random, manner, AFTER);
+    writer.script
+}
+
+#[cfg(test)]
+mod tests {
+    use super::*;
+    use crate::subject::Subject;
+    use reference::bench::program::Program;
+
+    /// How often each number is answered while the book is full.
+    fn tally(scripts: impl Iterator<Item = Script>) -> [usize; 15] {
+        let mut tally = [0; 15];
+        for script in scripts {
+            let mut program = Program::default();
+            for line in script.lines() {
+                let answer = program.answer(line);
+                if program.used().len() == PLACES {
+                    tally[usize::from(Program::number(&answer))] += 1;
+                }
+            }
+        }
+        tally
+    }
+
+    #[test]
+    fn a_full_book_refuses_only_what_sends() {
+        for tally in [tally((0..10).map(script)), tally((0..10).map(long))] {
+            assert!(tally[0] > 100 && tally[14] > 1_000, "{tally:?}");
+        }
+    }
+}

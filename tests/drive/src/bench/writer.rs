@@ -1,0 +1,121 @@
+//! A bench of the reference that writes its own script.
+
+use crate::script::Script;
+use crate::sessions::{request, Taken};
+use crate::subject::Subject;
+use cases::random::Random;
+use cases::records::waiting;
+use cases::sample::message;
+use reference::bench::book::PLACES;
+use reference::bench::program::Program;
+use reference::bench::{Side, DELIVER, REQUEST_A, REQUEST_B};
+use reference::request::{CONNECT, END_LISTENING, SEND, TIMER};
+use reference::{line, State};
+
+/// A bench, all that it was asked, and how far each end's deliveries have come.
+#[derive(Default)]
+pub struct Writer {
+    program: Program,
+    pub script: Script,
+    taken: [Taken; 2],
+}
+
+/// How a session goes.
+#[derive(Clone, Copy)]
+pub struct Manner {
+    /// So many lines of ten are deliveries.
+    pub deliveries: usize,
+    /// So many deliveries of ten are of any frame, however old.
+    pub old: usize,
+}
+
+impl Manner {
+    /// Some manner: from nearly in order to no order at all.
+    pub fn any(random: &mut Random) -> Self {
+        Self {
+            deliveries: random.within(3..=8),
+            old: random.pick(&[0, 0, 1, 4, 10]),
+        }
+    }
+}
+
+impl Writer {
+    /// How many frames the book holds.
+    pub fn frames(&self) -> usize {
+        self.program.used().len()
+    }
+
+    /// A request of this end; gives its number.
+    pub fn request(&mut self, side: Side, request: &[u8]) -> u8 {
+        let first = match side {
+            Side::A => REQUEST_A,
+            Side::B => REQUEST_B,
+        };
+        self.line(&[&[first], request].concat())
+    }
+
+    /// The delivery of this frame; gives its number.
+    pub fn deliver(&mut self, number: usize) -> u8 {
+        let [high, low] = (number as u16).to_be_bytes();
+        self.line(&[DELIVER, high, low])
+    }
+
+    /// So many lines of a session of this manner.
+    pub fn session(&mut self, random: &mut Random, manner: Manner, lines: usize) {
+        for _ in 0..lines {
+            let side = random.pick(&Side::BOTH);
+            if random.within(1..=10) <= manner.deliveries {
+                let number = self.frame_for(random, manner, side);
+                self.deliver(number);
+            } else {
+                let request = request(random, self.state(side));
+                self.request(side, &request);
+            }
+        }
+    }
+
+    /// Fills the book up to this many frames, mostly with timer calls.
+    pub fn fill(&mut self, random: &mut Random, frames: usize) {
+        while self.frames() < frames {
+            let side = random.pick(&Side::BOTH);
+            let kind = match self.state(side) {
+                State::Closed => CONNECT,
+                State::Listening => END_LISTENING,
+                State::Open if waiting(self.program.record(side)) == 0 => SEND,
+                _ => TIMER,
+            };
+            self.request(side, &message(kind, &[], b"block"));
+        }
+    }
+
+    /// A frame for this end: one that the other sent if there is one, and seldom any number.
+    fn frame_for(&mut self, random: &mut Random, manner: Manner, side: Side) -> usize {
+        let frames = self.frames();
+        let is_for_side = |number: &usize| self.program.used()[*number][0] != side as u8;
+        let sent: Vec<_> = (0..frames).filter(is_for_side).collect();
+        match random.within(0..=63) {
+            0 => random.pick(&[
+                frames,
+                frames + 1,
+                PLACES - 1,
+                PLACES,
+                usize::from(u16::MAX),
+            ]),
+            _ if sent.is_empty() => random.within(0..=frames),
+            _ if random.within(1..=10) <= manner.old => random.pick(&sent),
+            _ => sent[self.taken[side.index()].next(random, sent.len())],
+        }
+    }
+
+    /// Adds the line to the script; gives the number of its answer.
+    fn line(&mut self, bytes: &[u8]) -> u8 {
+        let line = line::write(bytes);
+        self.script.push_line(&line);
+        Program::number(&self.program.answer(&line))
+    }
+
+    /// The state of this end.
+    fn state(&self, side: Side) -> State {
+        State::of(self.program.record(side)[0]).expect("the record is sound")
+    }
+}

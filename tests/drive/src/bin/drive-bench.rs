@@ -1,0 +1,50 @@
+//! Runs a line program for a bench on generated scripts, and compares its answers with those of
+//! the reference, byte for byte.
+//!
+//! The command line names the program. Numbers 7, 9, 11 and 12 are never expected: the bench
+//! starts fresh, its own frames are right, and no script is long enough to use up numbers.
+
+use cases::group::{Group, Score};
+use drive::bench::{full, odd, replay, sessions};
+use drive::comparison::Comparison;
+use drive::{altered, program, typed};
+use reference::bench::program::Program;
+use std::process::ExitCode;
+
+/// So many lines are typed.
+const TYPED: usize = 600;
+/// So many sessions get faults, and so many with full books.
+const ALTERED: u64 = 16;
+/// So many lines has each of the first.
+const LINES: usize = 800;
+/// So many steps of the step table are met at least. Others need frames that no end sends.
+const STEPS: usize = 185;
+
+fn main() -> ExitCode {
+    let Some(program) = program::named("drive-bench PROGRAM") else {
+        return ExitCode::FAILURE;
+    };
+    let typed = typed::group::<Program>(&program, &sessions::session(1_600, TYPED));
+    let mut comparison = Comparison::<Program>::new(program);
+    let sources = (1_300..1_300 + ALTERED)
+        .flat_map(|seed| [sessions::session(seed, LINES), full::long(seed)]);
+    let groups = [
+        comparison.group("sessions", &[0, 8, 10, 13, 14], sessions::scripts()),
+        comparison.group("full books", &[0, 8, 10, 13, 14], full::scripts()),
+        comparison.group("frames again", &[0, 8, 13, 14], replay::scripts()),
+        comparison.group(
+            "altered lines",
+            &[0, 1, 2, 3, 4, 5, 6, 8, 10, 13, 14],
+            altered::of(sources),
+        ),
+        comparison.group(
+            "odd input",
+            &[0, 1, 2, 3, 4, 5, 6, 8, 10, 13],
+            odd::scripts(),
+        ),
+        typed,
+    ];
+    let lines: Score = groups.iter().map(Group::report).sum();
+    let steps = comparison.coverage.report_least(STEPS);
+    [lines, steps].into_iter().sum::<Score>().conclude()
+}

@@ -1,0 +1,88 @@
+//! The programs of the reference that others are compared with.
+
+use reference::record::RECORD;
+use reference::stream::Lines;
+use reference::{bench, line, program};
+
+/// A program of the reference, as it starts.
+pub trait Subject: Lines + Default {
+    /// So many characters of an answer line stand before its number.
+    const LEAD: usize;
+
+    /// The record that is about to meet a message with this line, and the message.
+    fn meeting(&self, line: &[u8]) -> Option<(&[u8; RECORD], Vec<u8>)>;
+
+    /// The answer to this line.
+    fn answer(&mut self, line: &[u8]) -> Vec<u8> {
+        let mut answer = Vec::new();
+        self.line(line, &mut answer);
+        answer
+    }
+
+    /// The number of an answer.
+    fn number(answer: &[u8]) -> u8 {
+        let digits = &answer[Self::LEAD..][..2];
+        line::read(digits).expect("two digits give the number")[0] - 0x80
+    }
+}
+
+/// The line program for one end.
+impl Subject for program::Program {
+    const LEAD: usize = 0;
+
+    fn meeting(&self, line: &[u8]) -> Option<(&[u8; RECORD], Vec<u8>)> {
+        let message = line::read(line).ok()?;
+        Some((self.record(), message.to_vec()))
+    }
+}
+
+/// The line program for a bench.
+impl Subject for bench::program::Program {
+    const LEAD: usize = 2;
+
+    fn meeting(&self, line: &[u8]) -> Option<(&[u8; RECORD], Vec<u8>)> {
+        let bytes = line::read(line).ok()?;
+        let (side, message) = cases::bench::meeting(self.used(), &bytes)?;
+        Some((self.record(side), message.to_vec()))
+    }
+}
+
+#[cfg(test)]
+mod tests {
+    use super::*;
+
+    /// The messages that this program meets with these lines, where it meets any.
+    fn messages<P: Subject>(lines: &[&str]) -> Vec<Option<Vec<u8>>> {
+        let mut program = P::default();
+        let lines = lines.iter().map(|line| {
+            let meeting = program.meeting(line.as_bytes());
+            let message = meeting.map(|(_, message)| message);
+            program.answer(line.as_bytes());
+            message
+        });
+        lines.collect()
+    }
+
+    #[test]
+    fn one_end_meets_what_is_on_the_line() {
+        let found = messages::<program::Program>(&["40", "ff", "zz"]);
+        assert_eq!(found, [Some(vec![0x40]), Some(vec![0xff]), None]);
+    }
+
+    #[test]
+    fn a_bench_meets_requests_and_frames_of_the_book() {
+        let lines = ["520000", "5140", "520000", "520001", "zz", "53"];
+        let found = messages::<bench::program::Program>(&lines);
+        let crao = vec![1, 0, 0, 0, 1, 0, 0, 0, 0];
+        let rej = vec![4, 0, 0, 0, 0, 0, 0, 0, 1];
+        let right = [None, Some(vec![0x40]), Some(crao), Some(rej), None, None];
+        assert_eq!(found, right);
+    }
+
+    #[test]
+    fn the_number_stands_after_the_lead() {
+        type Bench = bench::program::Program;
+        assert_eq!(program::Program::number(b"8204000000000100000007"), 2);
+        assert_eq!(Bench::number(b"508d00000000000000000000"), 13);
+    }
+}

@@ -1,0 +1,204 @@
+//! The bench: two ends and every frame ever sent, in buffers that the caller lends.
+
+pub mod book;
+mod order;
+pub mod program;
+mod side;
+
+pub use order::{Order, DELIVER, REQUEST_A, REQUEST_B};
+pub use side::Side;
+
+use crate::buffer::put;
+use crate::call::{self, start};
+use crate::frame::LONGEST_FRAME;
+use crate::record::{Record, RECORD};
+use crate::{line, Refusal};
+use book::{Place, BOOK, PLACE, PLACES};
+
+/// What a bench line is answered.
+#[derive(Clone, Copy, Debug, PartialEq, Eq)]
+pub struct Answer<'a> {
+    /// The end that the answer is about.
+    pub side: Side,
+    /// The number, that end's state and numbers, and what its call did. A block handed up is part
+    /// of the book.
+    pub end: call::Answer<'a>,
+    /// How many frames the book holds after the line.
+    pub count: usize,
+}
+
+/// A bench line in bytes: questions 11, 12, 3 to 10, 13 and 14, then its step.
+pub fn line<'a>(
+    records: [&mut [u8]; 2],
+    book: &'a mut [u8],
+    count: usize,
+    line: &[u8],
+    out: &mut [u8],
+) -> Answer<'a> {
+    answer(records, book, count, Ok(line), out)
+}
+
+/// A bench line as text, without its line feed: the same with questions 1 and 2 after 12.
+pub fn text<'a>(
+    records: [&mut [u8]; 2],
+    book: &'a mut [u8],
+    count: usize,
+    text: &[u8],
+    out: &mut [u8],
+) -> Answer<'a> {
+    let line = line::read(text);
+    let line = line.as_deref().map_err(|&refusal| refusal);
+    answer(records, book, count, line, out)
+}
+
+/// The numbers of all frames in the book whose delivery now would be accepted and change the
+/// receiver's record, in their order. Questions 11 and 12 come first.
+pub fn changing(records: [&[u8]; 2], book: &[u8], count: usize) -> Result<Vec<usize>, Refusal> {
+    let [a, b] = records;
+    let records = [lent(a)?, lent(b)?];
+    let (places, _) = lent::<BOOK>(book)?.as_chunks();
+    let used = places.get(..count).ok_or(Refusal::Unsound)?;
+    let bench = Bench::new(records, used)?;
+    Ok((0..count).filter(|&number| bench.changes(number)).collect())
+}
+
+/// Answers a line. Where it is refused before it names an end, the answer is about A.
+fn answer<'a>(
+    mut records: [&mut [u8]; 2],
+    book: &'a mut [u8],
+    count: usize,
+    line: Result<&[u8], Refusal>,
+    out: &mut [u8],
+) -> Answer<'a> {
+    let [a, b] = &mut records;
+    make([a, b], book, count, line, out).unwrap_or_else(|refusal| Answer {
+        side: Side::A,
+        end: call::Answer::refused(records[0], refusal),
+        count,
+    })
+}
+
+/// All questions in their order, then the step. A refusal that is told here has named no end.
+fn make<'a>(
+    records: [&mut [u8]; 2],
+    book: &'a mut [u8],
+    count: usize,
+    line: Result<&[u8], Refusal>,
+    out: &mut [u8],
+) -> Result<Answer<'a>, Refusal> {
+    let [a, b] = records;
+    let records = [start::<RECORD>(a)?, start::<RECORD>(b)?];
+    let (places, _) = start::<BOOK>(book)?.as_chunks_mut::<PLACE>();
+    let out = start::<LONGEST_FRAME>(out)?;
+    let (used, free) = places.split_at_mut_checked(count).ok_or(Refusal::Unsound)?;
+    let bench = Bench::new(records.each_ref().map(|record| &**record), used)?;
+    let step = bench.step(Order::read(line?)?)?;
+    let mut count = count;
+    if step.end.number == 0 {
+        count += step.store(records, free, out);
+    }
+    Ok(Answer {
+        side: step.side,
+        end: step.end,
+        count,
+    })
+}
+
+/// Question 11: the first bytes of a lent buffer that is only read, if it has so many.
+fn lent<const LENGTH: usize>(buffer: &[u8]) -> Result<&[u8; LENGTH], Refusal> {
+    buffer.first_chunk().ok_or(Refusal::Buffer)
+}
+
+/// A sound bench, which is only read.
+struct Bench<'r, 'a> {
+    records: [&'r [u8; RECORD]; 2],
+    /// The places of the book that are in use.
+    used: &'a [Place],
+}
+
+/// A step of one end of a bench. Nothing of it is stored yet.
+struct Step<'a> {
+    /// The end that makes the step.
+    side: Side,
+    end: call::Answer<'a>,
+    /// Its record after the step.
+    record: [u8; RECORD],
+    /// Starts with the frame to send, if there is one.
+    frame: [u8; LONGEST_FRAME],
+}
+
+impl<'r, 'a> Bench<'r, 'a> {
+    /// Question 12 of both records.
+    fn new(records: [&'r [u8; RECORD]; 2], used: &'a [Place]) -> Result<Self, Refusal> {
+        for record in records {
+            Record::read(&mut record.clone())?;
+        }
+        Ok(Self { records, used })
+    }
+
+    /// The step of this line; it may be refused.
+    fn step(&self, order: Order) -> Result<Step<'a>, Refusal> {
+        match order {
+            Order::Request(side, request) => Ok(self.end(side, |record, out| {
+                call::request(record, request, out).without_block()
+            })),
+            Order::Delivery(number) => self.delivery(number),
+        }
+    }
+
+    /// Question 13, then the step of the end that did not send the frame.
+    fn delivery(&self, number: usize) -> Result<Step<'a>, Refusal> {
+        let (sender, frame) = book::find(self.used, number)?;
+        Ok(self.end(sender.other(), |record, out| {
+            call::receive(record, frame, out)
+        }))
+    }
+
+    /// The step that this call makes at this end, then question 14.
+    fn end(
+        &self,
+        side: Side,
+        call: impl FnOnce(&mut [u8], &mut [u8]) -> call::Answer<'a>,
+    ) -> Step<'a> {
+        let before = self.records[side.index()];
+        let mut record = *before;
+        let mut frame = [0; LONGEST_FRAME];
+        let mut end = call(&mut record, &mut frame);
+        if end.sent > 0 && self.used.len() >= PLACES {
+            end = call::Answer::refused(before, Refusal::BookFull);
+        }
+        Step {
+            side,
+            end,
+            record,
+            frame,
+        }
+    }
+
+    /// Would the delivery of this frame be accepted and change the receiver's record?
+    fn changes(&self, number: usize) -> bool {
+        self.delivery(number).is_ok_and(|step| {
+            step.end.number == 0 && step.record != *self.records[step.side.index()]
+        })
+    }
+}
+
+impl Step<'_> {
+    /// Stores a step that is accepted: the record and, if a frame is sent, the frame and the next
+    /// place of the book. Gives how many frames are sent.
+    fn store(
+        &self,
+        records: [&mut [u8; RECORD]; 2],
+        free: &mut [Place],
+        out: &mut [u8; LONGEST_FRAME],
+    ) -> usize {
+        *records[self.side.index()] = self.record;
+        if self.end.sent == 0 {
+            return 0;
+        }
+        let frame = &self.frame[..self.end.sent];
+        put(out, frame);
+        free[0] = book::place(self.side, frame);
+        1
+    }
+}

@@ -1,0 +1,166 @@
+//! The bench's line program: two fresh ends and an empty book, asked line by line.
+
+use super::book::{Place, BOOK, PLACE};
+use super::{text, Side, REQUEST_A, REQUEST_B};
+use crate::frame::LONGEST_FRAME;
+use crate::line;
+use crate::program::append_answer;
+use crate::record::RECORD;
+use crate::stream::Lines;
+
+/// A line program, which holds a bench.
+pub struct Program {
+    records: [[u8; RECORD]; 2],
+    book: Vec<u8>,
+    count: usize,
+}
+
+impl Default for Program {
+    /// A program with fresh ends and an empty book.
+    fn default() -> Self {
+        Self {
+            records: [[0; RECORD]; 2],
+            book: vec![0; BOOK],
+            count: 0,
+        }
+    }
+}
+
+impl Program {
+    /// The record of this end.
+    pub fn record(&self, side: Side) -> &[u8; RECORD] {
+        &self.records[side.index()]
+    }
+
+    /// The places of the book that are in use.
+    pub fn used(&self) -> &[Place] {
+        &self.book.as_chunks::<PLACE>().0[..self.count]
+    }
+
+    /// The bytes of the book.
+    pub fn book(&self) -> &[u8] {
+        &self.book
+    }
+}
+
+impl Lines for Program {
+    fn line(&mut self, line: &[u8], output: &mut Vec<u8>) {
+        let mut frame = [0; LONGEST_FRAME];
+        let [a, b] = &mut self.records;
+        let answer = text([a, b], &mut self.book, self.count, line, &mut frame);
+        line::append(&[first_byte(answer.side)], output);
+        append_answer(&answer.end, &frame, output);
+        self.count = answer.count;
+    }
+}
+
+/// The byte before an answer line about this end.
+fn first_byte(side: Side) -> u8 {
+    match side {
+        Side::A => REQUEST_A,
+        Side::B => REQUEST_B,
+    }
+}
+
+#[cfg(test)]
+mod tests {
+    use super::*;
+    use crate::bench::{book, changing};
+    use crate::stream::run;
+
+    fn output(input: &str) -> String {
+        let mut output = Vec::new();
+        run(Program::default(), input.as_bytes(), &mut output).unwrap();
+        String::from_utf8(output).unwrap()
+    }
+
+    #[test]
+    fn a_whole_run() {
+        let input = "5141\n5040\n520000\n520001\n520002\n5044026162\n520003\n520004\nzz\n5143\n";
+        let answers = "518001000000000100000000\n\
+            508002000000000100000000\n010000000100000000\n\
+            518003000000000100000001\n020000000100000001\n\
+            508004010000000100000001\n030000000100000001\n\
+            518004010000000100000001\n\
+            508004000000000100000001\n08000000010000000100000000026162\n\
+            518004050000000100000001026162\n09000000010000000100000001\n\
+            508004000000000100000001\n\
+            508204000000000100000001\n\
+            518005000000000100000001\n060000000100000001\n";
+        assert_eq!(output(input), answers);
+        assert_eq!(output(input.trim_end()), answers);
+    }
+
+    #[test]
+    fn no_input_is_no_line_and_a_lone_line_feed_an_empty_one() {
+        assert_eq!(output(""), "");
+        assert_eq!(output("\n"), "508100000000000000000000\n");
+    }
+
+    /// The end byte and the number that answer this line after A called.
+    fn start_of_answer(line: &str) -> String {
+        let answers = output(&format!("5040\n{line}"));
+        let last = answers.lines().nth(2).unwrap();
+        last[..4].to_string()
+    }
+
+    #[test]
+    fn the_end_byte_of_refused_lines() {
+        for (line, right) in [
+            ("\n", "5081"),
+            ("515", "5081"),
+            ("51zz", "5082"),
+            ("5A", "5082"),
+            ("40", "5083"),
+            ("010000000100000000", "5083"),
+            ("50", "5083"),
+            ("51", "5183"),
+            ("5050", "5083"),
+            ("5150", "5183"),
+            ("5152", "5183"),
+            ("5101", "5183"),
+            ("53", "5083"),
+            ("52", "5084"),
+            ("5200", "5084"),
+            ("52000000", "5084"),
+            ("5140ff", "5184"),
+            ("5144", "5184"),
+            ("504400", "5085"),
+            ("514441", "5185"),
+            ("514401", "5186"),
+            ("520001", "508d"),
+            ("52ffff", "508d"),
+            ("5143", "5188"),
+            ("5040", "5088"),
+            ("520000", "5180"),
+        ] {
+            assert_eq!(start_of_answer(line), right, "line {line:?}");
+        }
+    }
+
+    #[test]
+    fn a_full_book_refuses_what_sends() {
+        let mut program = Program::default();
+        let mut say = |line: &str| {
+            let mut answer = Vec::new();
+            program.line(line.as_bytes(), &mut answer);
+            String::from_utf8(answer).unwrap()
+        };
+        assert_eq!(&say("5040")[..4], "5080");
+        for _ in 1..512 {
+            assert_eq!(&say("5045")[..4], "5080");
+        }
+        assert_eq!(say("5045"), "508e02000000000100000000\n");
+        assert_eq!(say("5140"), "518e00000000000000000000\n");
+        assert_eq!(say("5141"), "518001000000000100000000\n");
+        assert_eq!(say("5201ff"), "518e01000000000100000000\n");
+        assert_eq!(&say("520200")[..4], "508d");
+        assert_eq!(program.used().len(), 512);
+        assert_eq!(
+            program.used()[511],
+            book::place(Side::A, &[1, 0, 0, 0, 1, 0, 0, 0, 0])
+        );
+        let records = Side::BOTH.map(|side| &program.record(side)[..]);
+        assert_eq!(changing(records, program.book(), 512), Ok(vec![]));
+    }
+}

@@ -1,0 +1,56 @@
+//! The two ends of a bench.
+
+/// One of the two ends, with its sender byte in the book.
+#[derive(Clone, Copy, Debug, Default, PartialEq, Eq)]
+#[repr(u8)]
+pub enum Side {
+    #[default]
+    A = 0,
+    B = 1,
+}
+
+impl Side {
+    /// Both, in the order of their bytes.
+    pub const BOTH: [Self; 2] = [Self::A, Self::B];
+
+    /// The end of this sender byte, if it is 0 or 1.
+    pub fn of(byte: u8) -> Option<Self> {
+        Self::BOTH.get(usize::from(byte)).copied()
+    }
+
+    /// The other end.
+    pub fn other(self) -> Self {
+        match self {
+            Self::A => Self::B,
+            Self::B => Self::A,
+        }
+    }
+
+    /// Which of two things is this end's.
+    pub fn index(self) -> usize {
+        self as usize
+    }
+}
+
+#[cfg(test)]
+mod tests {
+    use super::*;
+
+    #[test]
+    fn sender_bytes_are_0_and_1() {
+        assert_eq!(Side::of(0), Some(Side::A));
+        assert_eq!(Side::of(1), Some(Side::B));
+        for byte in 2..=u8::MAX {
+            assert_eq!(Side::of(byte), None);
+        }
+    }
+
+    #[test]
+    fn each_is_the_other_of_the_other() {
+        for side in Side::BOTH {
+            assert_ne!(side.other(), side);
+            assert_eq!(side.other().other(), side);
+            assert_eq!(Side::BOTH[side.index()], side);
+        }
+    }
+}
