@@ -100,14 +100,6 @@ fn the_reference_equals_itself_and_keeps_its_promises() {
     assert!(score.passed > 80_000);
 }
 
-#[test]
-#[ignore = "takes long; for a build with all optimisations"]
-fn half_a_million_calls() {
-    let score = compare::<Reference>(50);
-    assert_eq!(score.failed, 0);
-    assert!(score.passed > 500_000);
-}
-
 /// How many calls of one round fail.
 fn failed<B: Bench>() -> u64 {
     calls::<B>(1, &mut Coverage::default()).failed
