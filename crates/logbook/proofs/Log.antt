@@ -1,11 +1,11 @@
 -- Places of the log. Assumes nothing.
-use Prim.Native.Nat.{ℕ, zero, suc, _+_, _-_, _*_, _≤_, _<_}
+use Prim.Native.Nat.{ℕ, zero, suc, _+_, _-_, _≤_}
 use mathlib.Core.Path.{_≡_, refl, sym, ap, _∙_}
 use mathlib.Core.Bool.{false}
-use mathlib.Core.List.{List, [], _∷_, _++_}
+use mathlib.Core.List.{List, [], _∷_}
 use native.Mathlib.Omega.{arith}
-use borrow.Author.Tests.{le-ltb, lt-ltb}
-use lib.ListN.{length, take, drop, replicate, length-append, length-drop}
+use borrow.Author.Tests.{le-ltb}
+use lib.ListN.{length, take, drop, replicate}
 use lib.Seq.{take-length}
 use Rattle.octets.specs.Octets.{put}
 use Rattle.octets.proofs.Octets.{put-more}

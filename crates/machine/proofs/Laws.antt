@@ -32,7 +32,7 @@ use Rattle.calls.specs.Calls as calls
 use Rattle.calls.proofs.Lift.{read-sized}
 use Rattle.endpoint.proofs.Sounds.{view-sound}
 use Rattle.endpoint.proofs.Held.{held, pack-sound}
-use Rattle.plan.proofs.Reading.{good, passed, sender-is, quoted-is, number-is}
+use Rattle.receiving.proofs.Reading.{good, passed, sender-is, quoted-is, number-is}
 
 -- four octets make a number of 32 bits
 field-32 : (at : ℕ) (s : List ℕ) → Octets s → at + 4 ≤ length s → field 4 at s ≤ lastNumber

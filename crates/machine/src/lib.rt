@@ -35,7 +35,7 @@ pub fn plan_request<'a>(
     if !endpoint::is_sound(n, lengths, blocks) {
         return plan::refuse(n, 12);
     }
-    let p = plan::request(n, s);
+    let p = requests::request(n, s);
     let count = endpoint::wide(lengths[0]);
     *sent = plan::send_reply(p, s, &blocks[0..count], out);
     p
@@ -60,7 +60,7 @@ pub fn plan_receive<'a>(
     if !endpoint::is_sound(n, lengths, blocks) {
         return plan::refuse(n, 12);
     }
-    let p = plan::receive(n, s);
+    let p = receiving::receive(n, s);
     let count = endpoint::wide(lengths[0]);
     *sent = plan::send_reply(p, s, &blocks[0..count], out);
     p

@@ -4,7 +4,6 @@ use lib.ListN.{length, drop}
 use native.Mathlib.Nat.{sub-zero}
 use denote.Ref.{now}
 use borrow.Author.Tests.{not-true, not-false}
-use Rattle.plan.specs.declared.Plan.{Plan}
 use Rattle.plan.specs.Plan.{Comes}
 use Rattle.endpoint.specs.declared.Endpoint.{Endpoint}
 use Rattle.endpoint.specs.View.{blockAt, view}

@@ -1,0 +1,348 @@
+use mathlib.Core.Path.{_≡_, refl, sym, ap, _∙_}
+use mathlib.Core.List.{List, []}
+use Prim.Native.Nat.{_+_, _-_, _≤_, _<_}
+use lib.ListN.{length, replicate, length-replicate}
+use Rattle.octets.specs.Sizes.{lastNumber}
+use Rattle.octets.specs.Test.{ok}
+use Rattle.frame.specs.Frame.{Block}
+use Rattle.frame.specs.declared.Header.the-variants.{Crao, Crpo, Crack, Rej, Reset, Drack, Ack}
+use Rattle.frame.specs.Answer.{frameOf}
+use Rattle.protocol.specs.declared.Rule.{Rule}
+use Rattle.protocol.specs.declared.Rule.the-variants.{HandUp, Release}
+use Rattle.protocol.specs.Table.{none, connected, rejected, closedByPartner, closeFinished, handedUp, notice, apply}
+use Rattle.decide.specs.Rows.{holding, carrying}
+use Rattle.plan.specs.declared.Reply.the-variants.{Nothing, Frame}
+use Rattle.plan.specs.Plan.{sentBy}
+use Rattle.plan.specs.Parts.{delivering}
+use Rattle.plan.proofs.Comes.{keeps, turns, releases}
+use Rattle.receiving.proofs.Found.{hands-up, frees}
+use native.Mathlib.Omega.{arith}
+use borrow.Author.Needs.{needs}
+use Rattle.receiving.proofs.apply.Statement.{statement}
+use Rattle.receiving.proofs.apply.Tie as tie
+
+-- what the arm's row does
+does : (c : tie.Start) (q : List Block) (x : Block) {r : Rule} → c .args .row ≡ r
+    → ok (apply (c .args .row) (holding (c .args .n) q) (carrying (c .args .f) x)) ≡ ok (apply r (holding (c .args .n) q) (carrying (c .args .f) x))
+does c q x h = ap (λ (y : Rule). ok (apply y (holding (c .args .n) q) (carrying (c .args .f) x))) h
+
+-- some blocks of that count, to ask the table with
+module _ (c : tie.Start) where
+  some : List Block
+  some = replicate (c .args .n .waiting) []
+
+  count : length some ≡ c .args .n .waiting
+  unfolding some
+  count = length-replicate (c .args .n .waiting) []
+
+  -- a number is left for the block handed up
+  found-hand-up : c .args .row ≡ HandUp → c .args .n .delivered < lastNumber
+  found-hand-up h =
+      let u = hands-up (holding (c .args .n) some) (carrying (c .args .f) []) (sym (c .pre .1 .1 some [] count) ∙ h) in
+      omega (arith, c .pre .1 .0 (u .0), u .1)
+
+  -- the blocks that leave wait
+  found-release : c .args .row ≡ Release
+      → (c .args .n .accepted - c .args .n .waiting < c .args .f .number) × (c .args .f .number ≤ c .args .n .accepted)
+  found-release h = rw count at (frees (holding (c .args .n) some) (carrying (c .args .f) []) (sym (c .pre .1 .1 some [] count) ∙ h))
+
+enum-told : tie.Need-enum-told
+enum-told c = search needs
+
+keep-requires : tie.Need-keep-requires
+keep-requires c κs = search needs
+
+enum-told-2 : tie.Need-enum-told-2
+enum-told-2 c = search needs
+
+keep-requires-2 : tie.Need-keep-requires-2
+keep-requires-2 c κs = search needs
+
+enum-told-3 : tie.Need-enum-told-3
+enum-told-3 c = search needs
+
+keep-requires-3 : tie.Need-keep-requires-3
+keep-requires-3 c κs = search needs
+
+enum-told-4 : tie.Need-enum-told-4
+enum-told-4 c = search needs
+
+turn-requires : tie.Need-turn-requires
+turn-requires c κs = search needs
+
+enum-told-5 : tie.Need-enum-told-5
+enum-told-5 c = search needs
+
+keep-requires-4 : tie.Need-keep-requires-4
+keep-requires-4 c κs = search needs
+
+enum-told-6 : tie.Need-enum-told-6
+enum-told-6 c = search needs
+
+turn-requires-2 : tie.Need-turn-requires-2
+turn-requires-2 c κs = search needs
+
+enum-told-7 : tie.Need-enum-told-7
+enum-told-7 c = search needs
+
+turn-requires-3 : tie.Need-turn-requires-3
+turn-requires-3 c κs = search needs
+
+enum-told-8 : tie.Need-enum-told-8
+enum-told-8 c = search needs
+
+turn-requires-4 : tie.Need-turn-requires-4
+turn-requires-4 c κs = search needs
+
+enum-told-9 : tie.Need-enum-told-9
+enum-told-9 c = search needs
+
+turn-requires-5 : tie.Need-turn-requires-5
+turn-requires-5 c κs = search needs
+
+enum-told-10 : tie.Need-enum-told-10
+enum-told-10 c = search needs
+
+turn-requires-6 : tie.Need-turn-requires-6
+turn-requires-6 c κs = search needs
+
+enum-told-11 : tie.Need-enum-told-11
+enum-told-11 c = search needs
+
+turn-requires-7 : tie.Need-turn-requires-7
+turn-requires-7 c κs = search needs
+
+enum-told-12 : tie.Need-enum-told-12
+enum-told-12 c = search needs
+
+turn-requires-8 : tie.Need-turn-requires-8
+turn-requires-8 c κs = search needs
+
+enum-told-13 : tie.Need-enum-told-13
+enum-told-13 c = search needs
+
+keep-requires-5 : tie.Need-keep-requires-5
+keep-requires-5 c κs = search needs
+
+enum-told-14 : tie.Need-enum-told-14
+enum-told-14 c = search needs
+
+add-count : tie.Need-add-count
+add-count c = omega (arith, found-hand-up (c .before .before .before) (c .before .enum-told14 .given .1))
+
+deliver-requires : tie.Need-deliver-requires
+deliver-requires c κs = omega (arith, found-hand-up (c .before .before .before) (c .before .enum-told14 .given .1))
+
+keep-requires-6 : tie.Need-keep-requires-6
+keep-requires-6 c κs = search needs
+
+enum-told-15 : tie.Need-enum-told-15
+enum-told-15 c = search needs
+
+keep-requires-7 : tie.Need-keep-requires-7
+keep-requires-7 c κs = search needs
+
+enum-told-16 : tie.Need-enum-told-16
+enum-told-16 c = search needs
+
+release-requires : tie.Need-release-requires
+release-requires c κs = let s = c .before .before in (s .pre .0, found-release s (c .enum-told16 .given .1))
+
+enum-told-17 : tie.Need-enum-told-17
+enum-told-17 c = search needs
+
+turn-requires-9 : tie.Need-turn-requires-9
+turn-requires-9 c κs = search needs
+
+enum-told-18 : tie.Need-enum-told-18
+enum-told-18 c = search needs
+
+turn-requires-10 : tie.Need-turn-requires-10
+turn-requires-10 c κs = search needs
+
+returns : tie.Need-returns
+unfolding apply notice sentBy frameOf
+returns c = λ x b q old w _.
+    let s = c .before .before .before in
+    let n = s .args .n in
+    keeps n q b old w n none Nothing refl (does s q x (c .before .enum-told .given .1)) (c .keep .ensures)
+
+returns-2 : tie.Need-returns-2
+unfolding apply notice sentBy frameOf
+returns-2 c = λ x b q old w _.
+    let s = c .before .before .before in
+    let n = s .args .n in
+    keeps n q b old w n none (Frame (Rej (n .local) (s .args .f .sender))) refl (does s q x (c .before .enum-told2 .given .1)) (c .keep2 .ensures)
+
+returns-3 : tie.Need-returns-3
+unfolding apply notice sentBy frameOf
+returns-3 c = λ x b q old w _.
+    let s = c .before .before .before in
+    let n = s .args .n in
+    keeps n q b old w n none (Frame (Drack (n .local) (s .args .f .sender))) refl (does s q x (c .before .enum-told3 .given .1)) (c .keep3 .ensures)
+
+returns-4 : tie.Need-returns-4
+unfolding apply notice sentBy frameOf
+returns-4 c = λ x b q old w _.
+    let s = c .before .before .before in
+    let n = s .args .n in
+    turns n q b old w 3 (s .args .f .sender) none (Frame (Crpo (n .local) (s .args .f .sender))) (does s q x (c .before .enum-told4 .given .1)) (c .turn .ensures)
+
+returns-5 : tie.Need-returns-5
+unfolding apply notice sentBy frameOf
+returns-5 c = λ x b q old w _.
+    let s = c .before .before .before in
+    let n = s .args .n in
+    keeps n q b old w n none (Frame (Reset (n .local) (s .args .f .sender))) refl (does s q x (c .before .enum-told5 .given .1)) (c .keep4 .ensures)
+
+returns-6 : tie.Need-returns-6
+unfolding apply notice sentBy frameOf
+returns-6 c = λ x b q old w _.
+    let s = c .before .before .before in
+    let n = s .args .n in
+    turns n q b old w 4 (s .args .f .sender) connected (Frame (Crack (n .local) (s .args .f .sender))) (does s q x (c .before .enum-told6 .given .1)) (c .turn2 .ensures)
+
+returns-7 : tie.Need-returns-7
+unfolding apply notice sentBy frameOf
+returns-7 c = λ x b q old w _.
+    let s = c .before .before .before in
+    let n = s .args .n in
+    turns n q b old w 2 (s .args .f .sender) none (Frame (Crao (n .local) (s .args .f .sender))) (does s q x (c .before .enum-told7 .given .1)) (c .turn3 .ensures)
+
+returns-8 : tie.Need-returns-8
+unfolding apply notice sentBy frameOf
+returns-8 c = λ x b q old w _.
+    let s = c .before .before .before in
+    let n = s .args .n in
+    turns n q b old w 4 (s .args .f .sender) connected Nothing (does s q x (c .before .enum-told8 .given .1)) (c .turn4 .ensures)
+
+returns-9 : tie.Need-returns-9
+unfolding apply notice sentBy frameOf
+returns-9 c = λ x b q old w _.
+    let s = c .before .before .before in
+    let n = s .args .n in
+    turns n q b old w 0 0 rejected Nothing (does s q x (c .before .enum-told9 .given .1)) (c .turn5 .ensures)
+
+returns-10 : tie.Need-returns-10
+unfolding apply notice sentBy frameOf
+returns-10 c = λ x b q old w _.
+    let s = c .before .before .before in
+    let n = s .args .n in
+    turns n q b old w 0 0 rejected (Frame (Drack (n .local) (s .args .f .sender))) (does s q x (c .before .enum-told10 .given .1)) (c .turn6 .ensures)
+
+returns-11 : tie.Need-returns-11
+unfolding apply notice sentBy frameOf
+returns-11 c = λ x b q old w _.
+    let s = c .before .before .before in
+    let n = s .args .n in
+    turns n q b old w 1 0 none Nothing (does s q x (c .before .enum-told11 .given .1)) (c .turn7 .ensures)
+
+returns-12 : tie.Need-returns-12
+unfolding apply notice sentBy frameOf
+returns-12 c = λ x b q old w _.
+    let s = c .before .before .before in
+    let n = s .args .n in
+    turns n q b old w 0 0 closedByPartner (Frame (Drack (n .local) (s .args .f .sender))) (does s q x (c .before .enum-told12 .given .1)) (c .turn8 .ensures)
+
+returns-13 : tie.Need-returns-13
+unfolding apply notice sentBy frameOf
+returns-13 c = λ x b q old w _.
+    let s = c .before .before .before in
+    let n = s .args .n in
+    keeps n q b old w n none (Frame (Crack (n .local) (n .remote))) refl (does s q x (c .before .enum-told13 .given .1)) (c .keep5 .ensures)
+
+returns-14 : tie.Need-returns-14
+unfolding apply notice sentBy frameOf
+returns-14 c = λ x b q old w _.
+    let s = c .before .before .before .before .before in
+    let n = s .args .n in
+    keeps n q b old w (delivering n) (handedUp x) (Frame (Ack (n .local) (n .remote) (n .delivered + 1))) refl (does s q x (c .before .before .before .enum-told14 .given .1)) (rw (c .before .deliver .ensures) at (c .keep6 .ensures))
+
+returns-15 : tie.Need-returns-15
+unfolding apply notice sentBy frameOf
+returns-15 c = λ x b q old w _.
+    let s = c .before .before .before in
+    let n = s .args .n in
+    keeps n q b old w n none (Frame (Ack (n .local) (n .remote) (n .delivered))) refl (does s q x (c .before .enum-told15 .given .1)) (c .keep7 .ensures)
+
+returns-16 : tie.Need-returns-16
+unfolding apply notice sentBy frameOf
+returns-16 c = λ x b q old w _.
+    let s = c .before .before .before in
+    let n = s .args .n in
+    releases n q b old w (s .args .f .number) (s .pre .0) (found-release s (c .before .enum-told16 .given .1) .1) (does s q x (c .before .enum-told16 .given .1)) (c .release .ensures)
+
+returns-17 : tie.Need-returns-17
+unfolding apply notice sentBy frameOf
+returns-17 c = λ x b q old w _.
+    let s = c .before .before .before in
+    let n = s .args .n in
+    turns n q b old w 0 0 closeFinished (Frame (Drack (n .local) (s .args .f .sender))) (does s q x (c .before .enum-told17 .given .1)) (c .turn9 .ensures)
+
+returns-18 : tie.Need-returns-18
+unfolding apply notice sentBy frameOf
+returns-18 c = λ x b q old w _.
+    let s = c .before .before .before in
+    let n = s .args .n in
+    turns n q b old w 0 0 closeFinished Nothing (does s q x (c .before .enum-told18 .given .1)) (c .turn10 .ensures)
+
+pub apply-spec : {M : Type 1} → statement M
+apply-spec =
+    tie.close
+    (tie.spec
+    enum-told
+    keep-requires
+    enum-told-2
+    keep-requires-2
+    enum-told-3
+    keep-requires-3
+    enum-told-4
+    turn-requires
+    enum-told-5
+    keep-requires-4
+    enum-told-6
+    turn-requires-2
+    enum-told-7
+    turn-requires-3
+    enum-told-8
+    turn-requires-4
+    enum-told-9
+    turn-requires-5
+    enum-told-10
+    turn-requires-6
+    enum-told-11
+    turn-requires-7
+    enum-told-12
+    turn-requires-8
+    enum-told-13
+    keep-requires-5
+    enum-told-14
+    add-count
+    deliver-requires
+    keep-requires-6
+    enum-told-15
+    keep-requires-7
+    enum-told-16
+    release-requires
+    enum-told-17
+    turn-requires-9
+    enum-told-18
+    turn-requires-10
+    returns
+    returns-2
+    returns-3
+    returns-4
+    returns-5
+    returns-6
+    returns-7
+    returns-8
+    returns-9
+    returns-10
+    returns-11
+    returns-12
+    returns-13
+    returns-14
+    returns-15
+    returns-16
+    returns-17
+    returns-18)

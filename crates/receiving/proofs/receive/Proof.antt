@@ -1,0 +1,69 @@
+use mathlib.Core.Path.{refl, sym, ap, _∙_}
+use lib.ListN.{drop}
+use denote.Ref.{now}
+use Rattle.octets.specs.Test.{andThen, mapped}
+use Rattle.frame.specs.declared.FrameRead.{FrameRead}
+use Rattle.frame.specs.Answer.{frameOf, valuesOf, frameRead}
+use Rattle.protocol.specs.Table.{step}
+use Rattle.protocol.specs.Network.{perform}
+use Rattle.plan.specs.Plan.{heard}
+use Rattle.plan.proofs.Comes.{refuses}
+use Rattle.receiving.proofs.Reading.{data-limit}
+use borrow.Author.Needs.{needs}
+use Rattle.receiving.proofs.receive.Statement.{statement}
+use Rattle.receiving.proofs.receive.Tie as tie
+
+read-frame-requires : tie.Need-read-frame-requires
+read-frame-requires c κs = search needs
+
+enum-known-read : tie.Need-enum-known-read
+enum-known-read c = search needs
+
+values-of-requires : tie.Need-values-of-requires
+values-of-requires c κs = search needs
+
+choose-requires : tie.Need-choose-requires
+choose-requires c κs = search needs
+
+apply-requires : tie.Need-apply-requires
+unfolding frameRead valuesOf
+apply-requires c κs =
+    let s = now (c .before .before .before .before .before .before .before .args .s) in
+    let k = sym (c .before .before .before .before .before .read-frame .ensures) ∙ ap (λ (x : FrameRead). frameRead x s) (c .before .before .before .read .given .1) in
+    (c .before .before .before .before .before .before .before .pre, (rw (c .before .values-of .ensures (drop 14 s)) (data-limit s k), c .choose .ensures))
+
+enum-known-read-2 : tie.Need-enum-known-read-2
+enum-known-read-2 c = search needs
+
+refuse-requires : tie.Need-refuse-requires
+refuse-requires c κs = search needs
+
+returns : tie.Need-returns
+unfolding frameRead valuesOf heard andThen mapped perform step
+returns c = λ b q old w o.
+    let s = now (c .before .before .before .before .before .before .before .before .args .s) in
+    let f = frameOf (c .before .before .before .before .read .given .0 .0) (drop 14 s) in
+    let k = sym (c .before .before .before .before .before .before .read-frame .ensures) ∙ ap (λ (x : FrameRead). frameRead x s) (c .before .before .before .before .read .given .1) in
+    rw k (rw (c .before .before .values-of .ensures (drop 14 s)) at (rw (c .before .choose .ensures q (f .block) w) at (c .apply .ensures (f .block) b q old w o)))
+
+returns-2 : tie.Need-returns-2
+unfolding frameRead heard andThen mapped
+returns-2 c = λ b q old w _.
+    let a = c .before .before .before .before .before .before .args in
+    let s = now (a .s) in
+    let k = sym (c .before .before .before .before .read-frame .ensures) ∙ ap (λ (x : FrameRead). frameRead x s) (c .before .before .read2 .given .1) in
+    refuses (a .n) q b old w _ (rw k refl) (c .refuse .ensures)
+
+pub receive-spec : {M : Type 1} → statement M
+receive-spec =
+    tie.close
+    (tie.spec
+    read-frame-requires
+    enum-known-read
+    values-of-requires
+    choose-requires
+    apply-requires
+    enum-known-read-2
+    refuse-requires
+    returns
+    returns-2)

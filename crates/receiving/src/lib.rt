@@ -1,0 +1,182 @@
+// Receiving a frame, planned from the numbers of a record.
+use decide::ACTIVE_OPENING;
+use decide::CLOSED;
+use decide::ESTABLISHED;
+use decide::LISTENING;
+use decide::Numbers;
+use decide::PASSIVE_OPENING;
+use frame::FrameRead;
+use frame::Header;
+use frame::Values;
+use plan::ACCEPTED;
+use plan::CLOSE_FINISHED;
+use plan::CLOSED_BY_PARTNER;
+use plan::CONNECTED;
+use plan::HANDED_UP;
+use plan::NONE;
+use plan::Plan;
+use plan::Queue;
+use plan::REJECTED;
+use plan::Reply;
+use protocol::Rule;
+ghost use mathlib.Core.Path.{_≡_};
+ghost use Prim.Native.Nat.{_-_, _≤_, _<_};
+ghost use Rattle.octets.specs.Sizes.{lastNumber};
+ghost use Rattle.octets.specs.Test.{ok};
+ghost use Rattle.frame.specs.Frame.{Block};
+ghost use Rattle.protocol.specs.Table.{rule, apply};
+ghost use Rattle.decide.specs.Rows.{carrying, Chosen};
+ghost use Rattle.plan.specs.Plan.{heard, Planned};
+ghost use Rattle.plan.specs.Parts.{delivering, releasing};
+
+// One block more is handed up.
+fn deliver(n: Numbers) -> Numbers
+    requires { ⌜ n .delivered < lastNumber ⌝ }
+    ensures { λ r. ⌜ r ≡ delivering n ⌝ }
+{
+    Numbers {
+        state: n.state,
+        local: n.local,
+        remote: n.remote,
+        accepted: n.accepted,
+        delivered: n.delivered + 1,
+        waiting: n.waiting,
+    }
+}
+
+// The blocks before this number leave; the oldest waiting one has number t - w.
+fn release(n: Numbers, number: u32) -> Plan
+    requires { ⌜ (n .waiting ≤ n .accepted) × ((n .accepted - n .waiting < number) × (number ≤ n .accepted)) ⌝ }
+    ensures { λ r. ⌜ r ≡ releasing n (number - (n .accepted - n .waiting)) ⌝ }
+{
+    let gone = number - (n.accepted - (n.waiting as u32));
+    Plan {
+        number: ACCEPTED,
+        numbers: Numbers {
+            state: n.state,
+            local: n.local,
+            remote: n.remote,
+            accepted: n.accepted,
+            delivered: n.delivered,
+            waiting: n.waiting - (gone as u8),
+        },
+        queue: Queue::Release(gone as usize),
+        notice: NONE,
+        reply: Reply::Nothing,
+    }
+}
+
+// What the row of the step table does that applies to the frame f.
+fn apply(row: Rule, n: Numbers, f: Values) -> Plan
+    requires { ⌜ (n .waiting ≤ n .accepted) × ((f .kind ≡ 8 → f .number < lastNumber) × Chosen rule n f row) ⌝ }
+    ensures { λ r. ⌜ ((x b : Block) → Planned n b (λ e. ok (apply row e (carrying f x))) r) ⌝ }
+{
+    let sender = n.local;
+    let quoted = f.sender;
+    let remote = n.remote;
+    match row {
+        Rule::Ignore => plan::keep(n, NONE, Reply::Nothing),
+        Rule::Refuse => plan::keep(n, NONE, Reply::Frame(Header::Rej { sender, quoted })),
+        Rule::AcceptDisconnect => plan::keep(
+            n,
+            NONE,
+            Reply::Frame(Header::Drack { sender, quoted }),
+        ),
+        Rule::Answer => plan::turn(
+            n,
+            PASSIVE_OPENING,
+            quoted,
+            NONE,
+            Reply::Frame(Header::Crpo { sender, quoted }),
+        ),
+        Rule::Reset => plan::keep(n, NONE, Reply::Frame(Header::Reset { sender, quoted })),
+        Rule::OpenAndConfirm => plan::turn(
+            n,
+            ESTABLISHED,
+            quoted,
+            CONNECTED,
+            Reply::Frame(Header::Crack { sender, quoted }),
+        ),
+        Rule::CallAgain => plan::turn(
+            n,
+            ACTIVE_OPENING,
+            quoted,
+            NONE,
+            Reply::Frame(Header::Crao { sender, quoted }),
+        ),
+        Rule::Open => plan::turn(n, ESTABLISHED, quoted, CONNECTED, Reply::Nothing),
+        Rule::Rejected => plan::turn(n, CLOSED, 0, REJECTED, Reply::Nothing),
+        Rule::RejectedByDisconnect => plan::turn(
+            n,
+            CLOSED,
+            0,
+            REJECTED,
+            Reply::Frame(Header::Drack { sender, quoted }),
+        ),
+        Rule::ListenAgain => plan::turn(n, LISTENING, 0, NONE, Reply::Nothing),
+        Rule::ClosedByPartner => plan::turn(
+            n,
+            CLOSED,
+            0,
+            CLOSED_BY_PARTNER,
+            Reply::Frame(Header::Drack { sender, quoted }),
+        ),
+        Rule::Confirm => plan::keep(
+            n,
+            NONE,
+            Reply::Frame(Header::Crack {
+                sender,
+                quoted: remote,
+            }),
+        ),
+        Rule::HandUp => {
+            let count = n.delivered + 1;
+            plan::keep(
+                deliver(n),
+                HANDED_UP,
+                Reply::Frame(Header::Ack {
+                    sender,
+                    quoted: remote,
+                    count,
+                }),
+            )
+        }
+        Rule::Acknowledge => {
+            let count = n.delivered;
+            plan::keep(
+                n,
+                NONE,
+                Reply::Frame(Header::Ack {
+                    sender,
+                    quoted: remote,
+                    count,
+                }),
+            )
+        }
+        Rule::Release => release(n, f.number),
+        Rule::FinishedByDisconnect => plan::turn(
+            n,
+            CLOSED,
+            0,
+            CLOSE_FINISHED,
+            Reply::Frame(Header::Drack { sender, quoted }),
+        ),
+        Rule::Finished => plan::turn(n, CLOSED, 0, CLOSE_FINISHED, Reply::Nothing),
+    }
+}
+
+// Receiving: s has the frame's octets. The block of notice 5 is octets 14 on of s.
+pub fn receive(n: Numbers, s: &[u8]) -> Plan
+    requires { ⌜ n .waiting ≤ n .accepted ⌝ }
+    ensures { λ r. ⌜ ((b : Block) → Planned n b (heard (now (s .entry))) r) ⌝ }
+{
+    let read = reader::read_frame(s);
+    match read {
+        FrameRead::Frame(header) => {
+            let f = frame::values_of(header);
+            let row = decide::choose(n, f);
+            apply(row, n, f)
+        }
+        FrameRead::Refused(number) => plan::refuse(n, number),
+    }
+}

@@ -1,0 +1,91 @@
+use mathlib.Core.List.{[], _∷_}
+use Rattle.frame.specs.Answer.{requestOf}
+use Rattle.protocol.specs.Endpoint.{sized}
+use Rattle.protocol.proofs.Sound.{sized-at}
+use native.Mathlib.Omega.{arith}
+use borrow.Author.Needs.{needs}
+use Rattle.requests.proofs.ask.Statement.{statement}
+use Rattle.requests.proofs.ask.Tie as tie
+
+enum-told : tie.Need-enum-told
+enum-told c = search needs
+
+connect-requires : tie.Need-connect-requires
+connect-requires c κs = search needs
+
+enum-told-2 : tie.Need-enum-told-2
+enum-told-2 c = search needs
+
+listen-requires : tie.Need-listen-requires
+listen-requires c κs = search needs
+
+enum-told-3 : tie.Need-enum-told-3
+enum-told-3 c = search needs
+
+end-listening-requires : tie.Need-end-listening-requires
+end-listening-requires c κs = search needs
+
+enum-told-4 : tie.Need-enum-told-4
+enum-told-4 c = search needs
+
+close-requires : tie.Need-close-requires
+close-requires c κs = search needs
+
+enum-told-5 : tie.Need-enum-told-5
+enum-told-5 c = search needs
+
+send-requires : tie.Need-send-requires
+send-requires c κs = search needs
+
+enum-told-6 : tie.Need-enum-told-6
+enum-told-6 c = search needs
+
+timer-requires : tie.Need-timer-requires
+timer-requires c κs = search needs
+
+returns : tie.Need-returns
+unfolding requestOf
+returns c = λ b _. rw (c .before .enum-told .given .1) (c .connect .ensures b)
+
+returns-2 : tie.Need-returns-2
+unfolding requestOf
+returns-2 c = λ b _. rw (c .before .enum-told2 .given .1) (c .listen .ensures b)
+
+returns-3 : tie.Need-returns-3
+unfolding requestOf
+returns-3 c = λ b _. rw (c .before .enum-told3 .given .1) (c .end-listening .ensures b)
+
+returns-4 : tie.Need-returns-4
+unfolding requestOf
+returns-4 c = λ b _. rw (c .before .enum-told4 .given .1) (c .close .ensures b)
+
+returns-5 : tie.Need-returns-5
+unfolding requestOf sized
+returns-5 c = λ b r. let k = c .before .enum-told5 .given .1 in let z = sized-at 0 (b ∷ []) (rw k at r) (omega arith) in rw k (c .send .ensures b (z .0) (z .1))
+
+returns-6 : tie.Need-returns-6
+unfolding requestOf
+returns-6 c = λ b _. rw (c .before .enum-told6 .given .1) (c .timer .ensures b)
+
+pub ask-spec : {M : Type 1} → statement M
+ask-spec =
+    tie.close
+    (tie.spec
+    enum-told
+    connect-requires
+    enum-told-2
+    listen-requires
+    enum-told-3
+    end-listening-requires
+    enum-told-4
+    close-requires
+    enum-told-5
+    send-requires
+    enum-told-6
+    timer-requires
+    returns
+    returns-2
+    returns-3
+    returns-4
+    returns-5
+    returns-6)

@@ -1,0 +1,57 @@
+use mathlib.Core.Path.{_≡_, refl, sym, ap, _∙_}
+use lib.ListN.{drop}
+use denote.Ref.{now}
+use Rattle.octets.specs.Test.{ok, andThen, mapped}
+use Rattle.frame.specs.declared.RequestRead.{RequestRead}
+use Rattle.frame.specs.Read.{readRequest}
+use Rattle.frame.specs.Answer.{requestOf, requestRead}
+use Rattle.protocol.specs.Network.{perform}
+use Rattle.calls.proofs.Lift.{read-sized}
+use Rattle.plan.specs.Plan.{requested}
+use Rattle.plan.proofs.Comes.{refuses}
+use borrow.Author.Needs.{needs}
+use Rattle.requests.proofs.request.Statement.{statement}
+use Rattle.requests.proofs.request.Tie as tie
+
+read-request-requires : tie.Need-read-request-requires
+read-request-requires c κs = search needs
+
+enum-known-read : tie.Need-enum-known-read
+enum-known-read c = search needs
+
+ask-requires : tie.Need-ask-requires
+ask-requires c κs = search needs
+
+enum-known-read-2 : tie.Need-enum-known-read-2
+enum-known-read-2 c = search needs
+
+refuse-requires : tie.Need-refuse-requires
+refuse-requires c κs = search needs
+
+returns : tie.Need-returns
+unfolding requestRead requested andThen mapped perform
+returns c =
+    let s = now (c .before .before .before .before .before .before .args .s) in
+    let k : readRequest s ≡ ok (requestOf (c .before .before .read .given .0 .0) (drop 2 s)) =
+    sym (c .before .before .before .before .read-request .ensures) ∙ ap (λ (x : RequestRead). requestRead x s) (c .before .before .read .given .1) in
+    rw k (c .ask .ensures (drop 2 s) (read-sized s _ k))
+
+returns-2 : tie.Need-returns-2
+unfolding requestRead requested andThen mapped
+returns-2 c = λ q old w _.
+    let a = c .before .before .before .before .before .before .args in
+    let s = now (a .s) in
+    let k = sym (c .before .before .before .before .read-request .ensures) ∙ ap (λ (x : RequestRead). requestRead x s) (c .before .before .read2 .given .1) in
+    refuses (a .n) q (drop 2 s) old w _ (rw k refl) (c .refuse .ensures)
+
+pub request-spec : {M : Type 1} → statement M
+request-spec =
+    tie.close
+    (tie.spec
+    read-request-requires
+    enum-known-read
+    ask-requires
+    enum-known-read-2
+    refuse-requires
+    returns
+    returns-2)

@@ -1,0 +1,200 @@
+// Requests and the timer call, planned from the numbers of a record.
+use decide::ACTIVE_OPENING;
+use decide::CLOSED;
+use decide::CLOSING;
+use decide::ESTABLISHED;
+use decide::LISTENING;
+use decide::Numbers;
+use decide::PASSIVE_OPENING;
+use frame::Header;
+use frame::RequestKind;
+use frame::RequestRead;
+use plan::ACCEPTED;
+use plan::NONE;
+use plan::Plan;
+use plan::Queue;
+use plan::Reply;
+ghost use mathlib.Core.Path.{_≡_};
+ghost use Prim.Native.Nat.{_-_, _≤_, _<_};
+ghost use lib.ListN.{length, drop};
+ghost use Rattle.octets.specs.Sizes.{longestBlock, lastNumber};
+ghost use Rattle.frame.specs.Frame.{Block, connect, listen, endListening, close, timer, send};
+ghost use Rattle.frame.specs.Answer.{requestOf};
+ghost use Rattle.protocol.specs.Requests.{request};
+ghost use Rattle.protocol.specs.Network.{ask};
+ghost use Rattle.protocol.specs.Limits.{Readable};
+ghost use Rattle.plan.specs.Plan.{requested, heard, Planned};
+ghost use Rattle.plan.specs.Parts.{beginning};
+
+// The largest number of 32 bits: after it none is left.
+const LAST_NUMBER: u32 = 4294967295;
+
+// The most blocks that wait.
+const QUEUE_SIZE: u8 = 8;
+
+// The next incarnation in this state, with no partner known.
+fn begin(n: Numbers, state: u8, reply: Reply) -> Plan
+    requires { ⌜ n .local < lastNumber ⌝ }
+    ensures { λ r. ⌜ r ≡ beginning n state reply ⌝ }
+{
+    Plan {
+        number: ACCEPTED,
+        numbers: Numbers {
+            state,
+            local: n.local + 1,
+            remote: 0,
+            accepted: 0,
+            delivered: 0,
+            waiting: 0,
+        },
+        queue: Queue::Release(n.waiting as usize),
+        notice: NONE,
+        reply,
+    }
+}
+
+fn connect(n: Numbers) -> Plan
+    ensures { λ r. ⌜ ((b : Block) → Planned n b (request connect) r) ⌝ }
+{
+    if n.state != CLOSED {
+        return plan::refuse(n, 8);
+    }
+    if n.local >= LAST_NUMBER {
+        return plan::refuse(n, 9);
+    }
+    begin(
+        n,
+        ACTIVE_OPENING,
+        Reply::Frame(Header::Crao {
+            sender: n.local + 1,
+            quoted: 0,
+        }),
+    )
+}
+
+fn listen(n: Numbers) -> Plan
+    ensures { λ r. ⌜ ((b : Block) → Planned n b (request listen) r) ⌝ }
+{
+    if n.state != CLOSED {
+        return plan::refuse(n, 8);
+    }
+    if n.local >= LAST_NUMBER {
+        return plan::refuse(n, 9);
+    }
+    begin(n, LISTENING, Reply::Nothing)
+}
+
+fn end_listening(n: Numbers) -> Plan
+    ensures { λ r. ⌜ ((b : Block) → Planned n b (request endListening) r) ⌝ }
+{
+    if n.state != LISTENING {
+        return plan::refuse(n, 8);
+    }
+    plan::turn(n, CLOSED, 0, NONE, Reply::Nothing)
+}
+
+fn close(n: Numbers) -> Plan
+    ensures { λ r. ⌜ ((b : Block) → Planned n b (request close) r) ⌝ }
+{
+    if n.state != ESTABLISHED {
+        return plan::refuse(n, 8);
+    }
+    let sender = n.local;
+    let quoted = n.remote;
+    let reply = Reply::Frame(Header::Dr { sender, quoted });
+    plan::turn(n, CLOSING, quoted, NONE, reply)
+}
+
+// The block joins the waiting ones as number t; then t + 1.
+fn send(n: Numbers) -> Plan
+    ensures { λ r. ⌜ ((b : Block) → 1 ≤ length b → length b ≤ longestBlock → Planned n b (request (send b)) r) ⌝ }
+{
+    if n.state != ESTABLISHED {
+        return plan::refuse(n, 8);
+    }
+    if n.accepted >= LAST_NUMBER {
+        return plan::refuse(n, 9);
+    }
+    if n.waiting >= QUEUE_SIZE {
+        return plan::refuse(n, 10);
+    }
+    Plan {
+        number: ACCEPTED,
+        numbers: Numbers {
+            state: n.state,
+            local: n.local,
+            remote: n.remote,
+            accepted: n.accepted + 1,
+            delivered: n.delivered,
+            waiting: n.waiting + 1,
+        },
+        queue: Queue::Join,
+        notice: NONE,
+        reply: Reply::Frame(Header::Data {
+            sender: n.local,
+            quoted: n.remote,
+            number: n.accepted,
+        }),
+    }
+}
+
+// The timer call: sends again what the partner may not have heard. The oldest waiting block has number t - w.
+fn timer(n: Numbers) -> Plan
+    requires { ⌜ n .waiting ≤ n .accepted ⌝ }
+    ensures { λ r. ⌜ ((b : Block) → Planned n b (request timer) r) ⌝ }
+{
+    let sender = n.local;
+    let quoted = n.remote;
+    if n.state == ACTIVE_OPENING {
+        return plan::keep(n, NONE, Reply::Frame(Header::Crao { sender, quoted }));
+    }
+    if n.state == PASSIVE_OPENING {
+        return plan::keep(n, NONE, Reply::Frame(Header::Crpo { sender, quoted }));
+    }
+    if n.state == ESTABLISHED {
+        if n.waiting == 0 {
+            return plan::keep(n, NONE, Reply::Nothing);
+        }
+        let number = n.accepted - (n.waiting as u32);
+        return plan::keep(
+            n,
+            NONE,
+            Reply::Frame(Header::Data {
+                sender,
+                quoted,
+                number,
+            }),
+        );
+    }
+    if n.state == CLOSING {
+        return plan::keep(n, NONE, Reply::Frame(Header::Dr { sender, quoted }));
+    }
+    plan::keep(n, NONE, Reply::Nothing)
+}
+
+// A request that questions 3 to 6 have passed.
+fn ask(kind: RequestKind, n: Numbers) -> Plan
+    requires { ⌜ n .waiting ≤ n .accepted ⌝ }
+    ensures { λ r. ⌜ ((b : Block) → Readable (ask (requestOf kind b)) → Planned n b (request (requestOf kind b)) r) ⌝ }
+{
+    match kind {
+        RequestKind::Connect => connect(n),
+        RequestKind::Listen => listen(n),
+        RequestKind::EndListening => end_listening(n),
+        RequestKind::Close => close(n),
+        RequestKind::Send => send(n),
+        RequestKind::Timer => timer(n),
+    }
+}
+
+// A request of the endpoint's user, or the timer call: s has the request's octets.
+pub fn request(n: Numbers, s: &[u8]) -> Plan
+    requires { ⌜ n .waiting ≤ n .accepted ⌝ }
+    ensures { λ r. ⌜ Planned n (drop 2 (now (s .entry))) (requested (now (s .entry))) r ⌝ }
+{
+    let read = reader::read_request(s);
+    match read {
+        RequestRead::Request(kind) => ask(kind, n),
+        RequestRead::Refused(number) => plan::refuse(n, number),
+    }
+}
