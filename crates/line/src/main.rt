@@ -7,8 +7,6 @@ ghost use Rattle.line.specs.Held.{Held};
 // A longer line is refused whatever it holds, so no more of one is kept: 157 characters are too many, and an odd number.
 const LONGEST_KEPT: usize = 157;
 
-const RECORD_SIZE: usize = 538;
-
 // How far the program is: the input at hand is read up to end and used up to at; kept characters of a line that began in
 // earlier input are held; filled characters of output wait.
 pub struct Place {
@@ -151,7 +149,7 @@ fn run(rec: &mut [u8], buf: &mut [u8], line: &mut [u8], out: &mut [u8]) {
 }
 
 fn main() {
-    let mut rec = [0u8; RECORD_SIZE];
+    let mut rec = [0u8; link::RECORD_SIZE];
     link::dock_fresh(&mut rec);
     let mut buf = io::large_buffer();
     let mut line = [0u8; LONGEST_KEPT];

@@ -17,7 +17,7 @@ ghost use Rattle.link.specs.Record.{format};
 ghost use Rattle.link.specs.Lent.{Lent, Received, Called, freshIn};
 
 // The octets of a record.
-const RECORD_SIZE: usize = 538;
+pub const RECORD_SIZE: usize = 538;
 
 // Writes a fresh record to the start of rec. Answers 0, or 11 where rec is too short.
 #[no_mangle]

@@ -30,11 +30,8 @@ length-zeros : (n : ℕ) → length (zeros n) ≡ n
 length-zeros zero = refl
 length-zeros (suc n) = ap suc (length-zeros n)
 
-pub zeros-from : (k : ℕ) → k ≤ 78 → take (78 - k) (drop k (zeros 78)) ≡ zeros (78 - k)
+zeros-from : (k : ℕ) → k ≤ 78 → take (78 - k) (drop k (zeros 78)) ≡ zeros (78 - k)
 zeros-from k h = rw (rest-zeros 78 k) (ap (λ (n : ℕ). take n (zeros (78 - k))) (sym (length-zeros (78 - k))) ∙ take-length (zeros (78 - k)))
-
-pub length-rest : (k : ℕ) → k ≤ 78 → length (take (78 - k) (drop k (zeros 78))) ≡ 78 - k
-length-rest k h = ap length (zeros-from k h) ∙ length-zeros (78 - k)
 
 -- sender, length, frame, zeros, one after the other
 pub entered : (d frame : List ℕ) (at sender : ℕ) → length frame ≤ 78 → at + 80 ≤ length d → {w x y z : List ℕ} → w ≡ put d at (sender ∷ [])

@@ -55,6 +55,6 @@ pub fn enter(log: &mut [u8], n: usize, sender: u8, frame: &[u8])
     octets::store8(log, at, sender);
     octets::store8(log, at + 1, count as u8);
     octets::copy(log, at + 2, frame);
-    let zeros = [0u8; 78];
+    let zeros = [0u8; octets::LONGEST_FRAME];
     octets::copy(log, at + 2 + count, &zeros[count..]);
 }
