@@ -1,0 +1,1 @@
+// The bench: definitions, and demand 3 about its runs. No code.
