@@ -5,7 +5,6 @@ use mathlib.Core.List.{List, [], _∷_, _++_}
 use Rattle.octets.specs.Test.{ifEq, Outcome, refused, ok}
 use Rattle.protocol.specs.Endpoint.{fresh}
 use Rattle.protocol.specs.Table.{Step}
-use Rattle.calls.specs.Calls.{Call}
 use Rattle.calls.specs.Claim.{Entry, atA, atB, bothNew, run, AllDue, Demand}
 use Rattle.link.specs.Record.{format}
 use Rattle.rig.specs.Bench.{Bench, At, asked, comes, endOf, benchAfter}

@@ -1,0 +1,64 @@
+-- A place that was entered reads back, and the places before it stay. Assumes nothing.
+use Prim.Native.Nat.{ℕ, _+_, _-_, _*_, _≤_, _<_}
+use mathlib.Core.Path.{_≡_, sym, ap, _∙_}
+use mathlib.Core.List.{List, _∷_, _++_, append-assoc}
+use native.Mathlib.Nat.{add-zero}
+use native.Mathlib.Omega.{arith}
+use lib.ListN.{length, take, drop, getD, replicate, length-drop, take-append-drop, List·getD-append}
+use lib.Seq.{length-take-le, take-append-le, drop-append-le, take-append-seam, drop-append-add, getD-append-add}
+use Rattle.octets.specs.Octets.{put}
+use Rattle.endpoint.specs.View.{padded}
+use Rattle.logbook.specs.Log.{senderAt, lengthAt, frameAt, place}
+
+-- what place k reads as
+pub record Reads (log : List ℕ) (k i n : ℕ) (s : List ℕ) : Type 0 where
+  pub sender : senderAt k log ≡ i
+  pub count : lengthAt k log ≡ n
+  pub octets : frameAt k log ≡ s
+
+-- a part of a list that ends before what follows
+part-front : (m n : ℕ) (p t : List ℕ) → m + n ≤ length p → take n (drop m (p ++ t)) ≡ take n (drop m p)
+part-front m n p t h =
+    rw (drop-append-le m p t (omega arith)) (take-append-le n (drop m p) t (rw length-drop (omega arith)))
+
+-- places that two lists share
+shared : (k : ℕ) (p t u : List ℕ) → k * 80 + 80 ≤ length p → lengthAt k (p ++ u) ≤ 78
+    → Reads (p ++ t) k (senderAt k (p ++ u)) (lengthAt k (p ++ u)) (frameAt k (p ++ u))
+unfolding senderAt lengthAt frameAt
+shared k p t u h short =
+    let at : (j : ℕ) → j < length p → getD (p ++ t) j 0 ≡ getD (p ++ u) j 0 = λ j l. List·getD-append p t 0 j l ∙ sym (List·getD-append p u 0 j l) in
+    let n : lengthAt k (p ++ t) ≡ lengthAt k (p ++ u) = at (k * 80 + 1) (omega arith) in
+    let m = lengthAt k (p ++ u) in
+    record {
+      sender = at (k * 80) (omega arith);
+      count = n;
+      octets = ap (λ (x : ℕ). take x (drop (k * 80 + 2) (p ++ t))) n ∙ part-front (k * 80 + 2) m p t (omega arith) ∙ sym (part-front (k * 80 + 2) m p u (omega arith));
+    }
+
+-- a place before the one that is entered
+pub stays : (k n : ℕ) (log s : List ℕ) → k < n → n * 80 + 80 ≤ length log → lengthAt k log ≤ 78
+    → Reads (put log (n * 80) s) k (senderAt k log) (lengthAt k log) (frameAt k log)
+unfolding put
+stays k n log s h room short =
+    let e = take-append-drop (n * 80) log in
+    rw e at (shared k (take (n * 80) log) (s ++ drop (n * 80 + length s) log) (drop (n * 80) log) (rw (length-take-le (n * 80) log (omega arith)) (omega arith)) (rw e short))
+
+-- the place that is entered
+after-front : (p r s : List ℕ) (k i : ℕ) → length p ≡ k * 80 → Reads (p ++ (i ∷ length s ∷ (s ++ r))) k i (length s) s
+unfolding senderAt lengthAt frameAt
+after-front p r s k i e =
+    let y = i ∷ length s ∷ (s ++ r) in
+    let n : lengthAt k (p ++ y) ≡ length s = rw e at (getD-append-add p y 1 0) in
+    record {
+      sender = rw (e, add-zero) at (getD-append-add p y 0 0);
+      count = n;
+      octets = ap (λ (x : ℕ). take x (drop (k * 80 + 2) (p ++ y))) n ∙ ap (λ (x : List ℕ). take (length s) x) (rw e at (drop-append-add p y 2)) ∙ take-append-seam s r;
+    }
+
+pub enters : (n i : ℕ) (log s : List ℕ) → n * 80 + 80 ≤ length log → Reads (put log (n * 80) (place i s)) n i (length s) s
+unfolding put place padded
+enters n i log s room =
+    let at = n * 80 in
+    let zeros : List ℕ = replicate (78 - length s) 0 in
+    let r = drop (at + length (i ∷ length s ∷ (s ++ zeros))) log in
+    rw append-assoc (after-front (take at log) (zeros ++ r) s n i (length-take-le at log (omega arith)))

@@ -1,0 +1,78 @@
+-- What an accepted line asks: a call at an end, which is due if it is a delivery. Assumes nothing.
+use Prim.Native.Nat.{ℕ, _≤_, _<_}
+use mathlib.Core.Path.{_≡_, subst}
+use mathlib.Core.Logic.{_≢_}
+use mathlib.Core.Bool.{true}
+use mathlib.Core.List.{List}
+use native.Mathlib.Omega.{arith}
+use borrow.Author.Tests.{ltb-true, leb-true}
+use lib.Dec.{ltb, leb}
+use lib.ListN.{length, drop}
+use Rattle.octets.specs.Test.{Outcome, refused, ok}
+use Rattle.octets.specs.Octets.{field}
+use Rattle.octets.proofs.Test.{if-eq, accepted, all-yes, both}
+use Rattle.hexline.specs.Line.{unhex}
+use Rattle.frame.specs.Read.{kindOf}
+use Rattle.calls.specs.Calls.{request, receive}
+use Rattle.calls.specs.Claim.{Entry, Ends, DueAt}
+use Rattle.logbook.specs.Log.{senderAt, holds}
+use Rattle.rig.specs.Bench.{Bench, At, delivery, asks, asked}
+use Rattle.rig.specs.Run.{entry}
+use Rattle.rig.proofs.Sends.{passing}
+use Rattle.rig.proofs.Logged.{SentBy, Logged}
+
+-- a call at A or B that is due
+abbrev pub Fair : Ends → At → Type 0
+Fair e x = (x .0 ≤ 1) × DueAt (entry x) e
+
+-- a request, at an end
+asks-fair : (e : Ends) (i : ℕ) (s out : List ℕ) → i ≤ 1 → Fair e (i, request s out)
+unfolding entry
+asks-fair e i s out h = (h, if-eq (λ (x : Entry). DueAt x e) i 0 (λ _. tt) (λ _. tt))
+
+-- a delivery to an end, of a frame that the other has sent
+gives-fair : (e : Ends) (j : ℕ) (s out : List ℕ) {i n : ℕ} → SentBy e i n s → j ≤ 1 → (j ≡ 0 → i ≡ 1) → (j ≢ 0 → i ≡ 0) → Fair e (j, receive s out)
+unfolding entry
+gives-fair e j s out x l h g = (l, if-eq (λ (y : Entry). DueAt y e) j 0 (λ k. x .by-b (h k)) (λ k. x .by-a (g k)))
+
+-- a frame that the log holds
+held-so : (count n : ℕ) (log : List ℕ) → holds count n log ≡ true → (n < count) × (senderAt n log ≤ 1)
+unfolding holds
+held-so count n log t =
+    let a = both (ltb n count) _ t in
+    let b = both (leb (senderAt n log) 1) _ (a .1) in
+    (ltb-true n count (a .0), leb-true (senderAt n log) 1 (b .0))
+
+module _ (w : Bench) (e : Ends) (h : Logged e (w .count) (w .log)) where
+  abbrev IfOk : Outcome At → Type 0
+  IfOk o = (x : At) → o ≡ ok x → Fair e x
+
+  is-ok : (y : At) → Fair e y → IfOk (ok y)
+  is-ok y f x k = let j : y ≡ x = cc in subst (λ (z : At). Fair e z) j f
+
+  not-ok : (n : ℕ) → IfOk (refused n)
+  not-ok n x k = absurd (let z : _≡_ {A = ℕ} 0 1 = cc in omega arith)
+
+  delivery-fair : (n : ℕ) (out : List ℕ) → IfOk (delivery w n out)
+  unfolding delivery
+  delivery-fair n out x k =
+      let a = accepted _ _ k in
+      let t = held-so (w .count) n (w .log) (all-yes 13 _ _ (a .0) tt .0) in
+      subst (λ (z : At). Fair e z) (a .1) (gives-fair e _ _ out (h n (t .0)) (omega arith) (λ j. omega arith) (λ j. omega arith))
+
+  asks-so : (s out : List ℕ) → IfOk (asks w s out)
+  unfolding asks
+  asks-so s out =
+      if-eq IfOk (kindOf s) 80 (λ _. is-ok _ (asks-fair e 0 (drop 1 s) out (omega arith)))
+      (λ _. if-eq IfOk (kindOf s) 81 (λ _. is-ok _ (asks-fair e 1 (drop 1 s) out (omega arith)))
+      (λ _. if-eq IfOk (kindOf s) 82 (λ _ x k. delivery-fair (field 2 1 s) out x (passing _ k .1))
+      (λ _. not-ok 3)))
+
+  pub asked-fair : (line out : List ℕ) (x : At) → asked w line out ≡ ok x → Fair e x × (40960 ≤ length (w .log))
+  unfolding asked
+  asked-fair line out x k =
+      let p = passing _ k in
+      let a = all-yes 11 _ _ (p .0) tt in
+      let b = all-yes 11 _ _ (a .1) tt in
+      let c = all-yes 11 _ _ (b .1) tt in
+      (asks-so (unhex line) out x (p .1), leb-true 40960 (length (w .log)) (c .0))

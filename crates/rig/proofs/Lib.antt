@@ -1,0 +1,4 @@
+pub mod Sends
+pub mod Logged
+pub mod Fair
+pub mod Run

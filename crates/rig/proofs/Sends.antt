@@ -1,0 +1,61 @@
+-- What an accepted call adds to what its end has sent, and how long a frame is. Assumes nothing.
+use Prim.Native.Nat.{ℕ, zero, suc, _≤_}
+use mathlib.Core.Path.{_≡_, refl}
+use mathlib.Core.List.{List, map, List·Memᴰ, List·Memᴰ·head, List·Memᴰ·tail}
+use native.Mathlib.Omega.{arith}
+use lib.ListN.{length, length-append}
+use Rattle.octets.specs.Test.{Outcome, refused, ok, refusing, andThen}
+use Rattle.octets.proofs.Octets.{length-bytes}
+use Rattle.frame.specs.Frame.{Frame}
+use Rattle.frame.specs.Fits.{Fits, control-fits, data-fits, ack-fits}
+use Rattle.frame.specs.Layout.{encode}
+use Rattle.frame.proofs.Writing.{head-length, encode-control, encode-ack, encode-data}
+use Rattle.protocol.specs.Table.{Sent, nothing, frame, Step}
+use Rattle.protocol.specs.Network.{also, sent}
+use Rattle.protocol.specs.Network as protocol
+use Rattle.calls.specs.Calls.{Format, Call, said, asked, performed}
+use Rattle.calls.specs.Claim.{End, recorded, after}
+
+-- the parts of an accepted outcome
+pub passing : {A : Type 0} (n : ℕ) {o : Outcome A} {y : A} → refusing n o ≡ ok y → (n ≡ 0) × (o ≡ ok y)
+unfolding refusing
+passing zero h = (refl, h)
+passing (suc n) h = absurd (let z : _≡_ {A = ℕ} 0 1 = cc in omega arith)
+
+pub then-of : {A B : Type 0} (o : Outcome A) (f : A → Outcome B) {y : B} → andThen o f ≡ ok y → (x : A) × (o ≡ ok x) × (f x ≡ ok y)
+unfolding andThen
+then-of (refused n) f h = absurd (let z : _≡_ {A = ℕ} 0 1 = cc in omega arith)
+then-of (ok x) f h = (x, refl, h)
+
+-- only a call whose octets say one is accepted
+says : (format : Format) (rec : List ℕ) (c : Call) {y : Step} → performed format rec c ≡ ok y → (x : protocol.Call) × (said c ≡ ok x)
+unfolding performed asked
+says format rec c h =
+    let r = then-of (said c) _ (passing _ (passing _ h .1) .1) in
+    (r .0, r .1)
+
+-- what the end has sent after it
+gains : (format : Format) (c : Call) (e : End) {y : Step} → performed format (e .rec) c ≡ ok y
+    → sent (after format c e .history) ≡ also (y .sent) (sent (e .history))
+unfolding after recorded protocol.recorded sent
+gains format c e h = rw (says format (e .rec) c h .1, h) refl
+
+-- so it has sent what it had, and the frame of this call
+also-keeps : (t : Sent) (fs : List Frame) (s : List ℕ) → List·Memᴰ s (map encode fs) → List·Memᴰ s (map encode (also t fs))
+also-keeps nothing fs s m = m
+also-keeps (frame f) fs s m = List·Memᴰ·tail m
+
+pub grows : (format : Format) (c : Call) (e : End) {y : Step} → performed format (e .rec) c ≡ ok y
+    → (s : List ℕ) → List·Memᴰ s (map encode (sent (e .history))) → List·Memᴰ s (map encode (sent (after format c e .history)))
+grows format c e {y} h s m = rw (gains format c e h) (also-keeps (y .sent) (sent (e .history)) s m)
+
+pub has-sent : (format : Format) (c : Call) (e : End) {y : Step} → performed format (e .rec) c ≡ ok y
+    → (f : Frame) → y .sent ≡ frame f → List·Memᴰ f (sent (after format c e .history)) × List·Memᴰ (encode f) (map encode (sent (after format c e .history)))
+has-sent format c e {y} h f t = rw (gains format c e h, t) (List·Memᴰ·head refl, List·Memᴰ·head refl)
+
+-- a frame has at most 78 octets
+pub encode-short : {f : Frame} → Fits f → length (encode f) ≤ 78
+encode-short (control-fits k {s} {r} h g _ _ _ _) = rw (encode-control k s r h g) (omega (arith, head-length k s r))
+encode-short (data-fits {s} {r} {n} {b} _ _ _ _ _ _ h) =
+    rw (encode-data s r n b h, length-append, length-append, length-append) (omega (arith, head-length 8 s r, length-bytes 4 n))
+encode-short (ack-fits {s} {r} {n} _ _ _ _ _) = rw (encode-ack s r n, length-append) (omega (arith, head-length 9 s r, length-bytes 4 n))
