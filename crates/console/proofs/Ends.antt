@@ -36,7 +36,7 @@ unfolding sentOf bufferAfter mapped left
 sent-fits d (refused k) e l h = omega arith
 sent-fits d (ok y) e l h = omega (arith, put-fits d (wire (y .sent)) e l)
 
-sent-taken : (d : List ℕ) (o : Outcome Step) {x : List ℕ} {n : ℕ} → x ≡ bufferAfter d o → n ≡ sentOf o → take n x ≡ wire (sentIn o)
+pub sent-taken : (d : List ℕ) (o : Outcome Step) {x : List ℕ} {n : ℕ} → x ≡ bufferAfter d o → n ≡ sentOf o → take n x ≡ wire (sentIn o)
 unfolding sentOf sentIn wire bufferAfter mapped left
 sent-taken d (refused k) e h = rw h refl
 sent-taken d (ok y) e h = taken d (wire (y .sent)) e h

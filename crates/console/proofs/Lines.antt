@@ -94,10 +94,11 @@ module _ (line d : List ℕ) (l : length d ≡ 78) where
   declined-by zero n h = absurd (let f : _≡_ {A = ℕ} 0 1 = cc in omega arith)
   declined-by (suc m) n h = (m, refl, (cc))
 
+  pub turned-away : (n : ℕ) → lineOf (readInto line d) ≡ Refused n → (k : ℕ) × (first (lineQuestions line) ≡ suc k) × (n ≡ suc k)
+  turned-away n h = declined-by (first (lineQuestions line)) n (sym (ap lineOf asks) ∙ h)
+
   pub declined : (rec : List ℕ) (n : ℕ) → lineOf (readInto line d) ≡ Refused n → lineOutcome rec line ≡ refusedLine rec n
-  declined rec n h =
-      let q = declined-by (first (lineQuestions line)) n (sym (ap lineOf asks) ∙ h) in
-      line-refused rec line (q .0) (q .1) ∙ ap (refusedLine rec) (sym (q .2))
+  declined rec n h = let q = turned-away n h in line-refused rec line (q .0) (q .1) ∙ ap (refusedLine rec) (sym (q .2))
 
 -- a request without octets asks 11 and 12 of the record, and gets 3 where both are passed
 record Without (rec : List ℕ) (n : ℕ) : Type 0 where

@@ -66,7 +66,7 @@ fn tell(t: Told, block: &[u8], out: &mut [u8]) -> usize
 }
 
 // Writes the text of an answer to the start of out: the answer line, and the line of the frame sent, if there is one.
-fn write_text(t: Told, block: &[u8], sent: &[u8], out: &mut [u8]) -> usize
+pub fn write_text(t: Told, block: &[u8], sent: &[u8], out: &mut [u8]) -> usize
     requires { ⌜ (answerRoom ≤ length (now out)) × ((length (now block) ≤ longestBlock) × (length (now sent) ≤ longestFrame)) ⌝ }
     ensures { λ r. ⌜ Begins (textOf t (now (block .entry)) (now (sent .entry))) (now (out .entry)) (now (out .exit)) r ⌝ }
 {

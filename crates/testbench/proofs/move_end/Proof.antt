@@ -5,8 +5,7 @@ use lib.ListN.{replicate}
 use lib.Seq.{length-take-le}
 use Rattle.octets.specs.Test.{mapped}
 use Rattle.octets.specs.Octets.{left}
-use Rattle.calls.specs.Calls.{performed, recordAfter, bufferAfter}
-use Rattle.link.specs.Record.{format}
+use Rattle.calls.specs.Calls.{recordAfter, bufferAfter}
 use Rattle.testbench.specs.Parts.{callAs}
 use Rattle.testbench.proofs.Moves.{place-left, nothing-sent, none-left, tried, copied}
 use borrow.Author.Needs.{needs}
@@ -23,7 +22,7 @@ same-length-2 : tie.Need-same-length-2
 same-length-2 c = search needs
 
 returns : tie.Need-returns
-returns c = let s = c .before .before .before .before .before .before .before .before .before .before .before .args in rw (place-left (performed format (now (s .rec)) (callAs (s .asked) (now (s .s)) (now (s .out)))) (s .count) (omega (arith, c .before .before .before .before .before .before .before .if1 .taken))) (c .before .before .before .before .call .ensures)
+returns c = let s = c .before .before .before .before .before .before .before .before .before .before .before .args in rw (place-left (now (s .rec)) (s .count) (callAs (s .asked) (now (s .s)) (now (s .out))) (omega (arith, c .before .before .before .before .before .before .before .if1 .taken))) (c .before .before .before .before .call .ensures)
 
 slice-aggregate-copy : tie.Need-slice-aggregate-copy
 slice-aggregate-copy c = search needs
@@ -57,7 +56,7 @@ unfolding recordAfter bufferAfter mapped left
 returns-2 c = 
     let s = c .before .before .before .before .before .before .before .before .before .before .before .before .before .before .before .before .before in
     let n = tried (s .args .asked) (now (s .args .rec)) (now (s .args .s)) (now (s .args .out)) (replicate 78 0) (s .pre .0) (s .pre .1) (omega arith) (copied (now (s .args .rec)) (replicate 538 0) refl (s .pre .0) (c .before .before .before .before .before .before .before .before .before .before .copy2 .ensures)) (c .before .before .before .before .before .before .call2 .ensures) in
-    rw (none-left (performed format (now (s .args .rec)) (callAs (s .args .asked) (now (s .args .s)) (now (s .args .out)))) (s .args .count) (omega (arith, c .before .before .before .before .before .before .before .before .before .before .before .before .before .if1 .left)) (λ z. omega (arith, n, c .before .before .if2 .taken)))
+    rw (none-left (now (s .args .rec)) (s .args .count) (callAs (s .args .asked) (now (s .args .s)) (now (s .args .out))) (omega (arith, c .before .before .before .before .before .before .before .before .before .before .before .before .before .if1 .left)) (λ z. omega (arith, n, c .before .before .if2 .taken)))
     (record { answer = c .refuse .ensures; end = refl; buffer = refl })
 
 call-requires-3 : tie.Need-call-requires-3
@@ -73,7 +72,7 @@ returns-3 : tie.Need-returns-3
 returns-3 c = 
     let s = c .before .before .before .before .before .before .before .before .before .before .before .before .before .before .before .before .before .before .before .before .before .before in
     let n = tried (s .args .asked) (now (s .args .rec)) (now (s .args .s)) (now (s .args .out)) (replicate 78 0) (s .pre .0) (s .pre .1) (omega arith) (copied (now (s .args .rec)) (replicate 538 0) refl (s .pre .0) (c .before .before .before .before .before .before .before .before .before .before .before .before .before .before .before .copy2 .ensures)) (c .before .before .before .before .before .before .before .before .before .before .before .call2 .ensures) in
-    rw (nothing-sent (performed format (now (s .args .rec)) (callAs (s .args .asked) (now (s .args .s)) (now (s .args .out)))) (s .args .count) (omega (arith, n, c .before .before .before .before .before .before .before .if2 .left))) (c .before .before .before .before .call3 .ensures)
+    rw (nothing-sent (now (s .args .rec)) (s .args .count) (callAs (s .args .asked) (now (s .args .s)) (now (s .args .out))) (omega (arith, n, c .before .before .before .before .before .before .before .if2 .left))) (c .before .before .before .before .call3 .ensures)
 
 pub move-end-spec : {M : Type 1} → statement M
 move-end-spec =

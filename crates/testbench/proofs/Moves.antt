@@ -5,22 +5,25 @@ use mathlib.Core.Logic.{_≢_}
 use mathlib.Core.Bool.{Bool, true, false}
 use mathlib.Core.List.{List, [], _∷_, _++_, append-nil}
 use native.Mathlib.Omega.{arith}
-use borrow.Author.Tests.{le-leb, le-ltb, lt-ltb}
+use borrow.Author.Tests.{le-leb, lt-leb, le-ltb, lt-ltb}
 use lib.ListN.{length, take, drop, getD, drop-of-length-le}
 use lib.Seq.{take-take, length-take-le}
 use Rattle.octets.specs.Test.{when, first, Outcome, refused, ok, outcome, refusing, andThen, numberOf}
 use Rattle.octets.specs.Octets.{put, field, left}
+use Rattle.octets.proofs.Test.{if-lt, by-eq}
 use Rattle.octets.proofs.Octets.{field-one}
 use Rattle.frame.specs.Layout.{encode}
+use Rattle.protocol.specs.Endpoint.{fresh}
 use Rattle.protocol.specs.Table.{Step, Sent, nothing, frame}
-use Rattle.calls.specs.Calls.{request, receive, said, asked, wire, performed, recordAfter, bufferAfter}
+use Rattle.calls.specs.Calls.{Call, request, receive, said, asked, wire, performed, recordAfter, bufferAfter}
 use Rattle.plan.specs.Plan.{noticeOf}
 use Rattle.endpoint.specs.declared.Endpoint.{Endpoint}
+use Rattle.endpoint.specs.View.{pack}
 use Rattle.endpoint.specs.Record.{decode}
 use Rattle.link.specs.Record.{format}
 use Rattle.link.specs.Lent.{sentOf, blockOf, toldOf, Lent}
 use Rattle.testbench.specs.declared.Moved.{Moved}
-use Rattle.testbench.specs.Bench.{sends, logged}
+use Rattle.rig.specs.Bench.{sends, logged, made}
 use Rattle.testbench.specs.Parts.{callAs, movedOf, Moves}
 
 -- what a lent call answers is told
@@ -46,49 +49,71 @@ unfolding outcome first when
 logs true x = refl
 logs false x = refl
 
-pub place-left : (o : Outcome Step) (count : ℕ) → count < 512 → andThen o (logged count) ≡ o
-unfolding logged
-place-left o count h = same o (logged count) (λ x _. rw (lt-ltb count 512 h) (logs (sends (x .sent)) x))
+pub place-left : (rec : List ℕ) (count : ℕ) (c : Call) → count < 512 → made rec count c ≡ performed format rec c
+unfolding made logged
+place-left rec count c h = same (performed format rec c) (logged count) (λ x _. rw (lt-ltb count 512 h) (logs (sends (x .sent)) x))
 
 quiet-logs : (count : ℕ) (x : Step) (s : Sent) → x .sent ≡ s → length (wire s) ≡ 0 → logged count x ≡ ok x
 unfolding logged sends wire encode outcome first when
 quiet-logs count x nothing e h = rw e refl
 quiet-logs count x (frame f) e h = absurd (omega arith)
 
-pub nothing-sent : (o : Outcome Step) (count : ℕ) → sentOf o ≡ 0 → andThen o (logged count) ≡ o
+nothing-logs : (o : Outcome Step) (count : ℕ) → sentOf o ≡ 0 → andThen o (logged count) ≡ o
 unfolding sentOf andThen
-nothing-sent (refused n) count h = refl
-nothing-sent (ok x) count h = quiet-logs count x (x .sent) refl h
+nothing-logs (refused n) count h = refl
+nothing-logs (ok x) count h = quiet-logs count x (x .sent) refl h
+
+pub nothing-sent : (rec : List ℕ) (count : ℕ) (c : Call) → sentOf (performed format rec c) ≡ 0 → made rec count c ≡ performed format rec c
+unfolding made
+nothing-sent rec count c h = nothing-logs (performed format rec c) count h
 
 full-refuses : (count : ℕ) (x : Step) (s : Sent) → x .sent ≡ s → 512 ≤ count → length (wire s) ≢ 0 → logged count x ≡ refused 14
 unfolding logged sends wire outcome first when
 full-refuses count x nothing e l h = absurd (h refl)
 full-refuses count x (frame f) e l h = rw (e, le-ltb count 512 l) refl
 
-pub none-left : (o : Outcome Step) (count : ℕ) → 512 ≤ count → sentOf o ≢ 0 → andThen o (logged count) ≡ refused 14
+full-logs : (o : Outcome Step) (count : ℕ) → 512 ≤ count → sentOf o ≢ 0 → andThen o (logged count) ≡ refused 14
 unfolding sentOf andThen
-none-left (refused n) count l h = absurd (h refl)
-none-left (ok x) count l h = full-refuses count x (x .sent) refl l h
+full-logs (refused n) count l h = absurd (h refl)
+full-logs (ok x) count l h = full-refuses count x (x .sent) refl l h
 
--- a refusal tells the record as it stands
+pub none-left : (rec : List ℕ) (count : ℕ) (c : Call) → 512 ≤ count → sentOf (performed format rec c) ≢ 0 → made rec count c ≡ refused 14
+unfolding made
+none-left rec count c l h = full-logs (performed format rec c) count l h
+
+-- what is sent has a place in the log
+full-quiet : (rec : List ℕ) (count : ℕ) (c : Call) → 512 ≤ count → sentOf (made rec count c) ≡ 0
+unfolding sentOf
+full-quiet rec count c l =
+    by-eq (sentOf (performed format rec c)) 0 (λ z. ap sentOf (nothing-sent rec count c z) ∙ z) (λ z. ap sentOf (none-left rec count c l z))
+
+pub has-place : (rec : List ℕ) (count : ℕ) (c : Call) → sentOf (made rec count c) ≢ 0 → count < 512
+has-place rec count c h = if-lt (λ (_ : Bool). count < 512) count 512 {x = true} {y = false} (λ l. l) (λ l. absurd (h (full-quiet rec count c l)))
+
+-- a refusal tells the record as it stands, and a fresh one where the buffer is too short
 stands : (rec : List ℕ) (n : ℕ) → 538 ≤ length rec → decode rec ≡ toldOf rec (refused n)
 unfolding toldOf when
 stands rec n h = rw (le-leb 538 (length rec) h) refl
 
+none-stands : (rec : List ℕ) (n : ℕ) → length rec < 538 → pack fresh ≡ toldOf rec (refused n)
+unfolding toldOf when
+none-stands rec n h = rw (lt-leb 538 (length rec) h) refl
+
+refused-with : (rec : List ℕ) (n : ℕ) (e : Endpoint) → e ≡ toldOf rec (refused n)
+    → record { number = n; state = e .state; notice = 0; local = e .local; remote = e .remote; sent = 0; block = 0 } ≡ movedOf rec (refused n)
+unfolding movedOf numberOf noticeOf sentOf blockOf
+refused-with rec n e k = λ i. record { number = n; state = k i .state; notice = 0; local = k i .local; remote = k i .remote; sent = 0; block = 0 }
+
+pub refused-short : (rec : List ℕ) (n : ℕ) → length rec < 538
+    → record { number = n; state = 0; notice = 0; local = 0; remote = 0; sent = 0; block = 0 } ≡ movedOf rec (refused n)
+unfolding pack
+refused-short rec n h = refused-with rec n (pack fresh) (none-stands rec n h)
+
 pub refused-moved : (rec : List ℕ) (n : ℕ) → 538 ≤ length rec → {state local remote : ℕ} → state ≡ getD rec 0 0 → local ≡ field 4 1 rec → remote ≡ field 4 5 rec
     → record { number = n; state = state; notice = 0; local = local; remote = remote; sent = 0; block = 0 } ≡ movedOf rec (refused n)
-unfolding movedOf numberOf noticeOf sentOf blockOf decode
+unfolding decode
 refused-moved rec n h es el er =
-    let k = stands rec n h in
-    λ i. record {
-      number = n;
-      state = (es ∙ sym (field-one 0 rec (omega arith)) ∙ ap (λ (e : Endpoint). e .state) k) i;
-      notice = 0;
-      local = (el ∙ ap (λ (e : Endpoint). e .local) k) i;
-      remote = (er ∙ ap (λ (e : Endpoint). e .remote) k) i;
-      sent = 0;
-      block = 0;
-    }
+    rw (es, el, er, sym (field-one 0 rec (omega arith))) (refused-with rec n (decode rec) (stands rec n h))
 
 -- a record's first 538 octets stand for all of it
 front : (m at n : ℕ) (s : List ℕ) → at + n ≤ m → take n (drop at (take m s)) ≡ take n (drop at s)

@@ -1,3 +1,2 @@
-pub mod Bench
 pub mod Answer
 pub mod Parts

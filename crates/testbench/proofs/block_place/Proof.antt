@@ -1,0 +1,25 @@
+use mathlib.Core.Path.{sym}
+use Rattle.octets.proofs.Test.{eq-yes, eq-no}
+use Rattle.testbench.specs.Answer.{blockAt}
+use Rattle.testbench.specs.Parts.{blockPlace}
+use native.Mathlib.Omega.{arith}
+use borrow.Author.Needs.{needs}
+use Rattle.testbench.proofs.block_place.Statement.{statement}
+use Rattle.testbench.proofs.block_place.Tie as tie
+
+returns : tie.Need-returns
+unfolding blockPlace
+returns c = sym (eq-yes _ _ _ _ (c .if1 .taken))
+
+mul-result : tie.Need-mul-result
+mul-result c = search needs
+
+add-result : tie.Need-add-result
+add-result c = search needs
+
+returns-2 : tie.Need-returns-2
+unfolding blockPlace blockAt
+returns-2 c = sym (eq-no _ _ _ _ (c .if1 .left))
+
+pub block-place-spec : {M : Type 1} → statement M
+block-place-spec = tie.close (tie.spec returns mul-result add-result returns-2)

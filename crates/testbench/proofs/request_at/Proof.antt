@@ -1,0 +1,42 @@
+use mathlib.Core.Path.{_≡_}
+use denote.Ref.{now}
+use lib.ListN.{length}
+use Rattle.calls.specs.Calls as calls
+use Rattle.octets.specs.Test.{when}
+use Rattle.testbench.specs.Parts.{callAs}
+use Rattle.testbench.proofs.Does.{no-block, loggable, does, any-frame}
+use native.Mathlib.Omega.{arith}
+use borrow.Author.Needs.{needs}
+use Rattle.testbench.proofs.request_at.Statement.{statement}
+use Rattle.testbench.proofs.request_at.Tie as tie
+
+move-end-requires : tie.Need-move-end-requires
+move-end-requires c κs = search needs
+
+finish-requires : tie.Need-finish-requires
+unfolding callAs when
+finish-requires c κs = let s = c .before .before .before .before .before .before .before .before .before .before .before .before .before in let l = loggable (s .args .end) (now (s .args .rec)) (now (s .args .log)) (s .args .count) 0 (calls.request (now (s .args .s)) (now (s .args .out))) (c .before .before .before .before .before .before .move-end .ensures) (s .pre .0) (search needs) in (search needs, (search needs, l))
+
+same-length : tie.Need-same-length
+same-length c = search needs
+
+same-length-2 : tie.Need-same-length-2
+same-length-2 c = search needs
+
+same-length-3 : tie.Need-same-length-3
+same-length-3 c = search needs
+
+returns : tie.Need-returns
+unfolding callAs when
+returns c n =
+    let s = c .before .before .before .before .before .before .before .before .before .before .before .before .before .before .before .before in
+    let a = s .args in
+    let q = calls.request (now (a .s)) (now (a .out)) in
+    let w = c .before .before .before .before .before .before .before .before .before .move-end .ensures in
+    let e = any-frame (a .end) (now (a .rec)) (now (a .log)) (a .count) n q w (no-block (now (a .rec)) (a .count) (now (a .s)) (now (a .out))) (c .before .before .finish .ensures .0) in
+    does (a .end) (now (a .rec)) (now (a .log)) (a .count) n q w e (c .before .before .finish .ensures .1)
+
+pub request-at-spec : {M : Type 1} → statement M
+request-at-spec =
+    tie.close
+    (tie.spec move-end-requires finish-requires same-length same-length-2 same-length-3 returns)
