@@ -21,6 +21,9 @@ pub record Bench : Type 0 where
   pub log : List ℕ
   pub count : ℕ
 
+abbrev pub benchOf : List ℕ → List ℕ → List ℕ → ℕ → Bench
+benchOf a b log count = record { a = a; b = b; log = log; count = count }
+
 -- the record of an end: A is 0, B is 1
 unfoldable pub recordAt : ℕ → Bench → List ℕ
 recordAt i w = ifEq i 0 (w .a) (w .b)

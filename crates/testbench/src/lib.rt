@@ -1,202 +1,114 @@
 // The bench: two ends, every frame ever sent, and lines that say what happens next.
 use hexline::Line;
+use moves::Answer;
 ghost use mathlib.Core.Path.{_≡_};
-ghost use mathlib.Core.Bool.{Bool};
-ghost use Prim.Native.Nat.{ℕ, _≤_, _<_};
-ghost use mathlib.Core.Logic.{_≢_};
-ghost use lib.ListN.{length, take};
+ghost use Prim.Native.Nat.{ℕ, _≤_};
+ghost use lib.ListN.{length};
 ghost use Rattle.octets.specs.Sizes.{longestFrame};
-ghost use Rattle.octets.specs.Test.{first, refused};
+ghost use Rattle.octets.specs.Test.{refused};
+ghost use Rattle.octets.specs.Octets.{field};
 ghost use Rattle.hexline.specs.Line.{unhex};
 ghost use Rattle.endpoint.specs.Record.{recordSize};
-ghost use Rattle.calls.specs.Calls.{performed};
-ghost use Rattle.calls.specs.Calls as calls;
-ghost use Rattle.link.specs.Record.{format};
-ghost use Rattle.logbook.specs.Log.{places, logSize, lengthAt, frameAt};
-ghost use Rattle.rig.specs.Bench.{Bench, asks, asked, made};
-ghost use Rattle.testbench.specs.Answer.{answerOf, Played};
-ghost use Rattle.testbench.specs.Parts.{callAs, movedOf, Moves, noted, notedCount, blockPlace, answerFrom, Does, benchOf, readyQuestions};
+ghost use Rattle.logbook.specs.Log.{places, logSize};
+ghost use Rattle.rig.specs.Bench.{benchOf, delivery, asks, asked};
+ghost use Rattle.moves.specs.Answer.{answerOf};
+ghost use Rattle.testbench.specs.Played.{Played};
 
-// What a call at one end answers; block is the length of the block handed up.
-pub struct Moved {
-    pub number: u8,
-    pub state: u8,
-    pub notice: u8,
-    pub local: u32,
-    pub remote: u32,
-    pub sent: usize,
-    pub block: usize,
-}
+const REQUEST_A: u8 = 0x50;
 
-// A request of an end, or a frame that it receives.
-fn call(asked: bool, rec: &mut [u8], s: &[u8], out: &mut [u8]) -> Moved
-    ensures { λ r. ⌜ Moves (performed format (now (rec .entry)) (callAs asked (now (s .entry)) (now (out .entry)))) (now (rec .entry)) (now (out .entry)) (now (rec .exit)) (now (out .exit)) r ⌝ }
+const REQUEST_B: u8 = 0x51;
+
+const DELIVER: u8 = 0x52;
+
+// A refusal that names no end is about A.
+fn refuse(a: &[u8], number: u8, count: usize) -> Answer
+    ensures { λ r. ⌜ ((n : ℕ) → r ≡ answerOf 0 (now (a .entry)) count n (refused number)) ⌝ }
 {
-    let mut state: u8 = 0;
-    let mut notice: u8 = 0;
-    let mut local: u32 = 0;
-    let mut remote: u32 = 0;
-    let mut sent: usize = 0;
-    if asked {
-        let number = link::dock_request(
-            rec,
-            s,
-            out,
-            &mut state,
-            &mut notice,
-            &mut local,
-            &mut remote,
-            &mut sent,
-        );
-        return Moved {
-            number,
-            state,
-            notice,
-            local,
-            remote,
-            sent,
-            block: 0,
-        };
-    }
-    let mut block: usize = 0;
-    let number = link::dock_receive(
-        rec,
-        s,
-        out,
-        &mut state,
-        &mut notice,
-        &mut local,
-        &mut remote,
-        &mut sent,
-        &mut block,
-    );
-    Moved {
-        number,
-        state,
-        notice,
-        local,
-        remote,
-        sent,
-        block,
-    }
-}
-
-// A refusal, with the record as it stands; all is 0 where the buffer is too short for one.
-fn refuse(rec: &[u8], number: u8) -> Moved
-    ensures { λ r. ⌜ r ≡ movedOf (now (rec .entry)) (refused number) ⌝ }
-{
-    if rec.len() < link::RECORD_SIZE {
-        return Moved {
-            number,
-            state: 0,
-            notice: 0,
-            local: 0,
-            remote: 0,
-            sent: 0,
-            block: 0,
-        };
-    }
-    Moved {
-        number,
-        state: rec[0],
-        notice: 0,
-        local: octets::load32(rec, 1),
-        remote: octets::load32(rec, 5),
-        sent: 0,
-        block: 0,
-    }
-}
-
-// The same call with question 14, last: a call that sends needs a place in the log. Where none is left the call is tried on a
-// copy first.
-fn move_end(asked: bool, rec: &mut [u8], s: &[u8], count: usize, out: &mut [u8]) -> Moved
-    requires { ⌜ (recordSize ≤ length (now rec)) × (longestFrame ≤ length (now out)) ⌝ }
-    ensures { λ r. ⌜ Moves (made (now (rec .entry)) count (callAs asked (now (s .entry)) (now (out .entry)))) (now (rec .entry)) (now (out .entry)) (now (rec .exit)) (now (out .exit)) r ⌝ }
-{
-    if count < logbook::PLACES {
-        return call(asked, rec, s, out);
-    }
-    let mut copy = [0u8; link::RECORD_SIZE];
-    octets::copy(&mut copy, 0, &rec[..link::RECORD_SIZE]);
-    let mut frame = [0u8; octets::LONGEST_FRAME];
-    let tried = call(asked, &mut copy, s, &mut frame);
-    if tried.sent > 0 {
-        return refuse(rec, 14);
-    }
-    call(asked, rec, s, out)
-}
-
-// Enters what was sent in the next place of the log, and counts it; nothing where nothing was sent.
-fn note(end: u8, log: &mut [u8], count: usize, sent: &[u8]) -> usize
-    requires { ⌜ (logSize ≤ length (now log)) × ((length (now sent) ≤ longestFrame) × (length (now sent) ≢ 0 → count < places)) ⌝ }
-    ensures { λ r. ⌜ (r ≡ notedCount count (length (now (sent .entry)))) × (now (log .exit) ≡ noted end (now (log .entry)) count (now (sent .entry))) ⌝ }
-{
-    if sent.len() == 0 {
-        return count;
-    }
-    logbook::enter(log, count, end, sent);
-    count + 1
-}
-
-// Where the block handed up from frame n stands in the log; 0 where there is none.
-fn block_place(n: usize, block: usize) -> usize
-    requires { ⌜ n < places ⌝ }
-    ensures { λ r. ⌜ r ≡ blockPlace n block ⌝ }
-{
-    if block == 0 {
-        return 0;
-    }
-    n * logbook::PLACE_SIZE + 16
-}
-
-// What a line answers. end is 0 for A and 1 for B; a block handed up stands in the log, from at on.
-pub struct Answer {
-    pub number: u8,
-    pub end: u8,
-    pub state: u8,
-    pub notice: u8,
-    pub local: u32,
-    pub remote: u32,
-    pub sent: usize,
-    pub at: usize,
-    pub block: usize,
-    pub count: usize,
-}
-
-// Logs what a call at an end has sent to the start of out, and tells of the call; n is the frame received.
-fn finish(end: u8, m: Moved, n: usize, log: &mut [u8], count: usize, out: &[u8]) -> Answer
-    requires { ⌜ (logSize ≤ length (now log)) × ((n < places) × ((m .sent ≤ length (now out)) × ((m .sent ≤ longestFrame) × (m .sent ≢ 0 → count < places)))) ⌝ }
-    ensures { λ r. ⌜ (r ≡ answerFrom end m n count) × (now (log .exit) ≡ noted end (now (log .entry)) count (take (m .sent) (now (out .entry)))) ⌝ }
-{
-    let counted = note(end, log, count, &out[..m.sent]);
+    let m = moves::refuse(a, number);
     Answer {
         number: m.number,
-        end,
+        end: 0,
         state: m.state,
         notice: m.notice,
         local: m.local,
         remote: m.remote,
         sent: m.sent,
-        at: block_place(n, m.block),
+        at: 0,
         block: m.block,
-        count: counted,
+        count,
     }
 }
 
-// A request at an end.
-fn request_at(end: u8, rec: &mut [u8], s: &[u8], log: &mut [u8], count: usize, out: &mut [u8]) -> Answer
-    requires { ⌜ (recordSize ≤ length (now rec)) × ((logSize ≤ length (now log)) × (longestFrame ≤ length (now out))) ⌝ }
-    ensures { λ r. ⌜ ((n : ℕ) → Does end (now (rec .entry)) (now (log .entry)) count n (made (now (rec .entry)) count (calls.request (now (s .entry)) (now (out .entry)))) (now (out .entry)) (now (rec .exit)) (now (log .exit)) (now (out .exit)) r) ⌝ }
+// Delivers frame n of the log to the end that did not send it, if the log holds it.
+fn deliver(
+    a: &mut [u8],
+    b: &mut [u8],
+    log: &mut [u8],
+    count: usize,
+    n: usize,
+    out: &mut [u8],
+) -> Answer
+    requires { ⌜ (recordSize ≤ length (now a)) × ((recordSize ≤ length (now b)) × ((logSize ≤ length (now log)) × ((count ≤ places) × (longestFrame ≤ length (now out))))) ⌝ }
+    ensures { λ r. ⌜ Played (benchOf (now (a .entry)) (now (b .entry)) (now (log .entry)) count) (delivery (benchOf (now (a .entry)) (now (b .entry)) (now (log .entry)) count) n (now (out .entry))) n (now (out .entry)) (now (a .exit)) (now (b .exit)) (now (log .exit)) (now (out .exit)) r ⌝ }
 {
-    let m = move_end(true, rec, s, count, out);
-    finish(end, m, 0, log, count, out)
+    if !logbook::holds(log, count, n) {
+        return refuse(a, 13, count);
+    }
+    if logbook::sender_of(log, n) == 0 {
+        return moves::deliver_at(1, b, n, log, count, out);
+    }
+    moves::deliver_at(0, a, n, log, count, out)
 }
 
-// Frame n of the log, delivered to an end.
-fn deliver_at(end: u8, rec: &mut [u8], n: usize, log: &mut [u8], count: usize, out: &mut [u8]) -> Answer
-    requires { ⌜ (recordSize ≤ length (now rec)) × ((logSize ≤ length (now log)) × ((n < places) × ((lengthAt n (now log) ≤ longestFrame) × (longestFrame ≤ length (now out))))) ⌝ }
-    ensures { λ r. ⌜ Does end (now (rec .entry)) (now (log .entry)) count n (made (now (rec .entry)) count (calls.receive (frameAt n (now (log .entry))) (now (out .entry)))) (now (out .entry)) (now (rec .exit)) (now (log .exit)) (now (out .exit)) r ⌝ }
+// What the octets of a line ask.
+fn ask(
+    a: &mut [u8],
+    b: &mut [u8],
+    log: &mut [u8],
+    count: usize,
+    s: &[u8],
+    out: &mut [u8],
+) -> Answer
+    requires { ⌜ (1 ≤ length (now s)) × ((recordSize ≤ length (now a)) × ((recordSize ≤ length (now b)) × ((logSize ≤ length (now log)) × ((count ≤ places) × (longestFrame ≤ length (now out)))))) ⌝ }
+    ensures { λ r. ⌜ Played (benchOf (now (a .entry)) (now (b .entry)) (now (log .entry)) count) (asks (benchOf (now (a .entry)) (now (b .entry)) (now (log .entry)) count) (now (s .entry)) (now (out .entry))) (field 2 1 (now (s .entry))) (now (out .entry)) (now (a .exit)) (now (b .exit)) (now (log .exit)) (now (out .exit)) r ⌝ }
 {
-    let m = move_end(false, rec, logbook::frame_of(log, n), count, out);
-    finish(end, m, n, log, count, out)
+    let kind = s[0];
+    if kind == REQUEST_A {
+        return moves::request_at(0, a, &s[1..], log, count, out);
+    }
+    if kind == REQUEST_B {
+        return moves::request_at(1, b, &s[1..], log, count, out);
+    }
+    if kind != DELIVER {
+        return refuse(a, 3, count);
+    }
+    if s.len() != 3 {
+        return refuse(a, 4, count);
+    }
+    let n = endpoint::wide(s[1]) * 256 + endpoint::wide(s[2]);
+    deliver(a, b, log, count, n, out)
+}
+
+// Plays a line, which is given without its line feed, on the bench with the records a and b, the log and so many places of it in
+// use. A frame that is sent goes to the start of out and to the next place of the log.
+pub fn play(
+    a: &mut [u8],
+    b: &mut [u8],
+    log: &mut [u8],
+    count: usize,
+    line: &[u8],
+    out: &mut [u8],
+) -> Answer
+    ensures { λ r. ⌜ Played (benchOf (now (a .entry)) (now (b .entry)) (now (log .entry)) count) (asked (benchOf (now (a .entry)) (now (b .entry)) (now (log .entry)) count) (now (line .entry)) (now (out .entry))) (field 2 1 (unhex (now (line .entry)))) (now (out .entry)) (now (a .exit)) (now (b .exit)) (now (log .exit)) (now (out .exit)) r ⌝ }
+{
+    let number = checks::ready(a, b, log, count, out.len());
+    if number != 0 {
+        return refuse(a, number, count);
+    }
+    let mut s = [0u8; octets::LONGEST_FRAME];
+    let read = hexline::read(line, &mut s);
+    match read {
+        Line::Decoded(n) => ask(a, b, log, count, &s[..n], out),
+        Line::Refused(refusal) => refuse(a, refusal, count),
+    }
 }

@@ -22,9 +22,9 @@ use Rattle.endpoint.specs.View.{pack}
 use Rattle.endpoint.specs.Record.{decode}
 use Rattle.link.specs.Record.{format}
 use Rattle.link.specs.Lent.{sentOf, blockOf, toldOf, Lent}
-use Rattle.testbench.specs.declared.Moved.{Moved}
+use Rattle.moves.specs.declared.Moved.{Moved}
 use Rattle.rig.specs.Bench.{sends, logged, made}
-use Rattle.testbench.specs.Parts.{callAs, movedOf, Moves}
+use Rattle.moves.specs.Parts.{callAs, movedOf, Moves}
 
 -- what a lent call answers is told
 pub moved : (o : Outcome Step) (rec out : List ℕ) {rec′ out′ : List ℕ} {number state notice local remote sent block : ℕ}

@@ -5,12 +5,12 @@ use denote.Ref.{now}
 use lib.ListN.{length}
 use Rattle.octets.specs.Test.{when}
 use Rattle.console.proofs.Ends.{request-none}
-use Rattle.testbench.specs.Parts.{callAs}
-use Rattle.testbench.proofs.Moves.{moved}
+use Rattle.moves.specs.Parts.{callAs}
+use Rattle.moves.proofs.Moves.{moved}
 use native.Mathlib.Omega.{arith}
 use borrow.Author.Needs.{needs}
-use Rattle.testbench.proofs.call.Statement.{statement}
-use Rattle.testbench.proofs.call.Tie as tie
+use Rattle.moves.proofs.call.Statement.{statement}
+use Rattle.moves.proofs.call.Tie as tie
 
 dock-request-requires : tie.Need-dock-request-requires
 dock-request-requires c κs = search needs

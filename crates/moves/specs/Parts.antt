@@ -1,12 +1,10 @@
--- What the private parts of the bench do. No public call's contract needs this.
+-- What the parts of such a call do. No public call's contract needs this.
 use Prim.Native.Nat.{ℕ, _+_, _*_}
 use mathlib.Core.Path.{_≡_}
 use mathlib.Core.Bool.{Bool}
-use mathlib.Core.List.{List, [], _∷_}
-use lib.Dec.{leb}
+use mathlib.Core.List.{List}
 use lib.ListN.{length}
-use Rattle.octets.specs.Sizes.{longestFrame}
-use Rattle.octets.specs.Test.{when, ifEq, Question, Outcome, numberOf}
+use Rattle.octets.specs.Test.{when, ifEq, Outcome, numberOf}
 use Rattle.octets.specs.Octets.{put}
 use Rattle.protocol.specs.Table.{Step}
 use Rattle.calls.specs.Calls.{Call, request, receive, recordAfter, bufferAfter}
@@ -14,10 +12,10 @@ use Rattle.plan.specs.Plan.{noticeOf}
 use Rattle.link.specs.Record.{format}
 use Rattle.link.specs.Lent.{sentOf, blockOf, toldOf}
 use Rattle.logbook.specs.Log.{placeSize, place}
-use Rattle.rig.specs.Bench.{Bench, sizeQuestions, soundQuestions, logAfter}
-use Rattle.testbench.specs.declared.Moved.{Moved}
-use Rattle.testbench.specs.declared.Answer.{Answer}
-use Rattle.testbench.specs.Answer.{blockAt, answerOf}
+use Rattle.rig.specs.Bench.{logAfter}
+use Rattle.moves.specs.declared.Moved.{Moved}
+use Rattle.moves.specs.declared.Answer.{Answer}
+use Rattle.moves.specs.Answer.{blockAt, answerOf}
 
 -- a request of an end, or a frame that it receives
 unfoldable pub callAs : Bool → List ℕ → List ℕ → Call
@@ -74,10 +72,3 @@ pub record Does (i : ℕ) (rec log : List ℕ) (count n : ℕ) (o : Outcome Step
   pub end : rec′ ≡ recordAfter format rec o
   pub entered : log′ ≡ logAfter i log count o
   pub buffer : out′ ≡ bufferAfter out o
-
-abbrev pub benchOf : List ℕ → List ℕ → List ℕ → ℕ → Bench
-benchOf a b log count = record { a = a; b = b; log = log; count = count }
-
--- 11 and 12, with room for so many octets of a frame
-abbrev pub readyQuestions : Bench → ℕ → List Question
-readyQuestions w room = sizeQuestions w ((11, leb longestFrame room) ∷ soundQuestions w [])

@@ -6,11 +6,11 @@ use lib.Seq.{length-take-le}
 use Rattle.octets.specs.Test.{mapped}
 use Rattle.octets.specs.Octets.{left}
 use Rattle.calls.specs.Calls.{recordAfter, bufferAfter}
-use Rattle.testbench.specs.Parts.{callAs}
-use Rattle.testbench.proofs.Moves.{place-left, nothing-sent, none-left, tried, copied}
+use Rattle.moves.specs.Parts.{callAs}
+use Rattle.moves.proofs.Moves.{place-left, nothing-sent, none-left, tried, copied}
 use borrow.Author.Needs.{needs}
-use Rattle.testbench.proofs.move_end.Statement.{statement}
-use Rattle.testbench.proofs.move_end.Tie as tie
+use Rattle.moves.proofs.move_end.Statement.{statement}
+use Rattle.moves.proofs.move_end.Tie as tie
 
 call-requires : tie.Need-call-requires
 call-requires c κs = search needs

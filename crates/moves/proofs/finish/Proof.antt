@@ -2,12 +2,12 @@ use mathlib.Core.Path.{sym, ap, _∙_}
 use denote.Ref.{now}
 use native.Mathlib.Omega.{arith}
 use lib.Seq.{length-take-le}
-use Rattle.testbench.specs.Parts.{notedCount}
-use Rattle.testbench.proofs.Does.{answers}
+use Rattle.moves.specs.Parts.{notedCount}
+use Rattle.moves.proofs.Does.{answers}
 use native.Mathlib.Omega.{arith}
 use borrow.Author.Needs.{needs}
-use Rattle.testbench.proofs.finish.Statement.{statement}
-use Rattle.testbench.proofs.finish.Tie as tie
+use Rattle.moves.proofs.finish.Statement.{statement}
+use Rattle.moves.proofs.finish.Tie as tie
 
 slice-aggregate-note : tie.Need-slice-aggregate-note
 slice-aggregate-note c = let s = c .before .before .before .before in sym (length-take-le (s .args .m .sent) (now (s .args .out)) (omega (arith, s .pre .1 .1 .0)))

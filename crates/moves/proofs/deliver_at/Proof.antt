@@ -4,12 +4,12 @@ use lib.ListN.{length}
 use Rattle.calls.specs.Calls as calls
 use Rattle.octets.specs.Test.{when}
 use Rattle.logbook.specs.Log.{frameAt}
-use Rattle.testbench.specs.Parts.{callAs}
-use Rattle.testbench.proofs.Does.{loggable, does}
+use Rattle.moves.specs.Parts.{callAs}
+use Rattle.moves.proofs.Does.{loggable, does}
 use native.Mathlib.Omega.{arith}
 use borrow.Author.Needs.{needs}
-use Rattle.testbench.proofs.deliver_at.Statement.{statement}
-use Rattle.testbench.proofs.deliver_at.Tie as tie
+use Rattle.moves.proofs.deliver_at.Statement.{statement}
+use Rattle.moves.proofs.deliver_at.Tie as tie
 
 frame-of-requires : tie.Need-frame-of-requires
 frame-of-requires c κs = search needs

@@ -18,12 +18,12 @@ use Rattle.link.specs.Record.{format}
 use Rattle.link.specs.Lent.{sentOf, blockOf}
 use Rattle.console.proofs.Ends.{sent-fits, sent-taken, request-none}
 use Rattle.rig.specs.Bench.{sends, logged, made, logAfter, countAfter}
-use Rattle.testbench.specs.declared.Moved.{Moved}
-use Rattle.testbench.specs.declared.Answer.{Answer}
-use Rattle.testbench.specs.Answer.{answerOf}
-use Rattle.testbench.specs.Parts.{movedOf, Moves, noted, notedCount, blockPlace, answerFrom, Does}
-use Rattle.testbench.proofs.Moves.{has-place}
-use Rattle.testbench.proofs.Short.{sent-short}
+use Rattle.moves.specs.declared.Moved.{Moved}
+use Rattle.moves.specs.declared.Answer.{Answer}
+use Rattle.moves.specs.Answer.{answerOf}
+use Rattle.moves.specs.Parts.{movedOf, Moves, noted, notedCount, blockPlace, answerFrom, Does}
+use Rattle.moves.proofs.Moves.{has-place}
+use Rattle.moves.proofs.Short.{sent-short}
 
 some-octets : (f : Frame) → length (encode f) ≢ 0
 unfolding encode

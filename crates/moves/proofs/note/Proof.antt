@@ -1,11 +1,11 @@
 use mathlib.Core.Path.{sym, _∙_}
 use Rattle.octets.proofs.Test.{eq-yes, eq-no}
 use native.Mathlib.Omega.{arith}
-use Rattle.testbench.specs.Parts.{noted, notedCount}
+use Rattle.moves.specs.Parts.{noted, notedCount}
 use native.Mathlib.Omega.{arith}
 use borrow.Author.Needs.{needs}
-use Rattle.testbench.proofs.note.Statement.{statement}
-use Rattle.testbench.proofs.note.Tie as tie
+use Rattle.moves.proofs.note.Statement.{statement}
+use Rattle.moves.proofs.note.Tie as tie
 
 returns : tie.Need-returns
 unfolding noted notedCount

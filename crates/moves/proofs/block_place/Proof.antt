@@ -1,11 +1,11 @@
 use mathlib.Core.Path.{sym}
 use Rattle.octets.proofs.Test.{eq-yes, eq-no}
-use Rattle.testbench.specs.Answer.{blockAt}
-use Rattle.testbench.specs.Parts.{blockPlace}
+use Rattle.moves.specs.Answer.{blockAt}
+use Rattle.moves.specs.Parts.{blockPlace}
 use native.Mathlib.Omega.{arith}
 use borrow.Author.Needs.{needs}
-use Rattle.testbench.proofs.block_place.Statement.{statement}
-use Rattle.testbench.proofs.block_place.Tie as tie
+use Rattle.moves.proofs.block_place.Statement.{statement}
+use Rattle.moves.proofs.block_place.Tie as tie
 
 returns : tie.Need-returns
 unfolding blockPlace

@@ -3,12 +3,12 @@ use denote.Ref.{now}
 use lib.ListN.{length}
 use Rattle.calls.specs.Calls as calls
 use Rattle.octets.specs.Test.{when}
-use Rattle.testbench.specs.Parts.{callAs}
-use Rattle.testbench.proofs.Does.{no-block, loggable, does, any-frame}
+use Rattle.moves.specs.Parts.{callAs}
+use Rattle.moves.proofs.Does.{no-block, loggable, does, any-frame}
 use native.Mathlib.Omega.{arith}
 use borrow.Author.Needs.{needs}
-use Rattle.testbench.proofs.request_at.Statement.{statement}
-use Rattle.testbench.proofs.request_at.Tie as tie
+use Rattle.moves.proofs.request_at.Statement.{statement}
+use Rattle.moves.proofs.request_at.Tie as tie
 
 move-end-requires : tie.Need-move-end-requires
 move-end-requires c κs = search needs
