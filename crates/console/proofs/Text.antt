@@ -111,7 +111,7 @@ with-frame t b [] h = absurd (h refl)
 with-frame t b (x ∷ sent) h = refl
 
 -- what was written at the start of the rest of a buffer
-whole : (x : List ℕ) (m : ℕ) → take (length x - m) (drop m x) ≡ drop m x
+pub whole : (x : List ℕ) (m : ℕ) → take (length x - m) (drop m x) ≡ drop m x
 whole x m = ap (λ (n : ℕ). take n (drop m x)) (sym (length-drop m x)) ∙ take-length (drop m x)
 
 pub length-rest : (x : List ℕ) (m : ℕ) → length (take (length x - m) (drop m x)) ≡ length x - m

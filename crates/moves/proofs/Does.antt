@@ -81,9 +81,10 @@ module _ (i : ℕ) (rec log : List ℕ) (count n : ℕ) (c : Call) {out rec′ o
 
   -- what is sent can be logged
   pub loggable : 538 ≤ length rec → length out′ ≡ length out → (m .sent ≤ length out′) × ((m .sent ≤ 78) × (m .sent ≢ 0 → count < 512))
-  loggable h l =
-      (omega (arith, sent-fits out (made rec count c) (w .buffer) l sent-is, l),
-      (omega (arith, sent-is, sent-short rec count c h), λ z. has-place rec count c (λ y. z (sent-is ∙ y))))
+  loggable h l = (
+    omega (arith, sent-fits out (made rec count c) (w .buffer) l sent-is, l),
+    (omega (arith, sent-is, sent-short rec count c h), λ z. has-place rec count c (λ y. z (sent-is ∙ y))),
+  )
 
   pub does : {log′ : List ℕ} {r : Answer} → r ≡ answerFrom i m n count → log′ ≡ noted i log count (take (m .sent) out′)
       → Does i rec log count n (made rec count c) out rec′ log′ out′ r

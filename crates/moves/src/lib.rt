@@ -181,7 +181,14 @@ fn finish(end: u8, m: Moved, n: usize, log: &mut [u8], count: usize, out: &[u8])
 }
 
 // A request at an end.
-pub fn request_at(end: u8, rec: &mut [u8], s: &[u8], log: &mut [u8], count: usize, out: &mut [u8]) -> Answer
+pub fn request_at(
+    end: u8,
+    rec: &mut [u8],
+    s: &[u8],
+    log: &mut [u8],
+    count: usize,
+    out: &mut [u8],
+) -> Answer
     requires { ⌜ (recordSize ≤ length (now rec)) × ((logSize ≤ length (now log)) × (longestFrame ≤ length (now out))) ⌝ }
     ensures { λ r. ⌜ ((n : ℕ) → Does end (now (rec .entry)) (now (log .entry)) count n (made (now (rec .entry)) count (calls.request (now (s .entry)) (now (out .entry)))) (now (out .entry)) (now (rec .exit)) (now (log .exit)) (now (out .exit)) r) ⌝ }
 {
@@ -190,7 +197,14 @@ pub fn request_at(end: u8, rec: &mut [u8], s: &[u8], log: &mut [u8], count: usiz
 }
 
 // Frame n of the log, delivered to an end.
-pub fn deliver_at(end: u8, rec: &mut [u8], n: usize, log: &mut [u8], count: usize, out: &mut [u8]) -> Answer
+pub fn deliver_at(
+    end: u8,
+    rec: &mut [u8],
+    n: usize,
+    log: &mut [u8],
+    count: usize,
+    out: &mut [u8],
+) -> Answer
     requires { ⌜ (recordSize ≤ length (now rec)) × ((logSize ≤ length (now log)) × ((n < places) × ((lengthAt n (now log) ≤ longestFrame) × (longestFrame ≤ length (now out))))) ⌝ }
     ensures { λ r. ⌜ Does end (now (rec .entry)) (now (log .entry)) count n (made (now (rec .entry)) count (calls.receive (frameAt n (now (log .entry))) (now (out .entry)))) (now (out .entry)) (now (rec .exit)) (now (log .exit)) (now (out .exit)) r ⌝ }
 {

@@ -7,12 +7,11 @@ ghost use lib.ListN.{length};
 ghost use Rattle.octets.specs.Sizes.{longestFrame};
 ghost use Rattle.octets.specs.Test.{refused};
 ghost use Rattle.octets.specs.Octets.{field};
-ghost use Rattle.hexline.specs.Line.{unhex};
 ghost use Rattle.endpoint.specs.Record.{recordSize};
 ghost use Rattle.logbook.specs.Log.{places, logSize};
-ghost use Rattle.rig.specs.Bench.{benchOf, delivery, asks, asked};
+ghost use Rattle.rig.specs.Bench.{benchOf, delivery, asks};
 ghost use Rattle.moves.specs.Answer.{answerOf};
-ghost use Rattle.testbench.specs.Played.{Played};
+ghost use Rattle.testbench.specs.Played.{Played, LinePlayed, answerIn};
 
 const REQUEST_A: u8 = 0x50;
 
@@ -61,14 +60,7 @@ fn deliver(
 }
 
 // What the octets of a line ask.
-fn ask(
-    a: &mut [u8],
-    b: &mut [u8],
-    log: &mut [u8],
-    count: usize,
-    s: &[u8],
-    out: &mut [u8],
-) -> Answer
+fn ask(a: &mut [u8], b: &mut [u8], log: &mut [u8], count: usize, s: &[u8], out: &mut [u8]) -> Answer
     requires { ⌜ (1 ≤ length (now s)) × ((recordSize ≤ length (now a)) × ((recordSize ≤ length (now b)) × ((logSize ≤ length (now log)) × ((count ≤ places) × (longestFrame ≤ length (now out)))))) ⌝ }
     ensures { λ r. ⌜ Played (benchOf (now (a .entry)) (now (b .entry)) (now (log .entry)) count) (asks (benchOf (now (a .entry)) (now (b .entry)) (now (log .entry)) count) (now (s .entry)) (now (out .entry))) (field 2 1 (now (s .entry))) (now (out .entry)) (now (a .exit)) (now (b .exit)) (now (log .exit)) (now (out .exit)) r ⌝ }
 {
@@ -99,7 +91,7 @@ pub fn play(
     line: &[u8],
     out: &mut [u8],
 ) -> Answer
-    ensures { λ r. ⌜ Played (benchOf (now (a .entry)) (now (b .entry)) (now (log .entry)) count) (asked (benchOf (now (a .entry)) (now (b .entry)) (now (log .entry)) count) (now (line .entry)) (now (out .entry))) (field 2 1 (unhex (now (line .entry)))) (now (out .entry)) (now (a .exit)) (now (b .exit)) (now (log .exit)) (now (out .exit)) r ⌝ }
+    ensures { λ r. ⌜ LinePlayed (benchOf (now (a .entry)) (now (b .entry)) (now (log .entry)) count) (now (line .entry)) (now (out .entry)) (now (a .exit)) (now (b .exit)) (now (log .exit)) (now (out .exit)) r ⌝ }
 {
     let number = checks::ready(a, b, log, count, out.len());
     if number != 0 {
@@ -111,4 +103,38 @@ pub fn play(
         Line::Decoded(n) => ask(a, b, log, count, &s[..n], out),
         Line::Refused(refusal) => refuse(a, refusal, count),
     }
+}
+
+// The same for programs in C. Answers the number; the count, the end that the answer is about, its state, notice, L and D, the
+// length of the frame sent, and where in the log the block handed up stands and its length, go to the numbers lent.
+#[no_mangle]
+pub extern "C" fn dock_bench(
+    a: &mut [u8],
+    b: &mut [u8],
+    log: &mut [u8],
+    count: &mut usize,
+    line: &[u8],
+    out: &mut [u8],
+    end: &mut u8,
+    state: &mut u8,
+    notice: &mut u8,
+    local: &mut u32,
+    remote: &mut u32,
+    sent: &mut usize,
+    at: &mut usize,
+    block: &mut usize,
+) -> u8
+    ensures { λ r. ⌜ LinePlayed (benchOf (now (a .entry)) (now (b .entry)) (now (log .entry)) (now (count .entry))) (now (line .entry)) (now (out .entry)) (now (a .exit)) (now (b .exit)) (now (log .exit)) (now (out .exit)) (answerIn r (now (end .exit)) (now (state .exit)) (now (notice .exit)) (now (local .exit)) (now (remote .exit)) (now (sent .exit)) (now (at .exit)) (now (block .exit)) (now (count .exit))) ⌝ }
+{
+    let r = play(a, b, log, *count, line, out);
+    *count = r.count;
+    *end = r.end;
+    *state = r.state;
+    *notice = r.notice;
+    *local = r.local;
+    *remote = r.remote;
+    *sent = r.sent;
+    *at = r.at;
+    *block = r.block;
+    r.number
 }

@@ -3,7 +3,6 @@ use denote.Ref.{now}
 use lib.ListN.{length}
 use native.Mathlib.Omega.{arith}
 use borrow.Author.Tests.{le-leb, lt-leb, not-true, not-false}
-
 use Rattle.octets.specs.Test.{when, first}
 use native.Mathlib.Omega.{arith}
 use borrow.Author.Needs.{needs}

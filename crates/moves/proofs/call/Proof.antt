@@ -23,7 +23,7 @@ same-length-2 c = search needs
 
 returns : tie.Need-returns
 unfolding callAs when
-returns c = 
+returns c =
     let s = c .before .before .before .before .before .before .before .before .before .before .before .before .before .before .before .before .args in
     rw (c .before .before .before .before .before .before .before .before .before .before .before .before .if1 .taken)
     (moved _ (now (s .rec)) (now (s .out)) (c .before .before .before .before .dock-request .ensures) (ap length (request-none (now (s .rec)) (now (s .s)) (now (s .out)))))
@@ -39,7 +39,7 @@ same-length-4 c = search needs
 
 returns-2 : tie.Need-returns-2
 unfolding callAs when
-returns-2 c = 
+returns-2 c =
     let s = c .before .before .before .before .before .before .before .before .before .before .before .before .before .before .before .before .before .args in
     rw (c .before .before .before .before .before .before .before .before .before .before .before .before .before .if1 .left)
     (moved _ (now (s .rec)) (now (s .out)) (c .before .before .before .before .dock-receive .ensures .lent) (c .before .before .before .before .dock-receive .ensures .is-count))

@@ -53,7 +53,7 @@ same-length-3 c = search needs
 
 returns-2 : tie.Need-returns-2
 unfolding recordAfter bufferAfter mapped left
-returns-2 c = 
+returns-2 c =
     let s = c .before .before .before .before .before .before .before .before .before .before .before .before .before .before .before .before .before in
     let n = tried (s .args .asked) (now (s .args .rec)) (now (s .args .s)) (now (s .args .out)) (replicate 78 0) (s .pre .0) (s .pre .1) (omega arith) (copied (now (s .args .rec)) (replicate 538 0) refl (s .pre .0) (c .before .before .before .before .before .before .before .before .before .before .copy2 .ensures)) (c .before .before .before .before .before .before .call2 .ensures) in
     rw (none-left (now (s .args .rec)) (s .args .count) (callAs (s .args .asked) (now (s .args .s)) (now (s .args .out))) (omega (arith, c .before .before .before .before .before .before .before .before .before .before .before .before .before .if1 .left)) (λ z. omega (arith, n, c .before .before .if2 .taken)))
@@ -69,7 +69,7 @@ same-length-5 : tie.Need-same-length-5
 same-length-5 c = search needs
 
 returns-3 : tie.Need-returns-3
-returns-3 c = 
+returns-3 c =
     let s = c .before .before .before .before .before .before .before .before .before .before .before .before .before .before .before .before .before .before .before .before .before .before in
     let n = tried (s .args .asked) (now (s .args .rec)) (now (s .args .s)) (now (s .args .out)) (replicate 78 0) (s .pre .0) (s .pre .1) (omega arith) (copied (now (s .args .rec)) (replicate 538 0) refl (s .pre .0) (c .before .before .before .before .before .before .before .before .before .before .before .before .before .before .before .copy2 .ensures)) (c .before .before .before .before .before .before .before .before .before .before .before .call2 .ensures) in
     rw (nothing-sent (now (s .args .rec)) (s .args .count) (callAs (s .args .asked) (now (s .args .s)) (now (s .args .out))) (omega (arith, n, c .before .before .before .before .before .before .before .if2 .left))) (c .before .before .before .before .call3 .ensures)

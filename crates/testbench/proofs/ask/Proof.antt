@@ -1,3 +1,13 @@
+use Rattle.console.proofs.Text.{whole}
+use Prim.Native.Nat.{_+_, _*_}
+use mathlib.Core.Path.{_≡_, sym, _∙_}
+use native.Mathlib.Omega.{arith}
+use lib.ListN.{drop}
+use denote.Ref.{now}
+use Rattle.octets.specs.Octets.{field}
+use Rattle.frame.specs.Read.{kindOf}
+use Rattle.calls.specs.Calls as calls
+use Rattle.testbench.proofs.Plays.{declines, at-a, at-b, asks-a, asks-b, asks-none, asks-short, asks-frame, number-of}
 use native.Mathlib.Omega.{arith}
 use borrow.Author.Needs.{needs}
 use Rattle.testbench.proofs.ask.Statement.{statement}
@@ -28,7 +38,8 @@ same-length-3 : tie.Need-same-length-3
 same-length-3 c = search needs
 
 returns : tie.Need-returns
-returns c = search needs -- TODO
+unfolding kindOf
+returns c = let a = c .before .before .before .before .before .before .before .before .before .before .before .before .before .before .before .before .before .before .args in at-a (now (a .a)) (now (a .b)) (now (a .log)) (a .count) (field 2 1 (now (a .s))) (calls.request (drop 1 (now (a .s))) (now (a .out))) (now (a .out)) (asks-a (now (a .a)) (now (a .b)) (now (a .log)) (a .count) (now (a .s)) (now (a .out)) (c .before .before .before .before .before .before .before .before .before .before .before .if1 .taken)) (rw (whole (now (a .s)) 1) at (c .before .before .before .before .before .before .request-at .ensures (field 2 1 (now (a .s)))))
 
 sub-request-at-2 : tie.Need-sub-request-at-2
 sub-request-at-2 c = search needs
@@ -52,7 +63,8 @@ same-length-6 : tie.Need-same-length-6
 same-length-6 c = search needs
 
 returns-2 : tie.Need-returns-2
-returns-2 c = search needs -- TODO
+unfolding kindOf
+returns-2 c = let a = c .before .before .before .before .before .before .before .before .before .before .before .before .before .before .before .before .before .before .before .args in at-b (now (a .a)) (now (a .b)) (now (a .log)) (a .count) (field 2 1 (now (a .s))) (calls.request (drop 1 (now (a .s))) (now (a .out))) (now (a .out)) (asks-b (now (a .a)) (now (a .b)) (now (a .log)) (a .count) (now (a .s)) (now (a .out)) (c .before .before .before .before .before .before .before .before .before .before .before .before .if1 .left) (c .before .before .before .before .before .before .before .before .before .before .before .if2 .taken)) (rw (whole (now (a .s)) 1) at (c .before .before .before .before .before .before .request-at2 .ensures (field 2 1 (now (a .s)))))
 
 refuse-requires : tie.Need-refuse-requires
 refuse-requires c κs = search needs
@@ -61,7 +73,8 @@ same-length-7 : tie.Need-same-length-7
 same-length-7 c = search needs
 
 returns-3 : tie.Need-returns-3
-returns-3 c = search needs -- TODO
+unfolding kindOf
+returns-3 c = let a = c .before .before .before .before .before .before .before .before .before .before .before .args in declines (now (a .a)) (now (a .b)) (now (a .log)) (a .count) (field 2 1 (now (a .s))) 3 (now (a .out)) (asks-none (now (a .a)) (now (a .b)) (now (a .log)) (a .count) (now (a .s)) (now (a .out)) (c .before .before .before .before .if1 .left) (c .before .before .before .if2 .left) (c .before .before .if3 .taken)) (c .refuse .ensures (field 2 1 (now (a .s))))
 
 refuse-requires-2 : tie.Need-refuse-requires-2
 refuse-requires-2 c κs = search needs
@@ -70,7 +83,8 @@ same-length-8 : tie.Need-same-length-8
 same-length-8 c = search needs
 
 returns-4 : tie.Need-returns-4
-returns-4 c = search needs -- TODO
+unfolding kindOf
+returns-4 c = let a = c .before .before .before .before .before .before .before .before .before .before .before .before .args in declines (now (a .a)) (now (a .b)) (now (a .log)) (a .count) (field 2 1 (now (a .s))) 4 (now (a .out)) (asks-short (now (a .a)) (now (a .b)) (now (a .log)) (a .count) (now (a .s)) (now (a .out)) (c .before .before .before .if3 .left) (c .before .before .if4 .taken)) (c .refuse2 .ensures (field 2 1 (now (a .s))))
 
 shared-slice-read-wide : tie.Need-shared-slice-read-wide
 shared-slice-read-wide c = search needs
@@ -106,7 +120,12 @@ same-length-12 : tie.Need-same-length-12
 same-length-12 c = search needs
 
 returns-5 : tie.Need-returns-5
-returns-5 c = search needs -- TODO
+unfolding kindOf
+returns-5 c =
+    let a = c .before .before .before .before .before .before .before .before .before .before .before .before .before .before .before .before .before .before .before .before .before .before .before .before .before .before .before .args in
+    let l = c .before .before .before .before .before .before .before .before .before .before .before .before .before .before .before .before .before .if4 .left in
+    let n : c .before .before .before .before .before .before .before .before .before .before .before .before .before .before .before .wide .result * 256 + c .before .before .before .before .before .before .before .before .before .before .before .before .before .wide2 .result ≡ field 2 1 (now (a .s)) = rw (c .before .before .before .before .before .before .before .before .before .before .before .before .before .before .before .wide .ensures .0, c .before .before .before .before .before .before .before .before .before .before .before .before .before .wide2 .ensures .0) (sym (number-of (now (a .s)) l)) in
+    rw (asks-frame (now (a .a)) (now (a .b)) (now (a .log)) (a .count) (now (a .s)) (now (a .out)) (c .before .before .before .before .before .before .before .before .before .before .before .before .before .before .before .before .before .before .if3 .left) l n, sym n) (c .before .before .before .before .before .before .before .before .deliver .ensures)
 
 pub ask-spec : {M : Type 1} → statement M
 ask-spec =

@@ -1,7 +1,45 @@
+use Prim.Native.Nat.{ℕ, zero, suc, _≤_}
+use mathlib.Core.Path.{_≡_, refl, sym, ap, _∙_}
+use mathlib.Core.Logic.{_≢_}
+use mathlib.Core.List.{List}
+use native.Mathlib.Omega.{arith}
+use denote.Ref.{now}
+use lib.ListN.{length, take, replicate}
+use lib.Seq.{length-take-le}
+use Rattle.octets.specs.Test.{refused}
+use Rattle.octets.specs.Octets.{field}
+use Rattle.hexline.specs.Line.{unhex}
+use Rattle.console.proofs.Text.{taken}
+use Rattle.console.proofs.Ends.{put-fits}
+use Rattle.console.proofs.Lines.{Passed, passed, turned-away}
+use Rattle.testbench.proofs.Plays as plays
+use Rattle.testbench.proofs.Plays.{declines, unready, Ready, ready, passes, sizes, some-octet}
 use native.Mathlib.Omega.{arith}
 use borrow.Author.Needs.{needs}
 use Rattle.testbench.proofs.play.Statement.{statement}
 use Rattle.testbench.proofs.play.Tie as tie
+
+-- the line of a bench that is ready
+abbrev line : tie.After-ask-arg3 → List ℕ
+line c = now (c .before .before .before .before .before .before .before .before .before .before .before .before .before .before .before .before .before .before .before .args .line)
+
+is-ready : (c : tie.After-ask-arg3) → let a = c .before .before .before .before .before .before .before .before .before .before .before .before .before .before .before .before .before .before .before .args in Ready (now (a .a)) (now (a .b)) (now (a .log)) (a .count) (now (a .line)) (now (a .out))
+is-ready c = let a = c .before .before .before .before .before .before .before .before .before .before .before .before .before .before .before .before .before .before .before .args in ready (now (a .a)) (now (a .b)) (now (a .log)) (a .count) (now (a .line)) (now (a .out)) (sym (c .before .before .before .before .before .before .before .before .before .before .ready .ensures) ∙ c .before .before .before .before .before .before .before .before .before .if1 .left)
+
+is-read : (c : tie.After-ask-arg3) → Passed (line c) (replicate 78 0) refl (c .before .before .before .before .read2 .given .0 .0) (c .before .before .before .before .before .before .before .read .last .1 .0)
+is-read c =
+    let r = c .before .before .before .before .before .before .before .read in
+    passed (line c) (replicate 78 0) refl _ _ (sym (r .ensures .0) ∙ c .before .before .before .before .read2 .given .1) (r .ensures .1)
+
+fits : (c : tie.After-ask-arg3) → c .before .before .before .before .read2 .given .0 .0 ≤ 78
+fits c = let p = is-read c in omega (arith, p .count, put-fits (replicate 78 0) (unhex (line c)) (p .octets) (search needs))
+
+octets : (c : tie.After-ask-arg3) → take (c .before .before .before .before .read2 .given .0 .0) (c .before .before .before .before .before .before .before .read .last .1 .0) ≡ unhex (line c)
+octets c = let p = is-read c in taken (replicate 78 0) (unhex (line c)) (p .octets) (p .count)
+
+nonzero : (n : ℕ) → n ≢ 0 → (k : ℕ) × (n ≡ suc k)
+nonzero zero h = absurd (h refl)
+nonzero (suc n) h = (n, refl)
 
 ready-requires : tie.Need-ready-requires
 ready-requires c κs = search needs
@@ -19,7 +57,7 @@ same-length-3 : tie.Need-same-length-3
 same-length-3 c = search needs
 
 returns : tie.Need-returns
-returns c = search needs -- TODO
+returns c = let a = c .before .before .before .before .before .before .before .before .before .before .before .before .args in let r = c .before .before .before .ready in let q = nonzero (r .result) (c .before .before .if1 .taken) in declines (now (a .a)) (now (a .b)) (now (a .log)) (a .count) (field 2 1 (unhex (now (a .line)))) (r .result) (now (a .out)) (rw (q .1) (unready (now (a .a)) (now (a .b)) (now (a .log)) (a .count) (now (a .line)) (now (a .out)) (q .0) (sym (r .ensures) ∙ q .1))) (c .refuse .ensures (field 2 1 (unhex (now (a .line)))))
 
 slice-aggregate-read : tie.Need-slice-aggregate-read
 slice-aggregate-read c = search needs
@@ -31,13 +69,13 @@ enum-known-read : tie.Need-enum-known-read
 enum-known-read c = search needs
 
 array-share-prefix-s : tie.Need-array-share-prefix-s
-array-share-prefix-s c = search needs -- TODO
+array-share-prefix-s c = omega (arith, fits c)
 
 slice-aggregate-ask : tie.Need-slice-aggregate-ask
-slice-aggregate-ask c = search needs -- TODO
+slice-aggregate-ask c = sym (length-take-le _ _ (omega (arith, fits (c .before))))
 
 ask-requires : tie.Need-ask-requires
-ask-requires c κs = search needs -- TODO
+ask-requires c κs = let a = c .before .before .before .before .before .before .before .before .before .before .before .before .before .before .before .before .before .before .before .before .before .args in let y = is-ready (c .before .before) in (omega (arith, ap length (octets (c .before .before)), some-octet (now (a .line)) (is-read (c .before .before) .all-yes)), sizes (now (a .a)) (now (a .b)) (now (a .log)) (a .count) (now (a .line)) (now (a .out)) y)
 
 enum-known-read-2 : tie.Need-enum-known-read-2
 enum-known-read-2 c = search needs
@@ -58,7 +96,7 @@ same-length-7 : tie.Need-same-length-7
 same-length-7 c = search needs
 
 returns-2 : tie.Need-returns-2
-returns-2 c = search needs -- TODO
+returns-2 c = let a = c .before .before .before .before .before .before .before .before .before .before .before .before .before .before .before .before .before .before .before .before .before .before .before .before .before .before .before .before .before .before .args in let k = c .before .before .before .before .before .before .before .before .before .before .before in rw (passes (now (a .a)) (now (a .b)) (now (a .log)) (a .count) (now (a .line)) (now (a .out)) (is-ready k) (is-read k .all-yes)) (rw (octets k) at (c .before .before .before .before .before .before .before .before .ask .ensures))
 
 same-length-8 : tie.Need-same-length-8
 same-length-8 c = search needs
@@ -70,7 +108,12 @@ same-length-10 : tie.Need-same-length-10
 same-length-10 c = search needs
 
 returns-3 : tie.Need-returns-3
-returns-3 c = search needs -- TODO
+returns-3 c =
+    let a = c .before .before .before .before .before .before .before .before .before .before .before .before .before .before .before .before .before .before .args in
+    let r = c .before .before .before .before .before .before .read in
+    let q = turned-away (now (a .line)) (replicate 78 0) refl _ (sym (r .ensures .0) ∙ c .before .before .before .read3 .given .1) in
+    let y = ready (now (a .a)) (now (a .b)) (now (a .log)) (a .count) (now (a .line)) (now (a .out)) (sym (c .before .before .before .before .before .before .before .before .before .ready .ensures) ∙ c .before .before .before .before .before .before .before .before .if1 .left) in
+    declines (now (a .a)) (now (a .b)) (now (a .log)) (a .count) (field 2 1 (unhex (now (a .line)))) _ (now (a .out)) (plays.turned-away (now (a .a)) (now (a .b)) (now (a .log)) (a .count) (now (a .line)) (now (a .out)) y (q .0) (q .1) ∙ ap refused (sym (q .2))) (c .refuse2 .ensures (field 2 1 (unhex (now (a .line)))))
 
 pub play-spec : {M : Type 1} → statement M
 play-spec =

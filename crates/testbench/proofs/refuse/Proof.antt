@@ -1,3 +1,5 @@
+use denote.Ref.{now}
+use Rattle.testbench.proofs.Plays.{told}
 use native.Mathlib.Omega.{arith}
 use borrow.Author.Needs.{needs}
 use Rattle.testbench.proofs.refuse.Statement.{statement}
@@ -7,7 +9,7 @@ refuse-requires : tie.Need-refuse-requires
 refuse-requires c κs = search needs
 
 returns : tie.Need-returns
-returns c = search needs -- TODO
+returns c n = let a = c .before .before .args in told (now (a .a)) (a .number) (a .count) n (c .refuse .ensures)
 
 pub refuse-spec : {M : Type 1} → statement M
 refuse-spec = tie.close (tie.spec refuse-requires returns)
