@@ -1,36 +1,13 @@
-use Prim.Native.Nat.{_-_, _≤_}
-use denote.Ref.{now}
-use lib.ListN.{length}
-use Rattle.console.proofs.Text.{length-rest}
 use Rattle.console.proofs.Lines.{written-fits}
-use native.Mathlib.Omega.{arith}
 use borrow.Author.Needs.{needs}
 use Rattle.line.proofs.answer.Statement.{statement}
 use Rattle.line.proofs.answer.Tie as tie
-
--- the answer has room in the free part of the buffer
-fits : (c : tie.After-known-told) → c .before .reply .given .0 .0 ≤ length (now (c .before .before .before .before .before .before .before .before .before .before .before .before .before .args .out)) - c .before .before .before .before .before .before .before .before .before .before .before .before .before .args .filled
-fits c =
-    let a = c .before .before .before .before .before .before .before .before .before .before .before .before .before .args in
-    omega (arith, written-fits (rw (c .before .reply .given .1) at (c .before .before .before .before .before .before .before .answer .ensures)) (search needs), length-rest (now (a .out)) (a .filled))
-
-sub-answer : tie.Need-sub-answer
-sub-answer c = search needs
-
-part-answer-start : tie.Need-part-answer-start
-part-answer-start c = search needs
-
-part-answer-end : tie.Need-part-answer-end
-part-answer-end c = search needs
 
 answer-requires : tie.Need-answer-requires
 answer-requires c κs = search needs
 
 enum-known-reply : tie.Need-enum-known-reply
 enum-known-reply c = search needs
-
-add-result : tie.Need-add-result
-add-result c = omega (arith, fits c)
 
 enum-told : tie.Need-enum-told
 enum-told c = search needs
@@ -42,7 +19,7 @@ same-length-2 : tie.Need-same-length-2
 same-length-2 c = search needs
 
 returns : tie.Need-returns
-returns c = omega (arith, fits c)
+returns c = written-fits (rw (c .before .reply .given .1) at (c .before .before .before .before .before .before .before .answer .ensures)) (search needs)
 
 same-length-3 : tie.Need-same-length-3
 same-length-3 c = search needs
@@ -57,12 +34,8 @@ pub answer-spec : {M : Type 1} → statement M
 answer-spec =
     tie.close
     (tie.spec
-    sub-answer
-    part-answer-start
-    part-answer-end
     answer-requires
     enum-known-reply
-    add-result
     enum-told
     same-length
     same-length-2
