@@ -11,3 +11,7 @@ pub record Held (buf line out steps : ℕ) (p : Place) : Type 0 where
   pub begins : p .from ≤ p .to
   pub ends : p .to ≤ p .end
   pub left : p .steps ≤ steps
+
+-- of a program, at BUFFER_SIZE, LONGEST_KEPT and BUFFER_SIZE
+abbrev pub Running : ℕ → Place → Type 0
+Running steps p = Held 65536 157 65536 steps p

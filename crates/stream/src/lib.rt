@@ -7,6 +7,9 @@ ghost use Rattle.stream.specs.Held.{Held};
 
 const LINE_FEED: u8 = 10;
 
+// The octets of a program's buffers for its input and its output.
+pub const BUFFER_SIZE: usize = 65536;
+
 // A longer line is refused whatever it holds, so no more of one is kept: 157 characters are too many, and an odd number.
 pub const LONGEST_KEPT: usize = 157;
 

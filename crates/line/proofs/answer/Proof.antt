@@ -1,7 +1,18 @@
+use lib.ListN.{length-take, length-drop}
 use Rattle.console.proofs.Lines.{written-fits}
+use native.Mathlib.Omega.{arith}
 use borrow.Author.Needs.{needs}
 use Rattle.line.proofs.answer.Statement.{statement}
 use Rattle.line.proofs.answer.Tie as tie
+
+sub-answer : tie.Need-sub-answer
+sub-answer c = search needs
+
+part-answer-start : tie.Need-part-answer-start
+part-answer-start c = search needs
+
+part-answer-end : tie.Need-part-answer-end
+part-answer-end c = search needs
 
 answer-requires : tie.Need-answer-requires
 answer-requires c κs = search needs
@@ -19,7 +30,7 @@ same-length-2 : tie.Need-same-length-2
 same-length-2 c = search needs
 
 returns : tie.Need-returns
-returns c = written-fits (rw (c .before .reply .given .1) at (c .before .before .before .before .before .before .before .answer .ensures)) (search needs)
+returns c = omega (arith, simp (length-take, length-drop) at (written-fits (rw (c .before .reply .given .1) at (c .before .before .before .before .before .before .before .answer .ensures)) (search needs)))
 
 same-length-3 : tie.Need-same-length-3
 same-length-3 c = search needs
@@ -34,6 +45,9 @@ pub answer-spec : {M : Type 1} → statement M
 answer-spec =
     tie.close
     (tie.spec
+    sub-answer
+    part-answer-start
+    part-answer-end
     answer-requires
     enum-known-reply
     enum-told
