@@ -4,10 +4,10 @@ use mathlib.Core.Path.{_≡_, refl, sym, ap, _∙_}
 use mathlib.Core.Logic.{_≢_}
 use mathlib.Core.List.{List, [], _∷_}
 use native.Mathlib.Omega.{arith}
-use lib.ListN.{length, take, drop, getD, length-drop, drop-of-length-le}
+use lib.ListN.{length, take, drop, getD, drop-of-length-le}
 use lib.Seq.{drop-cons, length-take-le}
 use Rattle.octets.specs.Octets.{put}
-use Rattle.octets.proofs.Test.{if-eq, eq-yes, eq-no}
+use Rattle.octets.proofs.Test.{eq-yes, eq-no}
 use Rattle.stream.specs.Lines.{lineLength, Kept}
 
 -- the scan: i characters that are no line feed, then the rest
@@ -25,11 +25,6 @@ pub at-end : (s : List ℕ) (i : ℕ) → length s ≤ i → lineLength (drop i 
 unfolding lineLength
 at-end s i h = rw (drop-of-length-le s {i = i} h) refl
 
-pub within : (s : List ℕ) → lineLength s ≤ length s
-unfolding lineLength
-within [] = omega arith
-within (c ∷ s) = if-eq (λ (n : ℕ). n ≤ length (c ∷ s)) c 10 (λ _. omega arith) (λ _. omega (arith, within s))
-
 -- a piece that fits, and one that does not
 take-all : (n : ℕ) (s : List ℕ) → length s ≤ n → take n s ≡ s
 take-all zero [] h = refl
@@ -45,17 +40,3 @@ keeps-all line piece n h e =
 pub keeps-some : (line piece : List ℕ) (n : ℕ) → length line - n ≤ length piece → {line′ : List ℕ}
     → line′ ≡ put line n (take (length line - n) piece) → Kept line n piece line′ (n + (length line - n))
 keeps-some line piece n h e = record { count = ap (λ (m : ℕ). n + m) (sym (length-take-le (length line - n) piece h)); buffer = e }
-
--- no more is kept than there is room for
-take-most : (n : ℕ) (s : List ℕ) → length (take n s) ≤ n
-take-most zero [] = omega arith
-take-most zero (x ∷ s) = omega arith
-take-most (suc n) [] = omega arith
-take-most (suc n) (x ∷ s) = omega (arith, take-most n s)
-
-pub kept-most : {line piece line′ : List ℕ} {n m : ℕ} → Kept line n piece line′ m → n ≤ length line → m ≤ length line
-kept-most {line} {piece} {n = n} k h = omega (arith, k .count, take-most (length line - n) piece)
-
--- the characters of a part
-pub length-part : (s : List ℕ) (a e : ℕ) → a ≤ e → e ≤ length s → length (take (e - a) (drop a s)) ≡ e - a
-length-part s a e h g = length-take-le (e - a) (drop a s) (omega (arith, length-drop a s))

@@ -1,18 +1,9 @@
-use Prim.Native.Nat.{_-_, _≤_}
-use denote.Ref.{now}
-use lib.ListN.{length}
-use Rattle.console.proofs.Text.{length-rest}
+use lib.ListN.{length-take, length-drop}
 use Rattle.console.proofs.Lines.{written-fits}
 use native.Mathlib.Omega.{arith}
 use borrow.Author.Needs.{needs}
 use Rattle.line.proofs.answer.Statement.{statement}
 use Rattle.line.proofs.answer.Tie as tie
-
--- the answer has room in the free part of the buffer
-fits : (c : tie.After-known-told) → c .before .reply .given .0 .0 ≤ length (now (c .before .before .before .before .before .before .before .before .before .before .before .before .before .args .out)) - c .before .before .before .before .before .before .before .before .before .before .before .before .before .args .filled
-fits c =
-    let a = c .before .before .before .before .before .before .before .before .before .before .before .before .before .args in
-    omega (arith, written-fits (rw (c .before .reply .given .1) at (c .before .before .before .before .before .before .before .answer .ensures)) (search needs), length-rest (now (a .out)) (a .filled))
 
 sub-answer : tie.Need-sub-answer
 sub-answer c = search needs
@@ -29,9 +20,6 @@ answer-requires c κs = search needs
 enum-known-reply : tie.Need-enum-known-reply
 enum-known-reply c = search needs
 
-add-result : tie.Need-add-result
-add-result c = omega (arith, fits c)
-
 enum-told : tie.Need-enum-told
 enum-told c = search needs
 
@@ -42,7 +30,7 @@ same-length-2 : tie.Need-same-length-2
 same-length-2 c = search needs
 
 returns : tie.Need-returns
-returns c = omega (arith, fits c)
+returns c = omega (arith, simp (length-take, length-drop) at (written-fits (rw (c .before .reply .given .1) at (c .before .before .before .before .before .before .before .answer .ensures)) (search needs)))
 
 same-length-3 : tie.Need-same-length-3
 same-length-3 c = search needs
@@ -62,7 +50,6 @@ answer-spec =
     part-answer-end
     answer-requires
     enum-known-reply
-    add-result
     enum-told
     same-length
     same-length-2

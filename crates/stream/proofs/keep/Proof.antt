@@ -22,7 +22,7 @@ same-length : tie.Need-same-length
 same-length c = search needs
 
 returns : tie.Need-returns
-returns c = let a = c .before .before .before .before .before .before .before .args in keeps-all (now (a .line)) (now (a .piece)) (a .n) (omega arith) (c .before .before .copy .ensures)
+returns c = let a = c .before .before .before .before .before .before .before .args in (keeps-all (now (a .line)) (now (a .piece)) (a .n) (omega arith) (c .before .before .copy .ensures), omega arith)
 
 slice-aggregate-copy : tie.Need-slice-aggregate-copy
 slice-aggregate-copy c = sym (length-take-le _ _ (omega arith))
@@ -37,7 +37,7 @@ same-length-2 : tie.Need-same-length-2
 same-length-2 c = search needs
 
 returns-2 : tie.Need-returns-2
-returns-2 c = let a = c .before .before .before .before .before .before .before .before .args in keeps-some (now (a .line)) (now (a .piece)) (a .n) (omega arith) (c .before .before .copy2 .ensures)
+returns-2 c = let a = c .before .before .before .before .before .before .before .before .args in (keeps-some (now (a .line)) (now (a .piece)) (a .n) (omega arith) (c .before .before .copy2 .ensures), omega arith)
 
 pub keep-spec : {M : Type 1} → statement M
 keep-spec =

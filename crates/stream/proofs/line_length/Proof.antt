@@ -22,7 +22,7 @@ shared-slice-read-if1 : tie.Need-shared-slice-read-if1 Inv-loop μ-loop
 shared-slice-read-if1 c = search needs
 
 returns : tie.Need-returns Inv-loop μ-loop
-returns c = let l = c .before .before .before .loop in omega (arith, l .inv .1, at-feed (now (c .before .before .before .before .args .s)) (l .i) (omega arith) (c .if1 .taken))
+returns c = let l = c .before .before .before .loop in (omega (arith, l .inv .1, at-feed (now (c .before .before .before .before .args .s)) (l .i) (omega arith) (c .if1 .taken)), omega arith)
 
 add-i : tie.Need-add-i Inv-loop μ-loop
 add-i c = search needs
@@ -34,7 +34,7 @@ loop-again : tie.Need-loop-again Inv-loop μ-loop
 loop-again c = let l = c .before .before .before .loop in (omega arith, omega (arith, l .inv .1, past-other (now (c .before .before .before .before .args .s)) (l .i) (omega arith) (c .if1 .left)))
 
 returns-2 : tie.Need-returns-2 Inv-loop μ-loop
-returns-2 c = let l = c .before .loop in omega (arith, l .inv .1, l .inv .0, at-end (now (c .before .before .args .s)) (l .i) (omega arith))
+returns-2 c = let l = c .before .loop in (omega (arith, l .inv .1, l .inv .0, at-end (now (c .before .before .args .s)) (l .i) (omega arith)), omega arith)
 
 pub line-length-spec : {M : Type 1} → statement M
 line-length-spec =
