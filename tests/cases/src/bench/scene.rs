@@ -8,11 +8,14 @@ use crate::sample::{hex_digits, FRAME_KINDS};
 use reference::bench::book::{self, Place, BOOK, HEAD, PLACE, PLACES};
 use reference::bench::{self, Side, DELIVER, REQUEST_A, REQUEST_B};
 use reference::frame::LONGEST_FRAME;
-use reference::line::{self, LONGEST_LINE};
+use reference::line;
 use reference::record::RECORD;
 
 /// A session has so many lines at most.
 const SESSION: usize = 900;
+/// Lengths of lines at the edges, and some far above that are small where only their last bytes are
+/// looked at.
+const LENGTHS: [usize; 8] = [154, 155, 156, 157, 158, 160, 256 + 6, (1 << 16) + 6];
 
 /// Two records, the book and its count.
 pub struct Scene {
@@ -45,10 +48,11 @@ impl Scene {
             count: 0,
         };
         for _ in 0..random.within(0..=SESSION) {
-            let line = match random.within(0..=1) {
+            let bytes = match random.within(0..=1) {
                 0 => scene.request(random),
                 _ => scene.delivery(random),
             };
+            let line = line::write(&bytes);
             let [a, b] = &mut scene.records;
             let out = &mut [0; LONGEST_FRAME];
             scene.count = bench::line([a, b], &mut scene.book, scene.count, &line, out).count;
@@ -108,8 +112,25 @@ impl Scene {
         }
     }
 
-    /// A line for this scene: mostly a request or a delivery, else one with a fault.
+    /// A line for this scene, now and then with wrong characters or a wrong length.
     pub fn line(&self, random: &mut Random) -> Vec<u8> {
+        let mut line = line::write(&self.bytes(random));
+        match random.within(0..=31) {
+            0 | 1 => spoil(random, &mut line),
+            2 => line.truncate(random.within(0..=line.len())),
+            3 => line.extend(random.bytes_within(1..=3)),
+            4 => line = random.bytes_within(0..=200),
+            5 => {
+                let length = random.pick(&LENGTHS);
+                line = hex_digits(random, length);
+            }
+            _ => {}
+        }
+        line
+    }
+
+    /// The bytes of a line: mostly of a request or a delivery, else of one with a fault.
+    fn bytes(&self, random: &mut Random) -> Vec<u8> {
         let record = &self.records[random.within(0..=1)];
         match random.within(0..=31) {
             0 => random.bytes_within(0..=90),
@@ -123,23 +144,6 @@ impl Scene {
             13..=18 => self.request(random),
             _ => self.delivery(random),
         }
-    }
-
-    /// A line of text for this scene, now and then with wrong characters or a wrong length.
-    pub fn text(&self, random: &mut Random) -> Vec<u8> {
-        let mut text = line::write(&self.line(random));
-        match random.within(0..=15) {
-            0 | 1 => spoil(random, &mut text),
-            2 => text.truncate(random.within(0..=text.len())),
-            3 => text.extend(random.bytes_within(1..=3)),
-            4 => text = random.bytes_within(0..=200),
-            5 => {
-                let length = random.within(LONGEST_LINE - 2..=LONGEST_LINE + 4);
-                text = hex_digits(random, length);
-            }
-            _ => {}
-        }
-        text
     }
 
     /// A request of some end.

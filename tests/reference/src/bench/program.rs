@@ -1,7 +1,7 @@
 //! The bench's line program: two fresh ends and an empty book, asked line by line.
 
 use super::book::{Place, BOOK, PLACE};
-use super::{text, Side, REQUEST_A, REQUEST_B};
+use super::{Side, REQUEST_A, REQUEST_B};
 use crate::frame::LONGEST_FRAME;
 use crate::line;
 use crate::program::append_answer;
@@ -47,7 +47,7 @@ impl Lines for Program {
     fn line(&mut self, line: &[u8], output: &mut Vec<u8>) {
         let mut frame = [0; LONGEST_FRAME];
         let [a, b] = &mut self.records;
-        let answer = text([a, b], &mut self.book, self.count, line, &mut frame);
+        let answer = super::line([a, b], &mut self.book, self.count, line, &mut frame);
         line::append(&[first_byte(answer.side)], output);
         append_answer(&answer.end, &frame, output);
         self.count = answer.count;
