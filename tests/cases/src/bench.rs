@@ -8,6 +8,7 @@ mod scene;
 mod tests;
 
 pub use desk::{Bench, Lent, Named, Reference, Reply};
+pub use scene::deliver;
 
 use crate::coverage::Coverage;
 use crate::group::{Group, Score};

@@ -6,7 +6,7 @@ use crate::random::Random;
 use crate::records::sound;
 use crate::sample::{hex_digits, FRAME_KINDS};
 use reference::bench::book::{self, Place, BOOK, HEAD, PLACE, PLACES};
-use reference::bench::{self, Side, DELIVER, REQUEST_A, REQUEST_B};
+use reference::bench::{self, Side, DELIVER};
 use reference::frame::LONGEST_FRAME;
 use reference::line;
 use reference::record::RECORD;
@@ -136,7 +136,10 @@ impl Scene {
             0 => random.bytes_within(0..=90),
             1 => near::frame(random, record),
             2 => near::request(random, record),
-            3 => [&[lead(random)], &near::frame(random, record)[..]].concat(),
+            3 => {
+                let lead = random.pick(&Side::BOTH).lead();
+                [&[lead], &near::frame(random, record)[..]].concat()
+            }
             4 => [&[DELIVER], &random.bytes_within(0..=4)[..]].concat(),
             5 => [&[random.byte()], &self.request(random)[1..]].concat(),
             6 | 7 => deliver(self.number_beyond(random)),
@@ -148,10 +151,9 @@ impl Scene {
 
     /// A request of some end.
     fn request(&self, random: &mut Random) -> Vec<u8> {
-        let lead = lead(random);
-        let side = Side::of(lead - REQUEST_A).expect("the lead names an end");
+        let side = random.pick(&Side::BOTH);
         let request = near::request(random, &self.records[side.index()]);
-        [&[lead], &request[..]].concat()
+        [&[side.lead()], &request[..]].concat()
     }
 
     /// A request of some end with a fault.
@@ -194,13 +196,8 @@ impl Scene {
     }
 }
 
-/// The first byte of a line with a request.
-fn lead(random: &mut Random) -> u8 {
-    random.pick(&[REQUEST_A, REQUEST_B])
-}
-
-/// The delivery of the frame of this number.
-fn deliver(number: usize) -> Vec<u8> {
+/// The bytes of a line that delivers the frame of this number.
+pub fn deliver(number: usize) -> Vec<u8> {
     let [high, low] = (number as u16).to_be_bytes();
     vec![DELIVER, high, low]
 }
