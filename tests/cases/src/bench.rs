@@ -7,7 +7,8 @@ mod scene;
 #[cfg(test)]
 mod tests;
 
-pub use desk::{Bench, Lent, Named, Reference, Reply, TextBench};
+pub use desk::{Bench, Lent, Named, Reference, Reply};
+pub use scene::deliver;
 
 use crate::coverage::Coverage;
 use crate::group::{Group, Score};
@@ -15,6 +16,7 @@ use crate::random::Random;
 use call::Buffers;
 use reference::bench::book::{self, Place};
 use reference::bench::{Order, Side};
+use reference::line;
 use scene::Scene;
 
 /// So many scenes meet lines in a round, and so many lines each.
@@ -32,11 +34,6 @@ pub fn compare<B: Bench>(rounds: usize) -> Score {
     [calls, coverage.report()].into_iter().sum()
 }
 
-/// Compares the generated lines of text, so many rounds of 10,000, and reports them.
-pub fn compare_texts<T: TextBench>(rounds: usize) -> Score {
-    texts::<T>(rounds).report()
-}
-
 /// As `compare`, without a report of the steps, which are noted.
 fn calls<B: Bench>(rounds: usize, coverage: &mut Coverage) -> Score {
     let lines = lines::<B>(rounds, coverage);
@@ -45,52 +42,34 @@ fn calls<B: Bench>(rounds: usize, coverage: &mut Coverage) -> Score {
 }
 
 /// The end that a bench with these places in use calls with this line, and the message for it.
-pub fn meeting<'a>(used: &'a [Place], line: &'a [u8]) -> Option<(Side, &'a [u8])> {
-    match Order::read(line).ok()? {
-        Order::Request(side, request) => Some((side, request)),
+pub fn meeting(used: &[Place], line: &[u8]) -> Option<(Side, Vec<u8>)> {
+    let bytes = line::read(line).ok()?;
+    match Order::read(&bytes).ok()? {
+        Order::Request(side, request) => Some((side, request.to_vec())),
         Order::Delivery(number) => {
             let (sender, frame) = book::find(used, number).ok()?;
-            Some((sender.other(), frame))
+            Some((sender.other(), frame.to_vec()))
         }
     }
 }
 
 /// Lines of all sorts that benches of all sorts meet.
 fn lines<B: Bench>(rounds: usize, coverage: &mut Coverage) -> Group {
-    let expected = &[0, 3, 4, 5, 6, 7, 8, 9, 10, 11, 12, 13, 14];
-    let mut group = Group::new("bench lines", expected);
-    for_each_line(rounds, 40, |random, scene| {
-        let line = scene.line(random);
-        let buffers = Buffers::any(random, scene, &line);
-        let number = buffers.compare_line(&mut group, B::line, Reference::line);
-        if !matches!(number, 11 | 12) {
-            see(coverage, scene, &line);
-        }
-    });
-    group
-}
-
-/// The same lines as text, some with wrong characters or lengths.
-fn texts<T: TextBench>(rounds: usize) -> Group {
     let expected = &[0, 1, 2, 3, 4, 5, 6, 7, 8, 9, 10, 11, 12, 13, 14];
-    let mut group = Group::new("bench lines of text", expected);
-    for_each_line(rounds, 42, |random, scene| {
-        let text = scene.text(random);
-        let buffers = Buffers::any(random, scene, &text);
-        buffers.compare_line(&mut group, T::text, Reference::text);
-    });
-    group
-}
-
-/// Makes one case for each line of so many rounds.
-fn for_each_line(rounds: usize, seed: u64, mut case: impl FnMut(&mut Random, &Scene)) {
-    let mut random = Random::new(seed);
+    let mut group = Group::new("bench lines", expected);
+    let mut random = Random::new(40);
     for _ in 0..rounds * SCENES {
         let scene = Scene::any(&mut random);
         for _ in 0..LINES {
-            case(&mut random, &scene);
+            let line = scene.line(&mut random);
+            let buffers = Buffers::any(&mut random, &scene, &line);
+            let number = buffers.compare_line::<B>(&mut group);
+            if !matches!(number, 11 | 12) {
+                see(coverage, &scene, &line);
+            }
         }
     }
+    group
 }
 
 /// The question, asked where there is a frame to name, and where there is none or it is refused.
@@ -115,6 +94,6 @@ fn questions<B: Bench>(rounds: usize) -> [Group; 2] {
 /// Notes the step that this line makes, if it makes one.
 fn see(coverage: &mut Coverage, scene: &Scene, line: &[u8]) {
     if let Some((side, message)) = meeting(scene.used(), line) {
-        coverage.see(&scene.records[side.index()], message);
+        coverage.see(&scene.records[side.index()], &message);
     }
 }

@@ -1,5 +1,6 @@
 //! The first implementation beside the reference.
 
+mod bench;
 mod call;
 mod codec;
 pub mod first;

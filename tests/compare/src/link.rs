@@ -93,7 +93,7 @@ impl End for First {
 }
 
 /// A reply whose numbers a call has to set.
-fn untold() -> Reply {
+pub fn untold() -> Reply {
     Reply {
         state: u8::MAX,
         notice: u8::MAX,

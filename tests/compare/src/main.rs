@@ -5,13 +5,16 @@ use compare::first::First;
 use compare::{lines, messages, trips};
 use std::process::ExitCode;
 
-/// More than two million calls on lent buffers.
-const ROUNDS: usize = 14;
+/// More than two million calls of an end on lent buffers.
+const END_ROUNDS: usize = 14;
+/// More than half a million calls of a bench.
+const BENCH_ROUNDS: usize = 52;
 
 fn main() -> ExitCode {
     let groups = [lines::groups(), messages::groups(), trips::groups()];
     let codec: Score = groups.iter().flatten().map(Group::report).sum();
-    let calls = cases::lent::compare::<First>(ROUNDS);
-    let score: Score = [codec, calls].into_iter().sum();
+    let end = cases::lent::compare::<First>(END_ROUNDS);
+    let bench = cases::bench::compare::<First>(BENCH_ROUNDS);
+    let score: Score = [codec, end, bench].into_iter().sum();
     score.conclude()
 }

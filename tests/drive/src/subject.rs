@@ -41,9 +41,8 @@ impl Subject for bench::program::Program {
     const LEAD: usize = 2;
 
     fn meeting(&self, line: &[u8]) -> Option<(&[u8; RECORD], Vec<u8>)> {
-        let bytes = line::read(line).ok()?;
-        let (side, message) = cases::bench::meeting(self.used(), &bytes)?;
-        Some((self.record(side), message.to_vec()))
+        let (side, message) = cases::bench::meeting(self.used(), line)?;
+        Some((self.record(side), message))
     }
 }
 

@@ -27,47 +27,13 @@ pub struct Answer<'a> {
     pub count: usize,
 }
 
-/// A bench line in bytes: questions 11, 12, 3 to 10, 13 and 14, then its step.
+/// A bench line, without its line feed: questions 11, 12, 1 to 10, 13 and 14, then its step. Where
+/// it is refused before it names an end, the answer is about A.
 pub fn line<'a>(
-    records: [&mut [u8]; 2],
-    book: &'a mut [u8],
-    count: usize,
-    line: &[u8],
-    out: &mut [u8],
-) -> Answer<'a> {
-    answer(records, book, count, Ok(line), out)
-}
-
-/// A bench line as text, without its line feed: the same with questions 1 and 2 after 12.
-pub fn text<'a>(
-    records: [&mut [u8]; 2],
-    book: &'a mut [u8],
-    count: usize,
-    text: &[u8],
-    out: &mut [u8],
-) -> Answer<'a> {
-    let line = line::read(text);
-    let line = line.as_deref().map_err(|&refusal| refusal);
-    answer(records, book, count, line, out)
-}
-
-/// The numbers of all frames in the book whose delivery now would be accepted and change the
-/// receiver's record, in their order. Questions 11 and 12 come first.
-pub fn changing(records: [&[u8]; 2], book: &[u8], count: usize) -> Result<Vec<usize>, Refusal> {
-    let [a, b] = records;
-    let records = [lent(a)?, lent(b)?];
-    let (places, _) = lent::<BOOK>(book)?.as_chunks();
-    let used = places.get(..count).ok_or(Refusal::Unsound)?;
-    let bench = Bench::new(records, used)?;
-    Ok((0..count).filter(|&number| bench.changes(number)).collect())
-}
-
-/// Answers a line. Where it is refused before it names an end, the answer is about A.
-fn answer<'a>(
     mut records: [&mut [u8]; 2],
     book: &'a mut [u8],
     count: usize,
-    line: Result<&[u8], Refusal>,
+    line: &[u8],
     out: &mut [u8],
 ) -> Answer<'a> {
     let [a, b] = &mut records;
@@ -78,12 +44,30 @@ fn answer<'a>(
     })
 }
 
+/// The number of the first frame in the book whose delivery now would be accepted and change the
+/// receiver's record, if there is one. Questions 11 and 12 come first.
+pub fn some_frame(
+    records: [&[u8]; 2],
+    book: &[u8],
+    count: usize,
+) -> Result<Option<usize>, Refusal> {
+    let bench = Bench::new(records, book, count)?;
+    let mut changing = bench.changing();
+    Ok(changing.next())
+}
+
+/// The numbers of all such frames, in their order.
+pub fn changing(records: [&[u8]; 2], book: &[u8], count: usize) -> Result<Vec<usize>, Refusal> {
+    let bench = Bench::new(records, book, count)?;
+    Ok(bench.changing().collect())
+}
+
 /// All questions in their order, then the step. A refusal that is told here has named no end.
 fn make<'a>(
     records: [&mut [u8]; 2],
     book: &'a mut [u8],
     count: usize,
-    line: Result<&[u8], Refusal>,
+    line: &[u8],
     out: &mut [u8],
 ) -> Result<Answer<'a>, Refusal> {
     let [a, b] = records;
@@ -91,8 +75,9 @@ fn make<'a>(
     let (places, _) = start::<BOOK>(book)?.as_chunks_mut::<PLACE>();
     let out = start::<LONGEST_FRAME>(out)?;
     let (used, free) = places.split_at_mut_checked(count).ok_or(Refusal::Unsound)?;
-    let bench = Bench::new(records.each_ref().map(|record| &**record), used)?;
-    let step = bench.step(Order::read(line?)?)?;
+    let bench = Bench::sound(records.each_ref().map(|record| &**record), used)?;
+    let bytes = line::read(line)?;
+    let step = bench.step(Order::read(&bytes)?)?;
     let mut count = count;
     if step.end.number == 0 {
         count += step.store(records, free, out);
@@ -128,8 +113,17 @@ struct Step<'a> {
 }
 
 impl<'r, 'a> Bench<'r, 'a> {
+    /// Questions 11 and 12 of a bench that is only read.
+    fn new(records: [&'r [u8]; 2], book: &'a [u8], count: usize) -> Result<Self, Refusal> {
+        let [a, b] = records;
+        let records = [lent(a)?, lent(b)?];
+        let (places, _) = lent::<BOOK>(book)?.as_chunks();
+        let used = places.get(..count).ok_or(Refusal::Unsound)?;
+        Self::sound(records, used)
+    }
+
     /// Question 12 of both records.
-    fn new(records: [&'r [u8; RECORD]; 2], used: &'a [Place]) -> Result<Self, Refusal> {
+    fn sound(records: [&'r [u8; RECORD]; 2], used: &'a [Place]) -> Result<Self, Refusal> {
         for record in records {
             Record::read(&mut record.clone())?;
         }
@@ -173,6 +167,12 @@ impl<'r, 'a> Bench<'r, 'a> {
             record,
             frame,
         }
+    }
+
+    /// The numbers of the frames whose delivery would be accepted and change the receiver's
+    /// record.
+    fn changing(&self) -> impl Iterator<Item = usize> + '_ {
+        (0..self.used.len()).filter(|&number| self.changes(number))
     }
 
     /// Would the delivery of this frame be accepted and change the receiver's record?

@@ -1,6 +1,6 @@
 //! One call, the buffers lent to it, and what it answers and leaves there.
 
-use super::desk::{Bench, Lent, Named, Reference, Reply, Take};
+use super::desk::{Bench, Lent, Named, Reference, Reply};
 use super::scene::Scene;
 use crate::group::Group;
 use crate::guarded::Guarded;
@@ -55,10 +55,10 @@ impl Buffers {
         }
     }
 
-    /// One case: an implementation takes the line, and the reference does. Gives the right number.
-    pub fn compare_line(&self, group: &mut Group, found: Take, right: Take) -> u8 {
-        let found = self.after(|buffers| buffers.line(found));
-        let right = self.after(|buffers| buffers.line(right));
+    /// One case: this implementation and the reference take the line. Gives the right number.
+    pub fn compare_line<B: Bench>(&self, group: &mut Group) -> u8 {
+        let found = self.after(Self::line::<B>);
+        let right = self.after(Self::line::<Reference>);
         let number = right.reply.end.number;
         group.check(self, number, &found, &right);
         number
@@ -67,8 +67,8 @@ impl Buffers {
     /// One case, in the first group if there is a frame to name, else in the second: what this
     /// implementation names is right.
     pub fn compare_question<B: Bench>(&self, groups: &mut [Group; 2]) {
-        let found = self.after(|buffers| buffers.ask::<B>());
-        let mut right = self.after(|buffers| buffers.ask::<Reference>());
+        let found = self.after(Self::name::<B>);
+        let mut right = self.after(Self::name::<Reference>);
         let group = &mut groups[usize::from(right.reply.frame.is_none())];
         if self.is_right(found.reply.frame) {
             right.reply.frame = found.reply.frame;
@@ -94,19 +94,19 @@ impl Buffers {
         }
     }
 
-    /// The line, taken so.
-    fn line(&mut self, take: Take) -> Reply {
+    /// The line, taken by this implementation.
+    fn line<B: Bench>(&mut self) -> Reply {
         let lent = Lent {
             records: self.records.each_mut().map(Guarded::bytes_mut),
             book: self.book.bytes_mut(),
             count: self.count,
             out: self.out.bytes_mut(),
         };
-        take(lent, self.line.bytes())
+        B::line(lent, self.line.bytes())
     }
 
     /// The question, asked of this implementation.
-    fn ask<B: Bench>(&mut self) -> Named {
+    fn name<B: Bench>(&mut self) -> Named {
         let records = self.records.each_ref().map(Guarded::bytes);
         B::name(records, self.book.bytes(), self.count)
     }

@@ -1,26 +1,17 @@
 //! The calls that an implementation of a bench offers.
 
 use crate::lent;
-use reference::bench::{self, Answer, Side};
+use reference::bench;
 use reference::refusal;
 
 /// One implementation.
 pub trait Bench {
-    /// A bench line in bytes.
+    /// A bench line, without its line feed.
     fn line(lent: Lent, line: &[u8]) -> Reply;
     /// Names some frame in the book whose delivery now would be accepted and change the
     /// receiver's record.
     fn name(records: [&[u8]; 2], book: &[u8], count: usize) -> Named;
 }
-
-/// One implementation that takes lines of text.
-pub trait TextBench {
-    /// A bench line as text, without its line feed.
-    fn text(lent: Lent, text: &[u8]) -> Reply;
-}
-
-/// How an implementation takes a line.
-pub type Take = fn(Lent, &[u8]) -> Reply;
 
 /// What is lent to a bench line.
 pub struct Lent<'a> {
@@ -36,8 +27,8 @@ pub struct Lent<'a> {
 /// What a bench line is answered.
 #[derive(Clone, Debug, Default, PartialEq)]
 pub struct Reply {
-    /// The end that the answer is about.
-    pub side: Side,
+    /// The end that the answer is about: 0 is A, 1 is B.
+    pub side: u8,
     /// The number, that end's state and numbers, and what its call did. The block stands in the
     /// book.
     pub end: lent::Reply,
@@ -61,33 +52,18 @@ impl Bench for Reference {
     fn line(lent: Lent, line: &[u8]) -> Reply {
         let start = lent.book.as_ptr();
         let answer = bench::line(lent.records, lent.book, lent.count, line, lent.out);
-        Reply::of(&answer, start)
+        Reply {
+            side: answer.side as u8,
+            end: lent::Reply::of(&answer.end, start),
+            count: answer.count,
+        }
     }
 
     fn name(records: [&[u8]; 2], book: &[u8], count: usize) -> Named {
-        let changing = bench::changing(records, book, count);
+        let named = bench::some_frame(records, book, count);
         Named {
-            frame: changing.iter().flatten().next().copied(),
-            number: refusal::number(changing),
-        }
-    }
-}
-
-impl TextBench for Reference {
-    fn text(lent: Lent, text: &[u8]) -> Reply {
-        let start = lent.book.as_ptr();
-        let answer = bench::text(lent.records, lent.book, lent.count, text, lent.out);
-        Reply::of(&answer, start)
-    }
-}
-
-impl Reply {
-    /// An answer of the reference, with a book that starts here.
-    fn of(answer: &Answer, start: *const u8) -> Self {
-        Self {
-            side: answer.side,
-            end: lent::Reply::of(&answer.end, start),
-            count: answer.count,
+            number: refusal::number(named),
+            frame: named.ok().flatten(),
         }
     }
 }

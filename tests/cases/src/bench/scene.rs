@@ -6,13 +6,16 @@ use crate::random::Random;
 use crate::records::sound;
 use crate::sample::{hex_digits, FRAME_KINDS};
 use reference::bench::book::{self, Place, BOOK, HEAD, PLACE, PLACES};
-use reference::bench::{self, Side, DELIVER, REQUEST_A, REQUEST_B};
+use reference::bench::{self, Side, DELIVER};
 use reference::frame::LONGEST_FRAME;
-use reference::line::{self, LONGEST_LINE};
+use reference::line;
 use reference::record::RECORD;
 
 /// A session has so many lines at most.
 const SESSION: usize = 900;
+/// Lengths of lines at the edges, and some far above that are small where only their last bytes are
+/// looked at.
+const LENGTHS: [usize; 8] = [154, 155, 156, 157, 158, 160, 256 + 6, (1 << 16) + 6];
 
 /// Two records, the book and its count.
 pub struct Scene {
@@ -45,10 +48,11 @@ impl Scene {
             count: 0,
         };
         for _ in 0..random.within(0..=SESSION) {
-            let line = match random.within(0..=1) {
+            let bytes = match random.within(0..=1) {
                 0 => scene.request(random),
                 _ => scene.delivery(random),
             };
+            let line = line::write(&bytes);
             let [a, b] = &mut scene.records;
             let out = &mut [0; LONGEST_FRAME];
             scene.count = bench::line([a, b], &mut scene.book, scene.count, &line, out).count;
@@ -108,14 +112,34 @@ impl Scene {
         }
     }
 
-    /// A line for this scene: mostly a request or a delivery, else one with a fault.
+    /// A line for this scene, now and then with wrong characters or a wrong length.
     pub fn line(&self, random: &mut Random) -> Vec<u8> {
+        let mut line = line::write(&self.bytes(random));
+        match random.within(0..=31) {
+            0 | 1 => spoil(random, &mut line),
+            2 => line.truncate(random.within(0..=line.len())),
+            3 => line.extend(random.bytes_within(1..=3)),
+            4 => line = random.bytes_within(0..=200),
+            5 => {
+                let length = random.pick(&LENGTHS);
+                line = hex_digits(random, length);
+            }
+            _ => {}
+        }
+        line
+    }
+
+    /// The bytes of a line: mostly of a request or a delivery, else of one with a fault.
+    fn bytes(&self, random: &mut Random) -> Vec<u8> {
         let record = &self.records[random.within(0..=1)];
         match random.within(0..=31) {
             0 => random.bytes_within(0..=90),
             1 => near::frame(random, record),
             2 => near::request(random, record),
-            3 => [&[lead(random)], &near::frame(random, record)[..]].concat(),
+            3 => {
+                let lead = random.pick(&Side::BOTH).lead();
+                [&[lead], &near::frame(random, record)[..]].concat()
+            }
             4 => [&[DELIVER], &random.bytes_within(0..=4)[..]].concat(),
             5 => [&[random.byte()], &self.request(random)[1..]].concat(),
             6 | 7 => deliver(self.number_beyond(random)),
@@ -125,29 +149,11 @@ impl Scene {
         }
     }
 
-    /// A line of text for this scene, now and then with wrong characters or a wrong length.
-    pub fn text(&self, random: &mut Random) -> Vec<u8> {
-        let mut text = line::write(&self.line(random));
-        match random.within(0..=15) {
-            0 | 1 => spoil(random, &mut text),
-            2 => text.truncate(random.within(0..=text.len())),
-            3 => text.extend(random.bytes_within(1..=3)),
-            4 => text = random.bytes_within(0..=200),
-            5 => {
-                let length = random.within(LONGEST_LINE - 2..=LONGEST_LINE + 4);
-                text = hex_digits(random, length);
-            }
-            _ => {}
-        }
-        text
-    }
-
     /// A request of some end.
     fn request(&self, random: &mut Random) -> Vec<u8> {
-        let lead = lead(random);
-        let side = Side::of(lead - REQUEST_A).expect("the lead names an end");
+        let side = random.pick(&Side::BOTH);
         let request = near::request(random, &self.records[side.index()]);
-        [&[lead], &request[..]].concat()
+        [&[side.lead()], &request[..]].concat()
     }
 
     /// A request of some end with a fault.
@@ -190,13 +196,8 @@ impl Scene {
     }
 }
 
-/// The first byte of a line with a request.
-fn lead(random: &mut Random) -> u8 {
-    random.pick(&[REQUEST_A, REQUEST_B])
-}
-
-/// The delivery of the frame of this number.
-fn deliver(number: usize) -> Vec<u8> {
+/// The bytes of a line that delivers the frame of this number.
+pub fn deliver(number: usize) -> Vec<u8> {
     let [high, low] = (number as u16).to_be_bytes();
     vec![DELIVER, high, low]
 }

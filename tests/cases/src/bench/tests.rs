@@ -1,10 +1,11 @@
 //! The comparison finds what is wrong, and nothing else.
 
-use super::{calls, compare, compare_texts, Bench, Lent, Named, Reference, Reply, TextBench};
+use super::{calls, compare, Bench, Lent, Named, Reference, Reply};
 use crate::coverage::Coverage;
 use reference::bench::book::{self, Place, BOOK, HEAD, PLACE, PLACES};
-use reference::bench::{self, Side, DELIVER, REQUEST_A};
+use reference::bench::{self, Order, Side};
 use reference::frame::LONGEST_FRAME;
+use reference::line;
 use reference::record::{Record, RECORD};
 use reference::Frame;
 
@@ -61,7 +62,8 @@ fn assert_refused(before: &All, after: &All, count: usize, reply: &Reply) {
 /// written to the buffer and, whole, to the next place; all other bytes stay.
 fn assert_accepted(before: &All, after: &All, count: usize, reply: &Reply) {
     let mut right = before.clone();
-    let end = reply.side.index();
+    let side = Side::of(reply.side).unwrap();
+    let end = side.index();
     let record = *after[end].first_chunk::<RECORD>().unwrap();
     assert!(Record::read(&mut record.clone()).is_ok());
     right[end][..RECORD].copy_from_slice(&record);
@@ -69,7 +71,7 @@ fn assert_accepted(before: &All, after: &All, count: usize, reply: &Reply) {
     if sent > 0 {
         let frame = &after[3][..sent];
         assert!(Frame::read(frame).is_ok());
-        right[2][count * PLACE..][..PLACE].copy_from_slice(&book::place(reply.side, frame));
+        right[2][count * PLACE..][..PLACE].copy_from_slice(&book::place(side, frame));
         right[3][..sent].copy_from_slice(frame);
     }
     assert!(*after == right);
@@ -81,11 +83,10 @@ fn assert_accepted(before: &All, after: &All, count: usize, reply: &Reply) {
 fn assert_named(records: [&[u8]; 2], book: &[u8], count: usize, frame: Option<usize>) {
     let changes = |number: usize| {
         let [mut a, mut b] = records.map(<[u8]>::to_vec);
-        let [high, low] = (number as u16).to_be_bytes();
         let out = &mut [0; LONGEST_FRAME];
-        let line = [DELIVER, high, low];
+        let line = format!("52{number:04x}");
         let mut book = book.to_vec();
-        let answer = bench::line([&mut a, &mut b], &mut book, count, &line, out);
+        let answer = bench::line([&mut a, &mut b], &mut book, count, line.as_bytes(), out);
         answer.end.number == 0 && [a, b] != records.map(<[u8]>::to_vec)
     };
     let last = frame.map_or(count, |frame| frame + 1);
@@ -164,7 +165,7 @@ impl<const FAULT: u8> Bench for Broken<FAULT> {
         let before = book.to_vec();
         let mut fresh = [0; RECORD];
         let mut longer = [&book[..], &[0; BOOK]].concat();
-        let forgets_b = FAULT == FORGETS_THE_OTHER_RECORD && line.starts_with(&[REQUEST_A]);
+        let forgets_b = FAULT == FORGETS_THE_OTHER_RECORD && line.starts_with(b"50");
         let forgets_length = FAULT == FORGETS_THE_BOOKS_LENGTH && book.len() < BOOK;
         let broken = Lent {
             records: [&mut *a, if forgets_b { &mut fresh } else { &mut *b }],
@@ -191,7 +192,7 @@ impl<const FAULT: u8> Bench for Broken<FAULT> {
                 out[reply.end.sent] ^= 1;
             }
             STORES_THE_RECORD_BEFORE_14 if reply.end.number == 14 => {
-                [a, b][reply.side.index()][RECORD - 1] ^= 1;
+                [a, b][usize::from(reply.side)][RECORD - 1] ^= 1;
             }
             _ => {}
         }
@@ -220,7 +221,7 @@ impl<const FAULT: u8> Broken<FAULT> {
         match FAULT {
             FORGETS_THE_COUNT if end.sent > 0 => reply.count = count,
             ASKS_14_OF_ALL if count == PLACES && end.number == 0 => end.number = 14,
-            TELLS_OF_A_AS_IT_REFUSES if end.number > 0 => reply.side = Side::A,
+            TELLS_OF_A_AS_IT_REFUSES if end.number > 0 => reply.side = 0,
             BLOCK_IN_THE_FRAME if end.notice == 5 => end.block = 14..15,
             ASKS_THE_REST_OF_THE_PLACE if place.is_some_and(has_rest) => end.number = 13,
             TAKES_A_LENGTH_OF_8 if end.number == 13 && place.is_some_and(|place| place[1] == 8) => {
@@ -233,8 +234,8 @@ impl<const FAULT: u8> Broken<FAULT> {
 
 /// The number of the frame that a line delivers; if it delivers none, a number beyond the book.
 fn number(line: &[u8]) -> usize {
-    match *line {
-        [DELIVER, high, low] => usize::from(u16::from_be_bytes([high, low])),
+    match line::read(line).as_deref().map(Order::read) {
+        Ok(Ok(Order::Delivery(number))) => number,
         _ => PLACES,
     }
 }
@@ -273,7 +274,7 @@ fn every_fault_of_a_line_is_found() {
     assert!(failed.iter().all(|&failed| failed > 0), "{failed:?}");
 }
 
-/// Takes text with a fault.
+/// The reference with a fault as it reads a line.
 struct Misreading<const FAULT: u8>;
 
 const ASKS_1_BEFORE_12: u8 = 0;
@@ -281,41 +282,46 @@ const ASKS_2_BEFORE_1: u8 = 1;
 const TELLS_OF_B_AS_2_REFUSES: u8 = 2;
 const TAKES_CAPITALS: u8 = 3;
 const TAKES_158_DIGITS: u8 = 4;
+const CUTS_THE_LENGTH: u8 = 5;
 
-impl<const FAULT: u8> TextBench for Misreading<FAULT> {
-    fn text(lent: Lent, text: &[u8]) -> Reply {
+impl<const FAULT: u8> Bench for Misreading<FAULT> {
+    fn line(lent: Lent, line: &[u8]) -> Reply {
         let is_digit = |character: &u8| matches!(character, b'0'..=b'9' | b'a'..=b'f');
-        let lower = text.to_ascii_lowercase();
+        let lower = line.to_ascii_lowercase();
         let mut reply = match FAULT {
-            TAKES_CAPITALS => Reference::text(lent, &lower),
-            TAKES_158_DIGITS if text.len() == 158 => Reference::text(lent, &text[..156]),
-            _ => Reference::text(lent, text),
+            TAKES_CAPITALS => Reference::line(lent, &lower),
+            TAKES_158_DIGITS if line.len() == 158 => Reference::line(lent, &line[..156]),
+            CUTS_THE_LENGTH => Reference::line(lent, &line[..line.len() & 0xffff]),
+            _ => Reference::line(lent, line),
         };
         match FAULT {
-            ASKS_1_BEFORE_12 if text.len() % 2 == 1 => reply.end.number = 1,
-            ASKS_2_BEFORE_1 if reply.end.number == 1 && !text.iter().all(is_digit) => {
+            ASKS_1_BEFORE_12 if line.len() % 2 == 1 => reply.end.number = 1,
+            ASKS_2_BEFORE_1 if reply.end.number == 1 && !line.iter().all(is_digit) => {
                 reply.end.number = 2;
             }
-            TELLS_OF_B_AS_2_REFUSES if reply.end.number == 2 && text.starts_with(b"51") => {
-                reply.side = Side::B;
+            TELLS_OF_B_AS_2_REFUSES if reply.end.number == 2 && line.starts_with(b"51") => {
+                reply.side = 1;
             }
             _ => {}
         }
         reply
     }
+
+    fn name(records: [&[u8]; 2], book: &[u8], count: usize) -> Named {
+        Reference::name(records, book, count)
+    }
 }
 
 #[test]
-fn every_fault_with_text_is_found() {
-    assert_eq!(compare_texts::<Reference>(1).failed, 0);
+fn every_fault_of_reading_is_found() {
     let failed = [
-        compare_texts::<Misreading<ASKS_1_BEFORE_12>>(1),
-        compare_texts::<Misreading<ASKS_2_BEFORE_1>>(1),
-        compare_texts::<Misreading<TELLS_OF_B_AS_2_REFUSES>>(1),
-        compare_texts::<Misreading<TAKES_CAPITALS>>(1),
-        compare_texts::<Misreading<TAKES_158_DIGITS>>(1),
-    ]
-    .map(|score| score.failed);
+        failed::<Misreading<ASKS_1_BEFORE_12>>(),
+        failed::<Misreading<ASKS_2_BEFORE_1>>(),
+        failed::<Misreading<TELLS_OF_B_AS_2_REFUSES>>(),
+        failed::<Misreading<TAKES_CAPITALS>>(),
+        failed::<Misreading<TAKES_158_DIGITS>>(),
+        failed::<Misreading<CUTS_THE_LENGTH>>(),
+    ];
     assert!(failed.iter().all(|&failed| failed > 0), "{failed:?}");
 }
 

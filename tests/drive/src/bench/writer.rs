@@ -3,12 +3,13 @@
 use crate::script::Script;
 use crate::sessions::{request, Taken};
 use crate::subject::Subject;
+use cases::bench::deliver;
 use cases::random::Random;
 use cases::records::waiting;
 use cases::sample::message;
 use reference::bench::book::PLACES;
 use reference::bench::program::Program;
-use reference::bench::{Side, DELIVER, REQUEST_A, REQUEST_B};
+use reference::bench::Side;
 use reference::request::{CONNECT, END_LISTENING, SEND, TIMER};
 use reference::{line, State};
 
@@ -47,17 +48,12 @@ impl Writer {
 
     /// A request of this end; gives its number.
     pub fn request(&mut self, side: Side, request: &[u8]) -> u8 {
-        let first = match side {
-            Side::A => REQUEST_A,
-            Side::B => REQUEST_B,
-        };
-        self.line(&[&[first], request].concat())
+        self.line(&[&[side.lead()], request].concat())
     }
 
     /// The delivery of this frame; gives its number.
     pub fn deliver(&mut self, number: usize) -> u8 {
-        let [high, low] = (number as u16).to_be_bytes();
-        self.line(&[DELIVER, high, low])
+        self.line(&deliver(number))
     }
 
     /// So many lines of a session of this manner.

@@ -1,9 +1,11 @@
 //! How many lines a second line programs answer: each runs the same long script from a file into
 //! nothing, in turns.
 //!
-//! The command line names the programs, and one to compare with last.
+//! The command line names the sort of the programs, `line` (one end) or `bench`, then the programs,
+//! and one to compare with last.
 
-use drive::sessions::session;
+use drive::script::Script;
+use drive::{bench, sessions};
 use std::env;
 use std::ffi::OsStr;
 use std::fs::{self, File};
@@ -11,17 +13,22 @@ use std::io::Result;
 use std::process::{Command, ExitCode, Stdio};
 use std::time::{Duration, Instant};
 
+/// So many calls have the two ends of a session, and half of them the one that is asked.
 const CALLS: usize = 1_000_000;
+/// So many lines has a session of a bench. Its book is soon full: from then on about half the lines
+/// are refused by 14, and most others are deliveries that are passed over.
+const LINES: usize = 500_000;
 const ROUNDS: u32 = 15;
 
 fn main() -> Result<ExitCode> {
-    let programs: Vec<_> = env::args_os().skip(1).collect();
-    if programs.is_empty() {
-        eprintln!("usage: pace PROGRAM..");
+    let mut words = env::args_os().skip(1);
+    let script = words.next().and_then(|sort| script(&sort));
+    let programs: Vec<_> = words.collect();
+    let (Some(script), [_, ..]) = (script, &programs[..]) else {
+        eprintln!("usage: pace line|bench PROGRAM..");
         return Ok(ExitCode::FAILURE);
-    }
+    };
     let path = env::temp_dir().join(format!("pace-{}", std::process::id()));
-    let [script, _] = session(700, CALLS);
     fs::write(&path, &script.0)?;
     let mut times = vec![Duration::MAX; programs.len()];
     for _ in 0..ROUNDS {
@@ -41,6 +48,18 @@ fn main() -> Result<ExitCode> {
         );
     }
     Ok(ExitCode::SUCCESS)
+}
+
+/// A long script for programs of this sort.
+fn script(sort: &OsStr) -> Option<Script> {
+    match sort.to_str()? {
+        "line" => {
+            let [script, _] = sessions::session(700, CALLS);
+            Some(script)
+        }
+        "bench" => Some(bench::sessions::session(1_700, LINES)),
+        _ => None,
+    }
 }
 
 /// The time of one run.

@@ -1,7 +1,7 @@
 //! The bench's line program: two fresh ends and an empty book, asked line by line.
 
 use super::book::{Place, BOOK, PLACE};
-use super::{text, Side, REQUEST_A, REQUEST_B};
+use super::Side;
 use crate::frame::LONGEST_FRAME;
 use crate::line;
 use crate::program::append_answer;
@@ -47,18 +47,10 @@ impl Lines for Program {
     fn line(&mut self, line: &[u8], output: &mut Vec<u8>) {
         let mut frame = [0; LONGEST_FRAME];
         let [a, b] = &mut self.records;
-        let answer = text([a, b], &mut self.book, self.count, line, &mut frame);
-        line::append(&[first_byte(answer.side)], output);
+        let answer = super::line([a, b], &mut self.book, self.count, line, &mut frame);
+        line::append(&[answer.side.lead()], output);
         append_answer(&answer.end, &frame, output);
         self.count = answer.count;
-    }
-}
-
-/// The byte before an answer line about this end.
-fn first_byte(side: Side) -> u8 {
-    match side {
-        Side::A => REQUEST_A,
-        Side::B => REQUEST_B,
     }
 }
 
@@ -89,6 +81,13 @@ mod tests {
             518005000000000100000001\n060000000100000001\n";
         assert_eq!(output(input), answers);
         assert_eq!(output(input.trim_end()), answers);
+    }
+
+    #[test]
+    fn the_story_of_a_refused_call() {
+        let input = include_str!("../../../../examples/story.txt");
+        let answers = include_str!("../../../../examples/story-answers.txt");
+        assert_eq!(output(input), answers);
     }
 
     #[test]

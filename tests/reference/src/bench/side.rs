@@ -1,5 +1,7 @@
 //! The two ends of a bench.
 
+use super::{REQUEST_A, REQUEST_B};
+
 /// One of the two ends, with its sender byte in the book.
 #[derive(Clone, Copy, Debug, Default, PartialEq, Eq)]
 #[repr(u8)]
@@ -23,6 +25,14 @@ impl Side {
         match self {
             Self::A => Self::B,
             Self::B => Self::A,
+        }
+    }
+
+    /// The first byte of a line with its request, and of an answer line about it.
+    pub fn lead(self) -> u8 {
+        match self {
+            Self::A => REQUEST_A,
+            Self::B => REQUEST_B,
         }
     }
 
@@ -52,5 +62,10 @@ mod tests {
             assert_eq!(side.other().other(), side);
             assert_eq!(Side::BOTH[side.index()], side);
         }
+    }
+
+    #[test]
+    fn leads_are_50_and_51() {
+        assert_eq!(Side::BOTH.map(Side::lead), [0x50, 0x51]);
     }
 }

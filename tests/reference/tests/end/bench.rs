@@ -5,6 +5,7 @@ use reference::bench::book::{place, Place, BOOK, HEAD, PLACE, PLACES};
 use reference::bench::{self, Side};
 use reference::frame::Signal::{Crack, Crao, Crpo, Dr, Drack, Rej, Reset};
 use reference::frame::LONGEST_FRAME;
+use reference::line;
 use reference::record::RECORD;
 use reference::State::{Answering, Calling, Closed, Closing, Listening};
 
@@ -65,8 +66,13 @@ impl Lent {
         self
     }
 
-    /// Takes the line in bytes; a refusal must leave everything and tell nothing.
-    fn line(&mut self, line: &[u8]) -> Told {
+    /// Takes a line of these bytes.
+    fn line(&mut self, bytes: &[u8]) -> Told {
+        self.text(&line::write(bytes))
+    }
+
+    /// Takes the line; a refusal must leave everything and tell nothing.
+    fn text(&mut self, line: &[u8]) -> Told {
         let before = self.clone();
         let [a, b] = &mut self.records;
         let answer = bench::line([a, b], &mut self.book, self.count, line, &mut self.out);
@@ -95,22 +101,15 @@ impl Lent {
         told
     }
 
-    /// The number of a line, and the end that is told of; the same as text.
-    fn asked(&self, line: &[u8]) -> (u8, Side) {
-        let told = self.clone().line(line);
-        let text = reference::line::write(line);
-        if (2..=156).contains(&text.len()) {
-            assert_eq!(self.asked_text(&text), (told.number, told.side));
-        }
-        (told.number, told.side)
+    /// The number of a line of these bytes, and the end that is told of.
+    fn asked(&self, bytes: &[u8]) -> (u8, Side) {
+        self.asked_text(&line::write(bytes))
     }
 
-    /// The number of a line of text, and the end that is told of.
-    fn asked_text(&self, text: &[u8]) -> (u8, Side) {
-        let mut lent = self.clone();
-        let [a, b] = &mut lent.records;
-        let answer = bench::text([a, b], &mut lent.book, lent.count, text, &mut lent.out);
-        (answer.end.number, answer.side)
+    /// The number of a line, and the end that is told of.
+    fn asked_text(&self, line: &[u8]) -> (u8, Side) {
+        let told = self.clone().text(line);
+        (told.number, told.side)
     }
 }
 
@@ -188,7 +187,7 @@ fn requests_are_asked_3_to_14() {
 #[test]
 fn a_line_without_an_end_is_not_known() {
     let lent = Lent::new([FRESH; 2], &[]);
-    for line in [&b""[..], &[0x40], &[0x44, 0], &[0x53], &[0x4f, 0x40]] {
+    for line in [&[0x40][..], &[0x44, 0], &[0x53], &[0x4f, 0x40]] {
         assert_eq!(lent.asked(line), (3, A));
     }
     assert_eq!(lent.asked(&signal(Crao, 1, 0)), (3, A));
@@ -334,7 +333,7 @@ fn the_block_handed_up_is_part_of_the_book() {
     let mut lent = Lent::new([FRESH, open(0, 0, &[])], &frames);
     let book = lent.book.as_ptr_range();
     let [a, b] = &mut lent.records;
-    let answer = bench::line([a, b], &mut lent.book, 2, &[0x52, 0, 1], &mut lent.out);
+    let answer = bench::line([a, b], &mut lent.book, 2, b"520001", &mut lent.out);
     let block = answer.end.block.unwrap().bytes();
     assert_eq!(block, b"block");
     let place = block.as_ptr().addr() - book.start.addr();

@@ -11,9 +11,14 @@ use Side::{A, B};
 
 const FRESH: Record = [0; RECORD];
 
+/// All frames that may be named; the first of them is named.
 fn changing(lent: &Lent) -> Result<Vec<usize>, Refusal> {
     let [a, b] = &lent.records;
-    bench::changing([a, b], &lent.book, lent.count)
+    let changing = bench::changing([a, b], &lent.book, lent.count);
+    let named = bench::some_frame([a, b], &lent.book, lent.count);
+    let first = changing.as_ref().map(|all| all.first().copied());
+    assert_eq!(named, first.map_err(|&refusal| refusal));
+    changing
 }
 
 #[test]

@@ -1,0 +1,103 @@
+//! The bench of the first implementation, through its C interface.
+
+use crate::first::First;
+use crate::link::untold;
+use cases::bench::{Bench, Lent, Named, Reply};
+
+/// The number that names no frame.
+const NO_FRAME: usize = 512;
+
+extern "C" {
+    fn dock_bench(
+        a: *mut u8,
+        a_len: usize,
+        b: *mut u8,
+        b_len: usize,
+        book: *mut u8,
+        book_len: usize,
+        count: *mut usize,
+        line: *const u8,
+        line_len: usize,
+        out: *mut u8,
+        out_len: usize,
+        end: *mut u8,
+        state: *mut u8,
+        notice: *mut u8,
+        local: *mut u32,
+        remote: *mut u32,
+        sent: *mut usize,
+        at: *mut usize,
+        block: *mut usize,
+    ) -> u8;
+
+    fn dock_some_frame(
+        a: *const u8,
+        a_len: usize,
+        b: *const u8,
+        b_len: usize,
+        book: *const u8,
+        book_len: usize,
+        count: usize,
+        frame: *mut usize,
+    ) -> u8;
+}
+
+// SAFETY of all calls: each pointer comes from a reference that lives as long as the call, and
+// each length is that of its slice.
+impl Bench for First {
+    fn line(lent: Lent, line: &[u8]) -> Reply {
+        let [a, b] = lent.records;
+        let mut reply = Reply {
+            side: u8::MAX,
+            end: untold(),
+            count: lent.count,
+        };
+        let (mut at, mut block) = (usize::MAX, usize::MAX);
+        reply.end.number = unsafe {
+            dock_bench(
+                a.as_mut_ptr(),
+                a.len(),
+                b.as_mut_ptr(),
+                b.len(),
+                lent.book.as_mut_ptr(),
+                lent.book.len(),
+                &mut reply.count,
+                line.as_ptr(),
+                line.len(),
+                lent.out.as_mut_ptr(),
+                lent.out.len(),
+                &mut reply.side,
+                &mut reply.end.state,
+                &mut reply.end.notice,
+                &mut reply.end.local,
+                &mut reply.end.remote,
+                &mut reply.end.sent,
+                &mut at,
+                &mut block,
+            )
+        };
+        reply.end.block = at..at.wrapping_add(block);
+        reply
+    }
+
+    fn name(records: [&[u8]; 2], book: &[u8], count: usize) -> Named {
+        let [a, b] = records;
+        let mut frame = usize::MAX;
+        let number = unsafe {
+            dock_some_frame(
+                a.as_ptr(),
+                a.len(),
+                b.as_ptr(),
+                b.len(),
+                book.as_ptr(),
+                book.len(),
+                count,
+                &mut frame,
+            )
+        };
+        Named {
+            number,
+            frame: (frame != NO_FRAME).then_some(frame),
+        }
+    }
+}

@@ -1,0 +1,104 @@
+//! Lines of a bench and its question. Each line gets both records anew, copies of 538 bytes that
+//! both implementations pay.
+
+use crate::measure::{compare, Both};
+use crate::sample::{record, BLOCK};
+use cases::bench::{Bench, Lent, Named, Reference, Reply};
+use cases::sample::message;
+use compare::first::First;
+use reference::bench::book::{place, PLACES};
+use reference::bench::Side;
+use reference::frame::{ACK, DATA, LONGEST_FRAME};
+use reference::record::RECORD;
+use reference::State;
+use std::hint::black_box;
+
+/// So many lines are timed at once.
+const LINES: u32 = 20_000;
+/// So many questions are timed at once.
+const QUESTIONS: u32 = 100;
+/// So many blocks were sent, as the book tells.
+const SENT: u32 = PLACES as u32 / 2;
+
+/// A bench and a line for it.
+struct Desk {
+    records: [[u8; RECORD]; 2],
+    book: Vec<u8>,
+    count: usize,
+    line: Vec<u8>,
+    out: [u8; LONGEST_FRAME],
+}
+
+impl Desk {
+    /// Two open ends. Of the blocks that A sent so many wait, and so many were handed up by B. The
+    /// book holds each DATA and the ACK after it, up to this count.
+    fn new(waiting: usize, handed_up: u32, count: usize, line: &str) -> Self {
+        let book = (0..SENT).flat_map(|number| {
+            let data = message(DATA, &[1, 1, number], BLOCK);
+            let ack = message(ACK, &[1, 1, number + 1], &[]);
+            [place(Side::A, &data), place(Side::B, &ack)]
+        });
+        Self {
+            records: [
+                record(State::Open, 1, [SENT, 0], waiting),
+                record(State::Open, 1, [0, handed_up], 0),
+            ],
+            book: book.flatten().collect(),
+            count,
+            line: line.as_bytes().to_vec(),
+            out: [0; LONGEST_FRAME],
+        }
+    }
+
+    /// Takes the line so. A frame sent goes to the same place of the book each time.
+    fn take(&mut self, take: fn(Lent, &[u8]) -> Reply) {
+        let [mut a, mut b] = *black_box(&self.records);
+        let lent = Lent {
+            records: [&mut a, &mut b],
+            book: &mut self.book,
+            count: self.count,
+            out: &mut self.out,
+        };
+        black_box(take(lent, black_box(&self.line)));
+        black_box([&a, &b]);
+    }
+
+    /// Asks the question so.
+    fn ask(&mut self, name: fn([&[u8]; 2], &[u8], usize) -> Named) {
+        let [a, b] = black_box(&self.records);
+        black_box(name([a, b], black_box(&self.book), self.count));
+    }
+}
+
+/// A line.
+const LINE: Both<Desk> = [
+    |desk| desk.take(First::line),
+    |desk| desk.take(Reference::line),
+];
+/// The question.
+const QUESTION: Both<Desk> = [
+    |desk| desk.ask(First::name),
+    |desk| desk.ask(Reference::name),
+];
+
+/// Measures typical lines, and the question on a full book.
+pub fn measure() {
+    let send = format!("504440{}", "78".repeat(64));
+    for (name, waiting, handed_up, count, line) in [
+        ("bench: send of 64", 0, SENT, PLACES - 1, &send[..]),
+        ("bench: DATA of 64", 0, SENT - 1, PLACES - 1, "5201fe"),
+        ("bench: passed over", 0, SENT, PLACES - 1, "520001"),
+        ("bench: refused by 2", 0, SENT, PLACES - 1, "zz"),
+        ("bench: refused by 14", 1, SENT, PLACES, "5045"),
+    ] {
+        let mut desk = Desk::new(waiting, handed_up, count, line);
+        compare(name, LINES, &mut desk, LINE);
+    }
+    for (name, waiting) in [
+        ("question: none of 512 frames", 0),
+        ("question: the last of 512 frames", 1),
+    ] {
+        let mut desk = Desk::new(waiting, SENT, PLACES, "");
+        compare(name, QUESTIONS, &mut desk, QUESTION);
+    }
+}

@@ -1,0 +1,86 @@
+//! The calls of an end. Each call gets its record anew, a copy of 538 bytes that both pay.
+
+use crate::measure::{self, Both};
+use crate::sample::{record, BLOCK};
+use cases::lent::{End, Reference, Reply};
+use cases::sample::message;
+use compare::first::First;
+use reference::frame::LONGEST_FRAME;
+use reference::record::RECORD;
+use reference::State;
+use std::hint::black_box;
+
+/// So many calls are timed at once.
+const BATCH: u32 = 20_000;
+
+/// A record and what is asked of it.
+struct Call {
+    record: [u8; RECORD],
+    message: Vec<u8>,
+    out: [u8; LONGEST_FRAME],
+}
+
+impl Call {
+    /// Makes the call so.
+    fn make(&mut self, call: fn(&mut [u8], &[u8], &mut [u8]) -> Reply) {
+        let mut record = *black_box(&self.record);
+        black_box(call(&mut record, black_box(&self.message), &mut self.out));
+        black_box(&record);
+    }
+}
+
+/// A frame that arrives.
+const RECEIVE: Both<Call> = [
+    |call| call.make(First::receive),
+    |call| call.make(Reference::receive),
+];
+/// A request.
+const REQUEST: Both<Call> = [
+    |call| call.make(First::request),
+    |call| call.make(Reference::request),
+];
+
+/// Measures typical calls.
+pub fn measure() {
+    let closed = record(State::Closed, 0, [0, 0], 0);
+    let listening = record(State::Listening, 0, [0, 0], 0);
+    let calling = record(State::Calling, 0, [0, 0], 0);
+    let answering = record(State::Answering, 7, [0, 0], 0);
+    let open = record(State::Open, 7, [0, 0], 0);
+    let full = record(State::Open, 7, [8, 0], 8);
+    let closing = record(State::Closing, 7, [0, 0], 0);
+    for (name, record, frame) in [
+        ("closed: CRAO", closed, frame(1, 0)),
+        ("listening: CRAO", listening, frame(1, 0)),
+        ("calling: CRPO", calling, frame(2, 0)),
+        ("answering: CRACK", answering, frame(3, 0)),
+        ("open: DATA of 64", open, frame(8, 0)),
+        ("open: ACK of 1 of 8", full, frame(9, 1)),
+        ("open: passed over", open, frame(4, 0)),
+        ("closing: DRACK", closing, frame(7, 0)),
+    ] {
+        compare(name, record, frame, RECEIVE);
+    }
+    for (name, record, kind) in [
+        ("open: send of 64", open, 0x44),
+        ("open: timer with 8 waiting", full, 0x45),
+    ] {
+        compare(name, record, message(kind, &[], BLOCK), REQUEST);
+    }
+}
+
+/// Measures the call of an end with this record.
+fn compare(name: &str, record: [u8; RECORD], message: Vec<u8>, both: Both<Call>) {
+    let mut call = Call {
+        record,
+        message,
+        out: [0; LONGEST_FRAME],
+    };
+    measure::compare(name, BATCH, &mut call, both);
+}
+
+/// A frame with s = 7 and r = 1, as the records expect them, and where it has them this number and
+/// a block.
+fn frame(kind: u8, number: u32) -> Vec<u8> {
+    message(kind, &[7, 1, number], BLOCK)
+}

@@ -1,0 +1,24 @@
+//! Blocks of 64 bytes, and records with them.
+
+use cases::records::Numbers;
+use reference::record::RECORD;
+use reference::State;
+
+/// A block of 64 bytes.
+pub const BLOCK: &[u8] = &[b'x'; 64];
+
+/// A record with L = 1, this D, these counts t and e, and so many waiting blocks.
+pub fn record(
+    state: State,
+    remote: u32,
+    [accepted, handed_up]: [u32; 2],
+    waiting: usize,
+) -> [u8; RECORD] {
+    let numbers = Numbers {
+        local: 1,
+        remote,
+        accepted,
+        handed_up,
+    };
+    numbers.record(state, &vec![BLOCK.to_vec(); waiting])
+}
