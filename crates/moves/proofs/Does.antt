@@ -6,7 +6,7 @@ use mathlib.Core.List.{List, [], _∷_}
 use mathlib.Core.Bool.{true}
 use lib.Dec.{ltb}
 use native.Mathlib.Omega.{arith}
-use lib.ListN.{length, take}
+use lib.ListN.{length, take, drop}
 use Rattle.octets.specs.Test.{when, ifEq, first, Outcome, refused, ok, outcome, andThen}
 use Rattle.octets.proofs.Test.{eq-yes, eq-no}
 use Rattle.frame.specs.Frame.{Frame}
@@ -20,12 +20,12 @@ use Rattle.console.proofs.Ends.{sent-fits, sent-taken, request-none}
 use Rattle.rig.specs.Bench.{sends, logged, made, logAfter, countAfter}
 use Rattle.moves.specs.declared.Moved.{Moved}
 use Rattle.moves.specs.declared.Answer.{Answer}
-use Rattle.moves.specs.Answer.{answerOf}
+use Rattle.moves.specs.Answer.{blockAt, answerOf}
 use Rattle.moves.specs.Parts.{movedOf, Moves, noted, notedCount, blockPlace, answerFrom, Does}
 use Rattle.moves.proofs.Moves.{has-place}
 use Rattle.moves.proofs.Short.{sent-short}
 
-some-octets : (f : Frame) → length (encode f) ≢ 0
+pub some-octets : (f : Frame) → length (encode f) ≢ 0
 unfolding encode
 some-octets f z = omega arith
 
@@ -74,6 +74,10 @@ pub no-block : (rec : List ℕ) (count : ℕ) (s out : List ℕ) → length (blo
 unfolding made
 no-block rec count s out = ap length (sym (logged-none count (performed format rec (request s out)) (request-none rec s out)))
 
+-- the block stands in the log where the answer says
+abbrev pub Stands : ℕ → List ℕ → List ℕ → Type 0
+Stands n log b = take (length b) (drop (ifEq (length b) 0 0 (blockAt n)) log) ≡ b
+
 module _ (i : ℕ) (rec log : List ℕ) (count n : ℕ) (c : Call) {out rec′ out′ : List ℕ} {m : Moved} (w : Moves (made rec count c) rec out rec′ out′ m) where
   sent-is : m .sent ≡ sentOf (made rec count c)
   unfolding movedOf
@@ -86,15 +90,13 @@ module _ (i : ℕ) (rec log : List ℕ) (count n : ℕ) (c : Call) {out rec′ o
     (omega (arith, sent-is, sent-short rec count c h), λ z. has-place rec count c (λ y. z (sent-is ∙ y))),
   )
 
-  pub does : {log′ : List ℕ} {r : Answer} → r ≡ answerFrom i m n count → log′ ≡ noted i log count (take (m .sent) out′)
-      → Does i rec log count n (made rec count c) out rec′ log′ out′ r
-  does e k =
-      record {
-        answer = e ∙ ap (λ (x : Moved). answerFrom i x n count) (w .answer) ∙ tells i rec count n (made rec count c);
-        end = w .end;
-        entered = k ∙ ap (noted i log count) (sent-taken out (made rec count c) (w .buffer) sent-is) ∙ enters i log count (made rec count c);
-        buffer = w .buffer;
-      }
+  pub does : Stands n (logAfter i log count (made rec count c)) (blockOf (made rec count c)) → {log′ : List ℕ} {r : Answer} → r ≡ answerFrom i m n count
+      → log′ ≡ noted i log count (take (m .sent) out′) → Does i rec log count n (made rec count c) out rec′ log′ out′ r
+  unfolding answerOf
+  does h e k =
+      let a = e ∙ ap (λ (x : Moved). answerFrom i x n count) (w .answer) ∙ tells i rec count n (made rec count c) in
+      let l = k ∙ ap (noted i log count) (sent-taken out (made rec count c) (w .buffer) sent-is) ∙ enters i log count (made rec count c) in
+      record { answer = a; end = w .end; entered = l; buffer = w .buffer; handed = rw (a, l) h }
 
   -- without a block it does not matter which frame is told
   pub any-frame : length (blockOf (made rec count c)) ≡ 0 → {r : Answer} → r ≡ answerFrom i m 0 count → r ≡ answerFrom i m n count

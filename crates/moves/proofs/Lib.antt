@@ -1,3 +1,4 @@
 pub mod Moves
 pub mod Short
 pub mod Does
+pub mod Handed

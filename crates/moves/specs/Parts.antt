@@ -3,7 +3,7 @@ use Prim.Native.Nat.{ℕ, _+_, _*_}
 use mathlib.Core.Path.{_≡_}
 use mathlib.Core.Bool.{Bool}
 use mathlib.Core.List.{List}
-use lib.ListN.{length}
+use lib.ListN.{length, take, drop}
 use Rattle.octets.specs.Test.{when, ifEq, Outcome, numberOf}
 use Rattle.octets.specs.Octets.{put}
 use Rattle.protocol.specs.Table.{Step}
@@ -72,3 +72,4 @@ pub record Does (i : ℕ) (rec log : List ℕ) (count n : ℕ) (o : Outcome Step
   pub end : rec′ ≡ recordAfter format rec o
   pub entered : log′ ≡ logAfter i log count o
   pub buffer : out′ ≡ bufferAfter out o
+  pub handed : take (r .block) (drop (r .at) log′) ≡ blockOf o

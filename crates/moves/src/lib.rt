@@ -205,7 +205,7 @@ pub fn deliver_at(
     count: usize,
     out: &mut [u8],
 ) -> Answer
-    requires { ⌜ (recordSize ≤ length (now rec)) × ((logSize ≤ length (now log)) × ((n < places) × ((lengthAt n (now log) ≤ longestFrame) × (longestFrame ≤ length (now out))))) ⌝ }
+    requires { ⌜ (recordSize ≤ length (now rec)) × ((logSize ≤ length (now log)) × (((n < count) × (count ≤ places)) × ((lengthAt n (now log) ≤ longestFrame) × (longestFrame ≤ length (now out))))) ⌝ }
     ensures { λ r. ⌜ Does end (now (rec .entry)) (now (log .entry)) count n (made (now (rec .entry)) count (calls.receive (frameAt n (now (log .entry))) (now (out .entry)))) (now (out .entry)) (now (rec .exit)) (now (log .exit)) (now (out .exit)) r ⌝ }
 {
     let m = move_end(false, rec, logbook::frame_of(log, n), count, out);

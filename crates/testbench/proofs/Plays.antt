@@ -41,22 +41,22 @@ module _ (a b log : List ℕ) (count : ℕ) where
   -- a refused line leaves all as it is
   pub declines : {q : Outcome At} (n k : ℕ) (out : List ℕ) {r : Answer} → q ≡ refused k → r ≡ answerOf 0 a count n (refused k)
       → Played w q n out a b log out r
-  unfolding comes endOf andThen recordAt benchAfter answerOf recordAfter bufferAfter mapped left logAfter countAfter ifEq when
+  unfolding comes endOf andThen recordAt benchAfter answerOf recordAfter bufferAfter mapped left logAfter countAfter blockOf ifEq when
   declines n k out e h =
-      rw e (record { answer = h; bench = λ i. benchOf a b log (h i .count); buffer = refl })
+      rw e (record { answer = h; bench = λ i. benchOf a b log (h i .count); buffer = refl; handed = rw h refl })
 
   -- a call at an end leaves the other as it is
   pub at-a : {q : Outcome At} (n : ℕ) (c : Call) (out : List ℕ) {a′ log′ out′ : List ℕ} {r : Answer} → q ≡ ok (0, c)
       → Does 0 a log count n (made a count c) out a′ log′ out′ r → Played w q n out a′ b log′ out′ r
   unfolding comes endOf andThen recordAt benchAfter answerOf ifEq when
   at-a n c out e d =
-      rw e (record { answer = d .answer; bench = λ i. benchOf (d .end i) b (d .entered i) (d .answer i .count); buffer = d .buffer })
+      rw e (record { answer = d .answer; bench = λ i. benchOf (d .end i) b (d .entered i) (d .answer i .count); buffer = d .buffer; handed = d .handed })
 
   pub at-b : {q : Outcome At} (n : ℕ) (c : Call) (out : List ℕ) {b′ log′ out′ : List ℕ} {r : Answer} → q ≡ ok (1, c)
       → Does 1 b log count n (made b count c) out b′ log′ out′ r → Played w q n out a b′ log′ out′ r
   unfolding comes endOf andThen recordAt benchAfter answerOf ifEq when
   at-b n c out e d =
-      rw e (record { answer = d .answer; bench = λ i. benchOf a (d .end i) (d .entered i) (d .answer i .count); buffer = d .buffer })
+      rw e (record { answer = d .answer; bench = λ i. benchOf a (d .end i) (d .entered i) (d .answer i .count); buffer = d .buffer; handed = d .handed })
 
   -- question 13
   pub no-frame : (n : ℕ) (out : List ℕ) → holds count n log ≡ false → delivery w n out ≡ refused 13

@@ -6,6 +6,8 @@ use Rattle.octets.specs.Test.{when}
 use Rattle.logbook.specs.Log.{frameAt}
 use Rattle.moves.specs.Parts.{callAs}
 use Rattle.moves.proofs.Does.{loggable, does}
+use Rattle.moves.proofs.Moves.{has-place}
+use Rattle.moves.proofs.Handed.{stands}
 use native.Mathlib.Omega.{arith}
 use borrow.Author.Needs.{needs}
 use Rattle.moves.proofs.deliver_at.Statement.{statement}
@@ -32,7 +34,13 @@ same-length-3 c = search needs
 
 returns : tie.Need-returns
 unfolding callAs when
-returns c = let s = c .before .before .before .before .before .before .before .before .before .before .before .before .before .before .before .before .before in does (s .args .end) (now (s .args .rec)) (now (s .args .log)) (s .args .count) (s .args .n) (calls.receive (frameAt (s .args .n) (now (s .args .log))) (now (s .args .out))) (rw (c .before .before .before .before .before .before .before .before .before .before .before .frame-of .ensures) at (c .before .before .before .before .before .before .before .before .before .move-end .ensures)) (c .before .before .finish .ensures .0) (c .before .before .finish .ensures .1)
+returns c =
+    let s = c .before .before .before .before .before .before .before .before .before .before .before .before .before .before .before .before .before in
+    let a = s .args in
+    let q = calls.receive (frameAt (a .n) (now (a .log))) (now (a .out)) in
+    let w = rw (c .before .before .before .before .before .before .before .before .before .before .before .frame-of .ensures) at (c .before .before .before .before .before .before .before .before .before .move-end .ensures) in
+    let h = stands (a .end) (now (a .rec)) (now (a .log)) (a .count) (a .n) (now (a .out)) (has-place (now (a .rec)) (a .count) q) (s .pre .1 .1 .0 .0) (s .pre .1 .0) (s .pre .1 .1 .1 .0) in
+    does (a .end) (now (a .rec)) (now (a .log)) (a .count) (a .n) q w h (c .before .before .finish .ensures .0) (c .before .before .finish .ensures .1)
 
 pub deliver-at-spec : {M : Type 1} → statement M
 deliver-at-spec =

@@ -5,6 +5,7 @@ use Rattle.calls.specs.Calls as calls
 use Rattle.octets.specs.Test.{when}
 use Rattle.moves.specs.Parts.{callAs}
 use Rattle.moves.proofs.Does.{no-block, loggable, does, any-frame}
+use Rattle.moves.proofs.Handed.{none-stands}
 use native.Mathlib.Omega.{arith}
 use borrow.Author.Needs.{needs}
 use Rattle.moves.proofs.request_at.Statement.{statement}
@@ -34,7 +35,8 @@ returns c n =
     let q = calls.request (now (a .s)) (now (a .out)) in
     let w = c .before .before .before .before .before .before .before .before .before .move-end .ensures in
     let e = any-frame (a .end) (now (a .rec)) (now (a .log)) (a .count) n q w (no-block (now (a .rec)) (a .count) (now (a .s)) (now (a .out))) (c .before .before .finish .ensures .0) in
-    does (a .end) (now (a .rec)) (now (a .log)) (a .count) n q w e (c .before .before .finish .ensures .1)
+    let h = none-stands n _ _ (no-block (now (a .rec)) (a .count) (now (a .s)) (now (a .out))) in
+    does (a .end) (now (a .rec)) (now (a .log)) (a .count) n q w h e (c .before .before .finish .ensures .1)
 
 pub request-at-spec : {M : Type 1} → statement M
 request-at-spec =
