@@ -162,7 +162,7 @@ module _ (rec line out : List ℕ) where
       gives-answer (ok (lineOutcome rec line)) (rw (le-leb 310 (length out) h) refl) (ap reply.Written (g .begins .count)) (g .begins .buffer) (g .end)
 
 -- an answer has room in its buffer
-by-reply : (out : List ℕ) (o : Outcome (List ℕ)) {out′ : List ℕ} {n : ℕ} → reply.Written n ≡ replyOf o → out′ ≡ left o out → length out′ ≡ length out
+pub by-reply : (out : List ℕ) (o : Outcome (List ℕ)) {out′ : List ℕ} {n : ℕ} → reply.Written n ≡ replyOf o → out′ ≡ left o out → length out′ ≡ length out
     → n ≤ length out
 unfolding replyOf left
 by-reply out (refused k) h e l = absurd (let f : _≡_ {A = ℕ} 0 1 = cc in omega arith)

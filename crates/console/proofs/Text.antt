@@ -117,7 +117,7 @@ whole x m = ap (λ (n : ℕ). take n (drop m x)) (sym (length-drop m x)) ∙ tak
 pub length-rest : (x : List ℕ) (m : ℕ) → length (take (length x - m) (drop m x)) ≡ length x - m
 length-rest x m = ap length (whole x m) ∙ length-drop m x
 
-rest-put : (x q : List ℕ) (m : ℕ) {y : List ℕ} → y ≡ put (take (length x - m) (drop m x)) 0 q → take m x ++ (y ++ drop (length x - m) (drop m x)) ≡ put x m q
+pub rest-put : (x q : List ℕ) (m : ℕ) {y : List ℕ} → y ≡ put (take (length x - m) (drop m x)) 0 q → take m x ++ (y ++ drop (length x - m) (drop m x)) ≡ put x m q
 unfolding put
 rest-put x q m {y} e =
     let z : 0 + length q ≡ length q = omega arith in

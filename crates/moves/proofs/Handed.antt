@@ -23,7 +23,7 @@ use Rattle.moves.specs.Answer.{blockAt}
 use Rattle.moves.proofs.Does.{some-octets, Stands}
 
 -- a block is empty, or what follows octet 14 of the frame received
-abbrev From : List ℕ → List ℕ → Type 0
+abbrev pub From : List ℕ → List ℕ → Type 0
 From s b = (b ≡ []) ⊎ (b ≡ drop 14 s)
 
 outcome-from : (s : List ℕ) (n : ℕ) (x : Step) → From s (blockOf (ok x)) → From s (blockOf (outcome n x))
@@ -46,7 +46,7 @@ asked-from sound e s out =
     let r = right sound e s out in
     by-eq (noticeOf (asked sound e (receive s out))) 5 (λ z. inr (r .some z .0)) (λ z. inl (r .nothing z))
 
-made-from : (rec : List ℕ) (count : ℕ) (s out : List ℕ) → From s (blockOf (made rec count (receive s out)))
+pub made-from : (rec : List ℕ) (count : ℕ) (s out : List ℕ) → From s (blockOf (made rec count (receive s out)))
 unfolding made performed
 made-from rec count s out = logged-from s count _ (refusing-from s _ _ (asked-from (format .sound rec) (format .holds rec) s out))
 

@@ -1,0 +1,80 @@
+// The bench asked by lines of text: a line and its answer.
+use console::Reply;
+use console::Told;
+use moves::Answer;
+ghost use mathlib.Core.Path.{_≡_};
+ghost use mathlib.Core.List.{_++_};
+ghost use Prim.Native.Nat.{_+_, _≤_};
+ghost use lib.ListN.{length, take, drop};
+ghost use Rattle.octets.specs.Sizes.{longestFrame, longestBlock};
+ghost use Rattle.console.specs.Line.{room};
+ghost use Rattle.console.specs.Text.{textOf};
+ghost use Rattle.console.specs.Parts.{Begins};
+ghost use Rattle.rig.specs.Bench.{benchOf, asked};
+ghost use Rattle.desk.specs.Text.{lead, toldIn, answerRoom, Answered};
+ghost use Rattle.desk.specs.Parts.{Gives};
+
+// Room for an answer: what one end's answer needs, and two characters before it.
+pub const ANSWER_ROOM: usize = console::ANSWER_ROOM + 2;
+
+// The characters 5 and 0.
+const FIVE: u8 = 53;
+
+const NOUGHT: u8 = 48;
+
+// Writes the text of an answer to the start of out: 50 or 51, then the text as at one end. The block stands in the log.
+fn tell(r: Answer, log: &[u8], frame: &[u8], out: &mut [u8]) -> usize
+    requires { ⌜ (answerRoom ≤ length (now out)) × ((r .end ≤ 1) × ((r .block ≤ longestBlock) × ((r .at + r .block ≤ length (now log)) × ((r .sent ≤ longestFrame) × (r .sent ≤ length (now frame)))))) ⌝ }
+    ensures { λ n. ⌜ Begins (lead (r .end) ++ textOf (toldIn r) (take (r .block) (drop (r .at) (now (log .entry)))) (take (r .sent) (now (frame .entry)))) (now (out .entry)) (now (out .exit)) n ⌝ }
+{
+    octets::store8(out, 0, FIVE);
+    octets::store8(out, 1, NOUGHT + r.end);
+    let t = Told {
+        number: r.number,
+        state: r.state,
+        notice: r.notice,
+        local: r.local,
+        remote: r.remote,
+    };
+    let at = r.at;
+    let stop = at + r.block;
+    let sent = r.sent;
+    let n = console::write_text(t, &log[at..stop], &frame[..sent], &mut out[2..]);
+    n + 2
+}
+
+// Plays a line and writes its answer.
+fn write(
+    a: &mut [u8],
+    b: &mut [u8],
+    log: &mut [u8],
+    count: &mut usize,
+    line: &[u8],
+    out: &mut [u8],
+) -> usize
+    requires { ⌜ answerRoom ≤ length (now out) ⌝ }
+    ensures { λ r. ⌜ Gives (benchOf (now (a .entry)) (now (b .entry)) (now (log .entry)) (now (count .entry))) (asked (benchOf (now (a .entry)) (now (b .entry)) (now (log .entry)) (now (count .entry))) (now (line .entry)) room) (now (out .entry)) (now (a .exit)) (now (b .exit)) (now (log .exit)) (now (count .exit)) (now (out .exit)) r ⌝ }
+{
+    let mut frame = [0u8; octets::LONGEST_FRAME];
+    let r = testbench::play(a, b, log, *count, line, &mut frame);
+    *count = r.count;
+    tell(r, log, &frame, out)
+}
+
+// Answers a line, which is given without its line feed, on the bench with the records a and b, the log and so many places of it in
+// use: the answer line and, if a frame is sent, its line go to the start of out, which needs room for ANSWER_ROOM characters.
+pub fn answer(
+    a: &mut [u8],
+    b: &mut [u8],
+    log: &mut [u8],
+    count: &mut usize,
+    line: &[u8],
+    out: &mut [u8],
+) -> Reply
+    ensures { λ r. ⌜ Answered (benchOf (now (a .entry)) (now (b .entry)) (now (log .entry)) (now (count .entry))) (now (line .entry)) (now (out .entry)) (now (a .exit)) (now (b .exit)) (now (log .exit)) (now (count .exit)) (now (out .exit)) r ⌝ }
+{
+    if out.len() < ANSWER_ROOM {
+        return Reply::Refused(11);
+    }
+    Reply::Written(write(a, b, log, count, line, out))
+}
