@@ -25,7 +25,7 @@ use Rattle.moves.specs.Parts.{movedOf, Moves, noted, notedCount, blockPl
 use Rattle.moves.proofs.Moves.{has-place}
 use Rattle.moves.proofs.Short.{sent-short}
 
-some-octets : (f : Frame) → length (encode f) ≢ 0
+pub some-octets : (f : Frame) → length (encode f) ≢ 0
 unfolding encode
 some-octets f z = omega arith
 

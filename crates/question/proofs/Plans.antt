@@ -2,20 +2,19 @@
 use Prim.Native.Nat.{ℕ, _+_, _≤_}
 use mathlib.Core.Path.{_≡_, refl, sym, ap, ap₂, _∙_}
 use mathlib.Core.Logic.{_≢_}
-use mathlib.Core.Bool.{Bool, true, false, not, _&&_}
+use mathlib.Core.Bool.{Bool, true, false, not, false≢true}
 use mathlib.Core.List.{List, [], _∷_, _++_, append-assoc}
 use native.Mathlib.Omega.{arith}
-use borrow.Author.Tests.{le-leb, eqb-true, eq-eqb}
-use lib.Dec.{leb, eqb}
+use borrow.Author.Tests.{ltb-true, ltb-false, eqb-true, eq-eqb}
+use lib.Dec.{eqb}
 use lib.ListN.{length, getD, drop, length-append, length-drop}
 use Rattle.octets.specs.Test.{Outcome, refused, ok, mapped, andThen, numberOf}
 use Rattle.octets.specs.Octets.{put, left, lay, fields, Octets}
 use Rattle.octets.proofs.Test.{both, joined}
 use Rattle.octets.proofs.Octets.{Fit, fields-lay}
 use Rattle.frame.specs.Frame.{Block, Frame}
-use Rattle.frame.specs.Layout.{encode}
 use Rattle.protocol.specs.Endpoint as abstract
-use Rattle.protocol.specs.Table.{Sent, nothing, frame, Step}
+use Rattle.protocol.specs.Table.{nothing, frame, Step}
 use Rattle.calls.specs.Calls.{Call, receive, wire, performed, recordAfter}
 use Rattle.decide.specs.declared.Numbers.{Numbers}
 use Rattle.decide.specs.Rows.{holding}
@@ -32,7 +31,7 @@ use Rattle.endpoint.specs.Record.{numbersLayout, decode}
 use Rattle.endpoint.specs.Record as endpoint
 use Rattle.endpoint.specs.Parts.{numbersOf}
 use Rattle.endpoint.proofs.Packs.{count, pack-view}
-use Rattle.endpoint.proofs.Sounds.{by-lt, tidy}
+use Rattle.endpoint.proofs.Sounds.{tidy}
 use Rattle.machine.specs.Calls.{receiveOutcome}
 use Rattle.machine.proofs.Ready.{receive-ready}
 use Rattle.machine.proofs.Carries.{oldest-at, laden}
@@ -42,11 +41,12 @@ use Rattle.link.proofs.Answers.{rewritten, enough, lengths-8, blocks-512}
 use Rattle.console.specs.Line.{room}
 use Rattle.rig.specs.Bench.{logged, made}
 use Rattle.moves.proofs.Moves.{place-left, nothing-sent, none-left}
+use Rattle.moves.proofs.Does.{some-octets}
 use Rattle.question.specs.Found.{Changes}
-use Rattle.question.specs.Parts.{Says, sameNumbers, someFrame}
+use Rattle.question.specs.Parts.{Says, sameNumbers, hasPlace}
 
 -- the test of the numbers
-pub same-so : (n m : Numbers) → sameNumbers n m ≡ true → n ≡ m
+same-so : (n m : Numbers) → sameNumbers n m ≡ true → n ≡ m
 unfolding sameNumbers
 same-so n m h =
     let a = both (eqb (n .state) (m .state)) _ h in
@@ -83,22 +83,16 @@ unfolding andThen numberOf
 passes (refused n) count h = h
 passes (ok x) count h = refl
 
--- what a planned reply sends
-some-octets : (f : Frame) → length (encode f) ≢ 0
-unfolding encode
-some-octets f z = omega arith
+-- the octets of what is sent
+sent-some : (f : Frame) (o : Outcome Step) → frame f ≡ sentIn o → sentOf o ≢ 0
+unfolding sentIn sentOf wire
+sent-some f (refused n) e = absurd (let z : _≡_ {A = ℕ} 0 1 = cc in omega arith)
+sent-some f (ok x) e = rw (← e) (some-octets f)
 
-sent-some : (r : Reply) (b : Block) (o : Outcome Step) → sentBy r b ≡ sentIn o → someFrame r ≡ true → sentOf o ≢ 0
-unfolding someFrame sentBy sentIn sentOf wire
-sent-some reply.Nothing b o e t = absurd (let z : _≡_ {A = ℕ} 0 1 = cc in omega arith)
-sent-some (reply.Frame h) b (refused n) e t = absurd (let z : _≡_ {A = ℕ} 0 1 = cc in omega arith)
-sent-some (reply.Frame h) b (ok x) e t = rw (← e) (some-octets _)
-
-sent-none : (r : Reply) (b : Block) (o : Outcome Step) → sentBy r b ≡ sentIn o → someFrame r ≡ false → sentOf o ≡ 0
-unfolding someFrame sentBy sentIn sentOf wire
-sent-none reply.Nothing b (refused n) e t = refl
-sent-none reply.Nothing b (ok x) e t = rw (← e) refl
-sent-none (reply.Frame h) b o e t = absurd (let z : _≡_ {A = ℕ} 0 1 = cc in omega arith)
+sent-none : (o : Outcome Step) → nothing ≡ sentIn o → sentOf o ≡ 0
+unfolding sentIn sentOf wire
+sent-none (refused n) e = refl
+sent-none (ok x) e = rw (← e) refl
 
 -- the waiting blocks change only with their count
 stays : (k : Queue) (b : Block) (q : List Block) → Room k b (length q) → length (queueAfter k b q) ≡ length q → queueAfter k b q ≡ q
@@ -107,7 +101,7 @@ stays Keep b q r h = refl
 stays Join b q r h = absurd (omega (arith, length-append q (b ∷ [])))
 stays (Release k) b q r h = let z : k ≡ 0 = omega (arith, length-drop k q) in ap (λ (j : ℕ). drop j q) z
 
--- the octets of a record that is written over one and leaves it
+-- a record that is written over another and leaves its octets has its numbers
 abbrev pub valuesOf : Numbers → List ℕ
 valuesOf m = m .state ∷ m .local ∷ m .remote ∷ m .accepted ∷ m .delivered ∷ m .waiting ∷ []
 
@@ -188,19 +182,24 @@ module _ (rec : List ℕ) (long : 538 ≤ length rec) (fine : sound (decode rec)
       refuses z x = z (planned .number ∙ ap numberOf (sym comes-to) ∙ passes (performed format rec call) places (x .accepted))
 
       -- refused by 14
-      pub too-full : 512 ≤ places → someFrame (p .reply) ≡ true → Change → ⊥
-      unfolding numberOf
-      too-full l t x =
-          let z = sent-some (p .reply) _ hears (planned .sent) t in
-          let m = none-left rec places call l (rw comes-to z) in
+      full : (r : Reply) (b : Block) → sentBy r b ≡ sentIn hears → hasPlace r places ≡ false → Change → ⊥
+      unfolding sentBy hasPlace numberOf
+      full reply.Nothing b k t x = false≢true (sym t)
+      full (reply.Frame h) b k t x =
+          let m = none-left rec places call (ltb-false places 512 t) (rw comes-to (sent-some _ hears k)) in
           omega (arith, rw m at (x .accepted))
 
+      pub too-full : hasPlace (p .reply) places ≡ false → Change → ⊥
+      too-full = full (p .reply) _ (planned .sent)
+
       -- not refused by 14
-      is-made : (leb 512 places && someFrame (p .reply)) ≡ false → made rec places call ≡ hears
-      is-made t =
-          by-lt places 512 (λ l. place-left rec places call l)
-          (λ l. nothing-sent rec places call (rw comes-to (sent-none (p .reply) _ hears (planned .sent) (rw (le-leb 512 places l) at t))))
-          ∙ comes-to
+      logs : (r : Reply) (b : Block) → sentBy r b ≡ sentIn hears → hasPlace r places ≡ true → made rec places call ≡ performed format rec call
+      unfolding sentBy hasPlace
+      logs reply.Nothing b k t = nothing-sent rec places call (rw comes-to (sent-none hears k))
+      logs (reply.Frame h) b k t = place-left rec places call (ltb-true places 512 t)
+
+      is-made : hasPlace (p .reply) places ≡ true → made rec places call ≡ hears
+      is-made t = logs (p .reply) _ (planned .sent) t ∙ comes-to
 
       -- the same numbers
       unchanged : p .numbers ≡ numbersOf end → endpointAfter (view end) hears ≡ view end
@@ -209,7 +208,7 @@ module _ (rec : List ℕ) (long : 538 ≤ length rec) (fine : sound (decode rec)
           let w = sym (planned .counted) ∙ ap (λ (x : Numbers). x .waiting) k ∙ sym (count end) in
           sym (planned .endpoint) ∙ ap₂ holding k (stays (p .queue) [] (view end .queue) (planned .room) w)
 
-      pub tells : Octets rec → Fit numbersLayout (valuesOf (p .numbers)) → p .number ≡ 0 → (leb 512 places && someFrame (p .reply)) ≡ false
+      pub tells : Octets rec → Fit numbersLayout (valuesOf (p .numbers)) → p .number ≡ 0 → hasPlace (p .reply) places ≡ true
           → Says (not (sameNumbers (p .numbers) n)) Change
       unfolding view
       tells oc f z t =

@@ -12,7 +12,7 @@ ghost use Rattle.link.specs.Record.{format};
 ghost use Rattle.console.specs.Line.{room};
 ghost use Rattle.rig.specs.Bench.{benchOf, made};
 ghost use Rattle.question.specs.Found.{Changes, Matters, questions, Answers, Told};
-ghost use Rattle.question.specs.Parts.{sameNumbers, someFrame, Says};
+ghost use Rattle.question.specs.Parts.{sameNumbers, hasPlace, Says};
 
 // What the question answers: a frame's number, none, or the number of a refusal.
 pub enum Found {
@@ -21,6 +21,7 @@ pub enum Found {
     Refused(u8),
 }
 
+// All six are compared without a branch between them.
 fn same(n: Numbers, m: Numbers) -> bool
     ensures { λ r. ⌜ r ≡ sameNumbers n m ⌝ }
 {
@@ -31,12 +32,13 @@ fn same(n: Numbers, m: Numbers) -> bool
                     & ((n.delivered == m.delivered) & (n.waiting == m.waiting)))))
 }
 
-fn sends(reply: Reply) -> bool
-    ensures { λ r. ⌜ r ≡ someFrame reply ⌝ }
+// Question 14: what sends a frame needs a place for it in the log.
+fn has_place(reply: Reply, count: usize) -> bool
+    ensures { λ r. ⌜ r ≡ hasPlace reply count ⌝ }
 {
     match reply {
-        Reply::Nothing => false,
-        Reply::Frame(_) => true,
+        Reply::Nothing => true,
+        Reply::Frame(_) => count < logbook::PLACES,
     }
 }
 
@@ -52,7 +54,7 @@ fn changes(rec: &[u8], s: &[u8], count: usize) -> bool
         return false;
     }
     let reply = p.reply;
-    if (logbook::PLACES <= count) & sends(reply) {
+    if !has_place(reply, count) {
         return false;
     }
     let m = p.numbers;
@@ -84,7 +86,7 @@ pub fn some_frame(a: &[u8], b: &[u8], log: &[u8], count: usize) -> Found
     }
     let mut i: usize = 0;
     loop {
-        if i == count {
+        if i >= count {
             break Found::Nothing;
         }
         if matters(a, b, log, count, i) {

@@ -1,12 +1,9 @@
-use mathlib.Core.Path.{_≡_, sym, _∙_}
-use mathlib.Core.Bool.{true, false, _&&_}
-use lib.Dec.{leb}
+use mathlib.Core.Path.{sym, _∙_}
 use denote.Ref.{now}
 use native.Mathlib.Omega.{arith}
 use borrow.Author.Needs.{needs}
-use borrow.Author.Tests.{leb-true}
+use borrow.Author.Tests.{not-true, not-false}
 use Rattle.octets.specs.Octets.{Octets}
-use Rattle.octets.proofs.Test.{both}
 use Rattle.octets.proofs.Octets.{Fit, none, one}
 use Rattle.endpoint.specs.Record.{numbersLayout}
 use Rattle.question.proofs.Plans.{valuesOf, enough-accepted, refuses, too-full, tells}
@@ -27,15 +24,14 @@ returns c =
     refuses (now (s .args .rec)) (s .pre .0) (s .pre .1) (now (s .args .s)) (s .args .count) (c .before .before .before .load-numbers .ensures) (c .before .before .receive .ensures)
     (c .if1 .taken)
 
-sends-requires : tie.Need-sends-requires
-sends-requires c κs = search needs
+has-place-requires : tie.Need-has-place-requires
+has-place-requires c κs = search needs
 
 returns-2 : tie.Need-returns-2
 returns-2 c =
     let s = c .before .before .before .before .before .before .before .before in
-    let f = both (leb 512 (s .args .count)) (c .before .sends .result) (c .if2 .taken) in
     too-full (now (s .args .rec)) (s .pre .0) (s .pre .1) (now (s .args .s)) (s .args .count) (c .before .before .before .before .before .load-numbers .ensures) (c .before .before .before .before .receive .ensures)
-    (leb-true 512 (s .args .count) (f .0)) (sym (c .before .sends .ensures) ∙ f .1)
+    (sym (c .before .has-place .ensures) ∙ not-true (c .before .has-place .result) (c .if2 .taken))
 
 same-requires : tie.Need-same-requires
 same-requires c κs = search needs
@@ -60,7 +56,7 @@ returns-3 c =
     let s = c .before .before .before .before .before .before .before .before .before .before in
     rw (c .same .ensures)
     (tells (now (s .args .rec)) (s .pre .0) (s .pre .1) (now (s .args .s)) (s .args .count) (c .before .before .before .before .before .before .before .load-numbers .ensures) (c .before .before .before .before .before .before .receive .ensures)
-    (octets c) (fits c) (c .before .before .before .before .if1 .left) (rw (c .before .before .before .sends .ensures) at (c .before .before .if2 .left)))
+    (octets c) (fits c) (c .before .before .before .before .if1 .left) (sym (c .before .before .before .has-place .ensures) ∙ not-false (c .before .before .before .has-place .result) (c .before .before .if2 .left)))
 
 pub changes-spec : {M : Type 1} → statement M
 changes-spec =
@@ -69,7 +65,7 @@ changes-spec =
     load-numbers-requires
     receive-requires
     returns
-    sends-requires
+    has-place-requires
     returns-2
     same-requires
     returns-3)

@@ -42,7 +42,7 @@ sender-of-requires c κs =
     (r .long-log, omega (arith, r .few, held (s .args .count) (s .args .n) (now (s .args .log)) (is-held (c .before)) .below))
 
 changes-requires : tie.Need-changes-requires
-changes-requires c κs = let r = is-ready (c .before .before .before .before .before .before .before .before) in (r .long-b, r .sound-b)
+changes-requires c κs = let r = is-ready (c .before .before .before .before .before .before .before .before) in (omega (arith, r .long-a, r .long-b), search (r .sound-a, r .sound-b))
 
 returns-2 : tie.Need-returns-2
 returns-2 c =
@@ -51,7 +51,7 @@ returns-2 c =
     (rw (c .before .before .before .frame-of .ensures) at (c .changes .ensures))
 
 changes-requires-2 : tie.Need-changes-requires-2
-changes-requires-2 c κs = let r = is-ready (c .before .before .before .before .before .before .before .before) in (r .long-a, r .sound-a)
+changes-requires-2 c κs = let r = is-ready (c .before .before .before .before .before .before .before .before) in (omega (arith, r .long-a, r .long-b), search (r .sound-a, r .sound-b))
 
 returns-3 : tie.Need-returns-3
 returns-3 c =
