@@ -40,7 +40,7 @@ sent-is (refused n) = refl
 sent-is (ok x) = refl
 
 -- a record written over itself
-rewritten : (rec : List ℕ) → 538 ≤ length rec → Octets rec → put rec 0 (encode (decode rec)) ≡ rec
+pub rewritten : (rec : List ℕ) → 538 ≤ length rec → Octets rec → put rec 0 (encode (decode rec)) ≡ rec
 unfolding put
 rewritten rec long o =
     let l : length (take 538 rec) ≡ 538 = length-take-le 538 rec long in
@@ -75,7 +75,7 @@ lent-short rec c h =
     })
 
 module _ (rec : List ℕ) (long : 538 ≤ length rec) where
-  enough : (c : Call) → performed format rec c ≡ asked (sound (decode rec)) (view (decode rec)) c
+  pub enough : (c : Call) → performed format rec c ≡ asked (sound (decode rec)) (view (decode rec)) c
   unfolding performed refusing first when
   enough c = rw (le-leb 538 (length rec) long) refl
 

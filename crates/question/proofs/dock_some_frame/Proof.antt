@@ -1,0 +1,50 @@
+use mathlib.Core.Path.{refl}
+use borrow.Author.Needs.{needs}
+use Rattle.question.specs.Found.{numberIn, frameIn}
+use Rattle.question.proofs.dock_some_frame.Statement.{statement}
+use Rattle.question.proofs.dock_some_frame.Tie as tie
+
+some-frame-requires : tie.Need-some-frame-requires
+some-frame-requires c κs = search needs
+
+enum-known-found : tie.Need-enum-known-found
+enum-known-found c = search needs
+
+enum-told : tie.Need-enum-told
+enum-told c = search needs
+
+enum-known-found-2 : tie.Need-enum-known-found-2
+enum-known-found-2 c = search needs
+
+returns : tie.Need-returns
+unfolding numberIn frameIn
+returns c =
+    let s = c .before .before .before .some-frame in
+    let e = c .before .found .given .1 in
+    record { found = s .result; answers = s .ensures; is-number = rw e refl; is-frame = rw e refl }
+
+returns-2 : tie.Need-returns-2
+unfolding numberIn frameIn
+returns-2 c =
+    let s = c .before .before .some-frame in
+    let e = c .enum-told .given .1 in
+    record { found = s .result; answers = s .ensures; is-number = rw e refl; is-frame = rw e refl }
+
+returns-3 : tie.Need-returns-3
+unfolding numberIn frameIn
+returns-3 c =
+    let s = c .before .before .before .some-frame in
+    let e = c .before .found2 .given .1 in
+    record { found = s .result; answers = s .ensures; is-number = rw e refl; is-frame = rw e refl }
+
+pub dock-some-frame-spec : {M : Type 1} → statement M
+dock-some-frame-spec =
+    tie.close
+    (tie.spec
+    some-frame-requires
+    enum-known-found
+    enum-told
+    enum-known-found-2
+    returns
+    returns-2
+    returns-3)

@@ -1,0 +1,125 @@
+// The question of the bench: some frame in the log whose delivery now would be accepted and change the receiver's record.
+use decide::Numbers;
+use plan::Reply;
+ghost use mathlib.Core.Path.{_≡_};
+ghost use mathlib.Core.Bool.{true};
+ghost use Prim.Native.Nat.{_≤_};
+ghost use lib.ListN.{length};
+ghost use Rattle.octets.specs.Test.{first};
+ghost use Rattle.endpoint.specs.Record.{recordSize};
+ghost use Rattle.calls.specs.Calls.{receive};
+ghost use Rattle.link.specs.Record.{format};
+ghost use Rattle.console.specs.Line.{room};
+ghost use Rattle.rig.specs.Bench.{benchOf, made};
+ghost use Rattle.question.specs.Found.{Changes, Matters, questions, Answers, Told};
+ghost use Rattle.question.specs.Parts.{sameNumbers, hasPlace, Says};
+
+// What the question answers: a frame's number, none, or the number of a refusal.
+pub enum Found {
+    Frame(usize),
+    Nothing,
+    Refused(u8),
+}
+
+// All six are compared without a branch between them.
+fn same(n: Numbers, m: Numbers) -> bool
+    ensures { λ r. ⌜ r ≡ sameNumbers n m ⌝ }
+{
+    (n.state == m.state)
+        & ((n.local == m.local)
+            & ((n.remote == m.remote)
+                & ((n.accepted == m.accepted)
+                    & ((n.delivered == m.delivered) & (n.waiting == m.waiting)))))
+}
+
+// Question 14: what sends a frame needs a place for it in the log.
+fn has_place(reply: Reply, count: usize) -> bool
+    ensures { λ r. ⌜ r ≡ hasPlace reply count ⌝ }
+{
+    match reply {
+        Reply::Nothing => true,
+        Reply::Frame(_) => count < logbook::PLACES,
+    }
+}
+
+// Whether receiving s would be accepted, by 14 too, and change the record. The plan for it tells: the waiting blocks change only
+// with their count, so that the numbers are all that is compared, and nothing is copied.
+fn changes(rec: &[u8], s: &[u8], count: usize) -> bool
+    requires { ⌜ (recordSize ≤ length (now rec)) × (format .sound (now rec) ≡ true) ⌝ }
+    ensures { λ r. ⌜ Says r (Changes (now (rec .entry)) (made (now (rec .entry)) count (receive (now (s .entry)) room))) ⌝ }
+{
+    let n = endpoint::load_numbers(rec);
+    let p = receiving::receive(n, s);
+    if p.number != plan::ACCEPTED {
+        return false;
+    }
+    let reply = p.reply;
+    if !has_place(reply, count) {
+        return false;
+    }
+    let m = p.numbers;
+    !same(m, n)
+}
+
+// Whether the delivery of frame n would. It goes to the end that did not send it.
+fn matters(a: &[u8], b: &[u8], log: &[u8], count: usize, n: usize) -> bool
+    requires { ⌜ first (questions (benchOf (now a) (now b) (now log) count)) ≡ 0 ⌝ }
+    ensures { λ r. ⌜ Says r (Matters (benchOf (now (a .entry)) (now (b .entry)) (now (log .entry)) count) n) ⌝ }
+{
+    if !logbook::holds(log, count, n) {
+        return false;
+    }
+    let s = logbook::frame_of(log, n);
+    if logbook::sender_of(log, n) == 0 {
+        return changes(b, s, count);
+    }
+    changes(a, s, count)
+}
+
+// Asks 11 and 12 of the records, the log and the count, then frame by frame.
+pub fn some_frame(a: &[u8], b: &[u8], log: &[u8], count: usize) -> Found
+    ensures { λ r. ⌜ Answers (benchOf (now (a .entry)) (now (b .entry)) (now (log .entry)) count) r ⌝ }
+{
+    let refusal = checks::ready(a, b, log, count, octets::LONGEST_FRAME);
+    if refusal != 0 {
+        return Found::Refused(refusal);
+    }
+    let mut i: usize = 0;
+    loop {
+        if i >= count {
+            break Found::Nothing;
+        }
+        if matters(a, b, log, count, i) {
+            break Found::Frame(i);
+        }
+        i += 1;
+    }
+}
+
+// The same for programs in C: answers the number; the frame's goes to the last, 512 where there is none.
+#[no_mangle]
+pub extern "C" fn dock_some_frame(
+    a: &[u8],
+    b: &[u8],
+    log: &[u8],
+    count: usize,
+    frame: &mut usize,
+) -> u8
+    ensures { λ r. ⌜ Told (benchOf (now (a .entry)) (now (b .entry)) (now (log .entry)) count) r (now (frame .exit)) ⌝ }
+{
+    let found = some_frame(a, b, log, count);
+    match found {
+        Found::Frame(n) => {
+            *frame = n;
+            0
+        }
+        Found::Nothing => {
+            *frame = logbook::PLACES;
+            0
+        }
+        Found::Refused(number) => {
+            *frame = logbook::PLACES;
+            number
+        }
+    }
+}
