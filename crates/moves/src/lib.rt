@@ -106,7 +106,7 @@ pub fn refuse(rec: &[u8], number: u8) -> Moved
 
 // The same call with question 14, last: a call that sends needs a place in the log. Where none is left the call is tried on a
 // copy first.
-pub fn move_end(asked: bool, rec: &mut [u8], s: &[u8], count: usize, out: &mut [u8]) -> Moved
+fn move_end(asked: bool, rec: &mut [u8], s: &[u8], count: usize, out: &mut [u8]) -> Moved
     requires { ⌜ (recordSize ≤ length (now rec)) × (longestFrame ≤ length (now out)) ⌝ }
     ensures { λ r. ⌜ Moves (made (now (rec .entry)) count (callAs asked (now (s .entry)) (now (out .entry)))) (now (rec .entry)) (now (out .entry)) (now (rec .exit)) (now (out .exit)) r ⌝ }
 {
