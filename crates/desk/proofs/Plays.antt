@@ -6,18 +6,16 @@ use mathlib.Core.Bool.{Bool, true, false}
 use mathlib.Core.List.{List, [], _∷_, _++_}
 use native.Mathlib.Omega.{arith}
 use borrow.Author.Tests.{le-leb, lt-leb}
-use lib.Dec.{leb, eqb}
 use lib.ListN.{length, take, drop, length-take, length-drop}
-use Rattle.octets.specs.Test.{when, ifEq, first, Outcome, refused, ok, outcome, refusing, mapped, andThen}
-use Rattle.octets.specs.Octets.{put, field, left}
+use Rattle.octets.specs.Test.{when, first, Outcome, refused, ok, outcome, refusing, mapped, andThen}
+use Rattle.octets.specs.Octets.{field, left}
 use Rattle.octets.proofs.Test.{if-eq, by-eq, eq-yes}
-use Rattle.hexline.specs.Line.{unhex, lineQuestions}
+use Rattle.hexline.specs.Line.{unhex}
 use Rattle.frame.specs.Read.{kindOf}
-use Rattle.calls.specs.Calls.{request, receive, wire}
-use Rattle.plan.specs.Plan.{sentIn}
+use Rattle.calls.specs.Calls.{request, receive}
 use Rattle.link.specs.Lent.{sentOf, blockOf}
 use Rattle.logbook.specs.Log.{senderAt, lengthAt, frameAt, holds}
-use Rattle.console.specs.declared.Told.{Told}
+use Rattle.logbook.proofs.Log.{held}
 use Rattle.console.specs.declared.Reply.{Reply}
 use Rattle.console.specs.declared.Reply.the-variants as reply
 use Rattle.console.specs.Line.{room}
@@ -25,13 +23,12 @@ use Rattle.console.specs.Text.{textOf, told, text, replyOf}
 use Rattle.console.specs.Parts.{Begins}
 use Rattle.console.proofs.Ends.{sent-fits, sent-taken}
 use Rattle.console.proofs.Lines.{by-reply}
-use Rattle.rig.specs.Bench.{Bench, benchOf, recordAt, At, delivery, asks, asked, made, comes, endOf, benchAfter}
+use Rattle.rig.specs.Bench.{Bench, benchOf, recordAt, At, delivery, asks, asked, made, comes, endOf}
 use Rattle.moves.specs.declared.Answer.{Answer}
 use Rattle.moves.specs.Answer.{answerOf}
 use Rattle.moves.proofs.Does.{no-block}
 use Rattle.moves.proofs.Handed.{made-from}
 use Rattle.testbench.specs.Played.{Played}
-use Rattle.testbench.proofs.Plays.{held}
 use Rattle.desk.specs.Text.{lead, benchText, toldIn, askedWith, benchIn, Answered}
 use Rattle.desk.specs.Parts.{Gives}
 
@@ -72,7 +69,7 @@ module _ (w : Bench) where
   fine-delivery n out =
       fine-outcome (holds (w .count) n (w .log)) _ (λ z. record {
         end = omega arith;
-        block = received (1 - senderAt n (w .log)) (frameAt n (w .log)) out (frame-short n (held (w .a) (w .b) (w .log) (w .count) n z .short));
+        block = received (1 - senderAt n (w .log)) (frameAt n (w .log)) out (frame-short n (held (w .count) n (w .log) z .short));
       })
 
   fine-asks : (s out : List ℕ) → Fine (asks w s out)

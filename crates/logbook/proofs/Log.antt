@@ -1,21 +1,36 @@
 -- Places of the log. Assumes nothing.
-use Prim.Native.Nat.{ℕ, zero, suc, _+_, _-_, _≤_}
+use Prim.Native.Nat.{ℕ, zero, suc, _+_, _-_, _≤_, _<_}
 use mathlib.Core.Path.{_≡_, refl, sym, ap, _∙_}
-use mathlib.Core.Bool.{false}
+use mathlib.Core.Bool.{true, false}
 use mathlib.Core.List.{List, [], _∷_}
 use native.Mathlib.Omega.{arith}
-use borrow.Author.Tests.{le-ltb}
+use borrow.Author.Tests.{ltb-true, leb-true, le-ltb}
+use lib.Dec.{ltb, leb}
 use lib.ListN.{length, take, drop, replicate}
 use lib.Seq.{take-length}
 use Rattle.octets.specs.Octets.{put}
+use Rattle.octets.proofs.Test.{both, within}
 use Rattle.octets.proofs.Octets.{put-more}
 use Rattle.endpoint.specs.View.{padded}
-use Rattle.logbook.specs.Log.{holds, place}
+use Rattle.logbook.specs.Log.{senderAt, lengthAt, holds, place}
 
 -- a number that is too high
 pub too-high : (count n : ℕ) (log : List ℕ) → count ≤ n → false ≡ holds count n log
 unfolding holds
 too-high count n log h = rw (le-ltb n count h) refl
+
+-- a frame that the log holds
+pub record Held (count n : ℕ) (log : List ℕ) : Type 0 where
+  pub below : n < count
+  pub sender : senderAt n log ≤ 1
+  pub short : lengthAt n log ≤ 78
+
+pub held : (count n : ℕ) (log : List ℕ) → holds count n log ≡ true → Held count n log
+unfolding holds
+held count n log t =
+    let a = both (ltb n count) _ t in
+    let b = both (leb (senderAt n log) 1) _ (a .1) in
+    record { below = ltb-true n count (a .0); sender = leb-true (senderAt n log) 1 (b .0); short = within 9 78 (lengthAt n log) (b .1) .1 }
 
 -- the rest of a list of zeros
 abbrev zeros : ℕ → List ℕ

@@ -1,6 +1,6 @@
 -- What the calls keep: an accepted call of a sound struct leaves a sound struct, which holds the endpoint that the step table
 -- gives. Assumes nothing.
-use Prim.Native.Nat.{ℕ, zero, suc, _+_, _≤_}
+use Prim.Native.Nat.{ℕ, _+_, _≤_}
 use mathlib.Core.Path.{_≡_, refl, sym, subst, ap, _∙_}
 use mathlib.Core.Bool.{Bool, true}
 use mathlib.Core.List.{List}
@@ -9,10 +9,10 @@ use borrow.Author.Tests.{leb-true, eqb-true}
 use lib.Dec.{leb, eqb}
 use lib.ListN.{length, getD, length-drop}
 use Rattle.octets.specs.Sizes.{lastNumber}
-use Rattle.octets.specs.Test.{first, Outcome, refused, ok, refusing, mapped, andThen}
+use Rattle.octets.specs.Test.{first, Outcome, refused, ok, mapped, andThen}
 use Rattle.octets.specs.Octets.{field, Octets}
 use Rattle.octets.proofs.Octets.{field-one, field-more}
-use Rattle.octets.proofs.Test.{within, by-eq, accepted, all-yes}
+use Rattle.octets.proofs.Test.{within, by-eq, accepted, all-yes, passing}
 use Rattle.frame.specs.Frame.{DRACK, DATA, Frame}
 use Rattle.frame.specs.Fits.{Fits, control-fits, data-fits, ack-fits}
 use Rattle.frame.specs.Layout.{isFrame}
@@ -93,11 +93,6 @@ mapped-ok : {A B : Type 0} (f : A → B) (o : Outcome A) (next : B → Outcome S
 unfolding andThen mapped
 mapped-ok f (refused n) next h = absurd (let z : _≡_ {A = ℕ} 0 1 = ap good h in omega arith)
 mapped-ok f (ok x) next h = (x, refl, h)
-
-passing : (n : ℕ) {o : Outcome Step} {y : Step} → refusing n o ≡ ok y → (n ≡ 0) × (o ≡ ok y)
-unfolding refusing
-passing zero h = (refl, h)
-passing (suc n) h = absurd (let z : _≡_ {A = ℕ} 0 1 = ap good h in omega arith)
 
 ready-sound : (t : Bool) (c : Call) → first (ownQuestions t c) ≡ 0 → t ≡ true
 ready-sound t c h = all-yes 12 t _ (all-yes 11 _ _ h tt .1) tt .0

@@ -1,17 +1,17 @@
 -- The block handed up stands in the log where the answer says. Assumes nothing.
 use Prim.Native.Nat.{ℕ, zero, suc, _+_, _-_, _*_, _≤_, _<_}
-use mathlib.Core.Path.{_≡_, refl, sym, ap, subst, _∙_}
+use mathlib.Core.Path.{_≡_, refl, sym, ap, _∙_}
 use mathlib.Core.Logic.{_≢_, _⊎_, inl, inr, ⊎-elim}
 use mathlib.Core.Bool.{Bool}
 use mathlib.Core.List.{List, [], _∷_}
 use native.Mathlib.Omega.{arith}
 use lib.ListN.{length, take, drop}
 use lib.Seq.{drop-drop}
-use Rattle.octets.specs.Test.{when, ifEq, first, Outcome, refused, ok, outcome, refusing, andThen}
-use Rattle.octets.proofs.Test.{by-eq, eq-yes, eq-no}
+use Rattle.octets.specs.Test.{when, Outcome, refused, ok, outcome, refusing, andThen}
+use Rattle.octets.proofs.Test.{by-eq, eq-no}
 use Rattle.protocol.specs.Endpoint.{Endpoint}
 use Rattle.protocol.specs.Table.{Step, Sent, nothing, frame}
-use Rattle.calls.specs.Calls.{Call, receive, asked, wire, performed}
+use Rattle.calls.specs.Calls.{receive, asked, wire, performed}
 use Rattle.plan.specs.Plan.{noticeOf}
 use Rattle.link.specs.Record.{format}
 use Rattle.link.specs.Lent.{sentOf, blockOf}

@@ -15,7 +15,7 @@ use Rattle.octets.proofs.Octets.{field-one}
 use Rattle.frame.specs.Layout.{encode}
 use Rattle.protocol.specs.Endpoint.{fresh}
 use Rattle.protocol.specs.Table.{Step, Sent, nothing, frame}
-use Rattle.calls.specs.Calls.{Call, request, receive, said, asked, wire, performed, recordAfter, bufferAfter}
+use Rattle.calls.specs.Calls.{Call, said, asked, wire, performed}
 use Rattle.plan.specs.Plan.{noticeOf}
 use Rattle.endpoint.specs.declared.Endpoint.{Endpoint}
 use Rattle.endpoint.specs.View.{pack}

@@ -1,24 +1,21 @@
 -- What an accepted line asks: a call at an end, which is due if it is a delivery. Assumes nothing.
-use Prim.Native.Nat.{ℕ, _≤_, _<_}
+use Prim.Native.Nat.{ℕ, _≤_}
 use mathlib.Core.Path.{_≡_, subst}
 use mathlib.Core.Logic.{_≢_}
-use mathlib.Core.Bool.{true}
 use mathlib.Core.List.{List}
 use native.Mathlib.Omega.{arith}
-use borrow.Author.Tests.{ltb-true, leb-true}
-use lib.Dec.{ltb, leb}
+use borrow.Author.Tests.{leb-true}
 use lib.ListN.{length, drop}
 use Rattle.octets.specs.Test.{Outcome, refused, ok}
 use Rattle.octets.specs.Octets.{field}
-use Rattle.octets.proofs.Test.{if-eq, accepted, all-yes, both}
+use Rattle.octets.proofs.Test.{if-eq, accepted, all-yes, passing}
 use Rattle.hexline.specs.Line.{unhex}
 use Rattle.frame.specs.Read.{kindOf}
 use Rattle.calls.specs.Calls.{request, receive}
 use Rattle.calls.specs.Claim.{Entry, Ends, DueAt}
-use Rattle.logbook.specs.Log.{senderAt, holds}
+use Rattle.logbook.proofs.Log.{held}
 use Rattle.rig.specs.Bench.{Bench, At, delivery, asks, asked}
 use Rattle.rig.specs.Run.{entry}
-use Rattle.rig.proofs.Sends.{passing}
 use Rattle.rig.proofs.Logged.{SentBy, Logged}
 
 -- a call at A or B that is due
@@ -35,14 +32,6 @@ gives-fair : (e : Ends) (j : ℕ) (s out : List ℕ) {i n : ℕ} → SentBy e i 
 unfolding entry
 gives-fair e j s out x l h g = (l, if-eq (λ (y : Entry). DueAt y e) j 0 (λ k. x .by-b (h k)) (λ k. x .by-a (g k)))
 
--- a frame that the log holds
-held-so : (count n : ℕ) (log : List ℕ) → holds count n log ≡ true → (n < count) × (senderAt n log ≤ 1)
-unfolding holds
-held-so count n log t =
-    let a = both (ltb n count) _ t in
-    let b = both (leb (senderAt n log) 1) _ (a .1) in
-    (ltb-true n count (a .0), leb-true (senderAt n log) 1 (b .0))
-
 module _ (w : Bench) (e : Ends) (h : Logged e (w .count) (w .log)) where
   abbrev IfOk : Outcome At → Type 0
   IfOk o = (x : At) → o ≡ ok x → Fair e x
@@ -57,8 +46,8 @@ module _ (w : Bench) (e : Ends) (h : Logged e (w .count) (w .log)) where
   unfolding delivery
   delivery-fair n out x k =
       let a = accepted _ _ k in
-      let t = held-so (w .count) n (w .log) (all-yes 13 _ _ (a .0) tt .0) in
-      subst (λ (z : At). Fair e z) (a .1) (gives-fair e _ _ out (h n (t .0)) (omega arith) (λ j. omega arith) (λ j. omega arith))
+      let t = held (w .count) n (w .log) (all-yes 13 _ _ (a .0) tt .0) in
+      subst (λ (z : At). Fair e z) (a .1) (gives-fair e _ _ out (h n (t .below)) (omega arith) (λ j. omega (arith, t .sender)) (λ j. omega (arith, t .sender)))
 
   asks-so : (s out : List ℕ) → IfOk (asks w s out)
   unfolding asks

@@ -9,7 +9,7 @@ use lib.Dec.{ltb}
 use lib.ListN.{length}
 use Rattle.octets.specs.Test.{when, ifEq, Outcome, refused, ok, mapped, andThen}
 use Rattle.octets.specs.Octets as octets
-use Rattle.octets.proofs.Test.{if-eq, accepted, all-yes}
+use Rattle.octets.proofs.Test.{if-eq, accepted, all-yes, then-of}
 use Rattle.frame.specs.Frame.{Frame}
 use Rattle.frame.specs.Layout.{encode}
 use Rattle.protocol.specs.Table.{frame, Step}
@@ -23,7 +23,7 @@ use Rattle.link.specs.Record.{format}
 use Rattle.link.proofs.Demand.{lawful, no-end-alone}
 use Rattle.rig.specs.Bench.{Bench, At, recordAt, asked, sends, logged, made, comes, endOf, logAfter, countAfter, benchAfter}
 use Rattle.rig.specs.Run.{Line, played, playedAll, entry, callIn, callsOf, newBench, Holds}
-use Rattle.rig.proofs.Sends.{then-of, grows, has-sent, encode-short}
+use Rattle.rig.proofs.Sends.{grows, has-sent, encode-short}
 use Rattle.rig.proofs.Logged.{Among, Logged, Grows, still, logs}
 use Rattle.rig.proofs.Fair.{asked-fair}
 

@@ -1,10 +1,11 @@
 -- What an accepted call adds to what its end has sent, and how long a frame is. Assumes nothing.
-use Prim.Native.Nat.{ℕ, zero, suc, _≤_}
+use Prim.Native.Nat.{ℕ, _≤_}
 use mathlib.Core.Path.{_≡_, refl}
 use mathlib.Core.List.{List, map, List·Memᴰ, List·Memᴰ·head, List·Memᴰ·tail}
 use native.Mathlib.Omega.{arith}
 use lib.ListN.{length, length-append}
-use Rattle.octets.specs.Test.{Outcome, refused, ok, refusing, andThen}
+use Rattle.octets.specs.Test.{ok}
+use Rattle.octets.proofs.Test.{passing, then-of}
 use Rattle.octets.proofs.Octets.{length-bytes}
 use Rattle.frame.specs.Frame.{Frame}
 use Rattle.frame.specs.Fits.{Fits, control-fits, data-fits, ack-fits}
@@ -15,17 +16,6 @@ use Rattle.protocol.specs.Network.{also, sent}
 use Rattle.protocol.specs.Network as protocol
 use Rattle.calls.specs.Calls.{Format, Call, said, asked, performed}
 use Rattle.calls.specs.Claim.{End, recorded, after}
-
--- the parts of an accepted outcome
-pub passing : {A : Type 0} (n : ℕ) {o : Outcome A} {y : A} → refusing n o ≡ ok y → (n ≡ 0) × (o ≡ ok y)
-unfolding refusing
-passing zero h = (refl, h)
-passing (suc n) h = absurd (let z : _≡_ {A = ℕ} 0 1 = cc in omega arith)
-
-pub then-of : {A B : Type 0} (o : Outcome A) (f : A → Outcome B) {y : B} → andThen o f ≡ ok y → (x : A) × (o ≡ ok x) × (f x ≡ ok y)
-unfolding andThen
-then-of (refused n) f h = absurd (let z : _≡_ {A = ℕ} 0 1 = cc in omega arith)
-then-of (ok x) f h = (x, refl, h)
 
 -- only a call whose octets say one is accepted
 says : (format : Format) (rec : List ℕ) (c : Call) {y : Step} → performed format rec c ≡ ok y → (x : protocol.Call) × (said c ≡ ok x)

@@ -1,13 +1,13 @@
 -- What a bench line comes to, from what its parts answer. Assumes nothing.
-use Prim.Native.Nat.{ℕ, suc, _+_, _-_, _*_, _/_, _%_, _≤_, _<_}
-use mathlib.Core.Path.{_≡_, refl, sym, ap, _∙_}
+use Prim.Native.Nat.{ℕ, suc, _+_, _-_, _*_, _/_, _%_, _≤_}
+use mathlib.Core.Path.{_≡_, refl, ap, _∙_}
 use mathlib.Core.Logic.{_≢_}
 use mathlib.Core.Bool.{true, false}
 use mathlib.Core.List.{List, [], _∷_, _++_}
 use native.Mathlib.Omega.{arith}
-use lib.Dec.{leb, eqb}
+use lib.Dec.{eqb}
 use lib.ListN.{length, drop, getD}
-use borrow.Author.Tests.{leb-true, ltb-true, eqb-true, eq-eqb, ne-eqb}
+use borrow.Author.Tests.{eqb-true, le-leb, eq-eqb, ne-eqb}
 use Rattle.octets.specs.Test.{when, ifEq, Question, first, Outcome, refused, ok, outcome, refusing, mapped, andThen}
 use Rattle.octets.specs.Octets.{field, left}
 use Rattle.octets.proofs.Test.{eq-yes, eq-no, both, within, all-yes}
@@ -16,11 +16,12 @@ use Rattle.hexline.specs.Line.{unhex, lengthOk, lineQuestions}
 use Rattle.hexline.proofs.Digits.{length-unhex}
 use Rattle.frame.specs.Read.{kindOf}
 use Rattle.calls.specs.Calls.{Call, request, receive, recordAfter, bufferAfter}
-use Rattle.link.specs.Record.{format}
 use Rattle.link.specs.Lent.{blockOf}
-use Rattle.logbook.specs.Log.{senderAt, lengthAt, frameAt, holds}
+use Rattle.logbook.specs.Log.{senderAt, frameAt, holds}
+use Rattle.logbook.proofs.Log.{held}
 use Rattle.rig.specs.Bench.{Bench, benchOf, recordAt, At, delivery, asks, asked, made, comes, endOf, logAfter, countAfter, benchAfter}
 use Rattle.checks.specs.Ready.{readyQuestions}
+use Rattle.checks.proofs.Passed.{Passed}
 use Rattle.moves.specs.declared.Moved.{Moved}
 use Rattle.moves.specs.declared.Answer.{Answer}
 use Rattle.moves.specs.Answer.{answerOf}
@@ -67,24 +68,12 @@ module _ (a b log : List ℕ) (count : ℕ) where
   unfolding delivery first when outcome
   goes n out h = rw h refl
 
-  pub record Held (n : ℕ) : Type 0 where
-    pub is-below : n < count
-    pub sender : senderAt n log ≤ 1
-    pub short : lengthAt n log ≤ 78
-
-  pub held : (n : ℕ) → holds count n log ≡ true → Held n
-  unfolding holds
-  held n h =
-      let x = both _ _ h in
-      let y = both _ _ (x .1) in
-      record { is-below = ltb-true n count (x .0); sender = leb-true (senderAt n log) 1 (y .0); short = within 9 78 (lengthAt n log) (y .1) .1 }
-
   pub to-b : (n : ℕ) (out : List ℕ) → holds count n log ≡ true → senderAt n log ≡ 0 → delivery w n out ≡ ok (1, receive (frameAt n log) out)
   to-b n out h z = goes n out h ∙ ap (λ (i : ℕ). ok (1 - i, receive (frameAt n log) out)) z
 
   pub to-a : (n : ℕ) (out : List ℕ) → holds count n log ≡ true → senderAt n log ≢ 0 → delivery w n out ≡ ok (0, receive (frameAt n log) out)
   to-a n out h z =
-      let one : senderAt n log ≡ 1 = omega (arith, held n h .sender, z) in
+      let one : senderAt n log ≡ 1 = omega (arith, held count n log h .sender, z) in
       goes n out h ∙ ap (λ (i : ℕ). ok (1 - i, receive (frameAt n log) out)) one
 
   -- what a line's octets ask, by their kind
@@ -130,30 +119,11 @@ module _ (a b log : List ℕ) (count : ℕ) (line out : List ℕ) where
   unfolding asked refusing
   unready k h = ap (λ (m : ℕ). refusing m (asks v (unhex line) out)) (later (readyQuestions v (length out)) (lineQuestions line) k h)
 
-  pub record Ready : Type 0 where
-    pub long-a : leb 538 (length a) ≡ true
-    pub long-b : leb 538 (length b) ≡ true
-    pub long-log : leb 40960 (length log) ≡ true
-    pub long-out : leb 78 (length out) ≡ true
-    pub sound-a : format .sound a ≡ true
-    pub sound-b : format .sound b ≡ true
-    pub counted : leb count 512 ≡ true
-
-  pub ready : first (readyQuestions v (length out)) ≡ 0 → Ready
-  ready h =
-      let q1 = all-yes 11 _ _ h tt in
-      let q2 = all-yes 11 _ _ (q1 .1) tt in
-      let q3 = all-yes 11 _ _ (q2 .1) tt in
-      let q4 = all-yes 11 _ _ (q3 .1) tt in
-      let q5 = all-yes 12 _ _ (q4 .1) tt in
-      let q6 = all-yes 12 _ _ (q5 .1) tt in
-      let q7 = all-yes 12 _ _ (q6 .1) tt in
-      record { long-a = q1 .0; long-b = q2 .0; long-log = q3 .0; long-out = q4 .0; sound-a = q5 .0; sound-b = q6 .0; counted = q7 .0 }
-
-  module _ (y : Ready) where
+  module _ (y : Passed v (length out)) where
     next : asked v line out ≡ refusing (first (lineQuestions line)) (asks v (unhex line) out)
     unfolding asked first when
-    next = rw (y .long-a, y .long-b, y .long-log, y .long-out, y .sound-a, y .sound-b, y .counted) refl
+    next =
+        rw (le-leb 538 (length a) (y .long-a), le-leb 538 (length b) (y .long-b), le-leb 40960 (length log) (y .long-log), le-leb 78 (length out) (y .enough), y .sound-a, y .sound-b, le-leb count 512 (y .few)) refl
 
     -- then 1 and 2 of the line
     pub passes : first (lineQuestions line) ≡ 0 → asked v line out ≡ asks v (unhex line) out
@@ -165,7 +135,7 @@ module _ (a b log : List ℕ) (count : ℕ) (line out : List ℕ) where
     turned-away k h = next ∙ ap (λ (m : ℕ). refusing m (asks v (unhex line) out)) h
 
     pub sizes : (538 ≤ length a) × ((538 ≤ length b) × ((40960 ≤ length log) × ((count ≤ 512) × (78 ≤ length out))))
-    sizes = (leb-true _ _ (y .long-a), (leb-true _ _ (y .long-b), (leb-true _ _ (y .long-log), (leb-true _ _ (y .counted), leb-true _ _ (y .long-out)))))
+    sizes = (y .long-a, (y .long-b, (y .long-log, (y .few, y .enough))))
 
 -- a line has at least one octet
 pub some-octet : (line : List ℕ) → first (lineQuestions line) ≡ 0 → 1 ≤ length (unhex line)

@@ -1,5 +1,4 @@
 use Rattle.endpoint.specs.Record.{decode}
-use native.Mathlib.Omega.{arith}
 use borrow.Author.Needs.{needs}
 use Rattle.checks.proofs.is_sound.Statement.{statement}
 use Rattle.checks.proofs.is_sound.Tie as tie

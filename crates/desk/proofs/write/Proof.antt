@@ -2,7 +2,6 @@ use denote.Ref.{now}
 use Rattle.console.specs.Line.{room}
 use Rattle.rig.specs.Bench.{benchOf}
 use Rattle.desk.proofs.Plays.{fine, tellable, gives}
-use native.Mathlib.Omega.{arith}
 use borrow.Author.Needs.{needs}
 use Rattle.desk.proofs.write.Statement.{statement}
 use Rattle.desk.proofs.write.Tie as tie

@@ -2,7 +2,6 @@ use mathlib.Core.Path.{sym}
 use Rattle.octets.proofs.Test.{eq-yes, eq-no}
 use Rattle.moves.specs.Answer.{blockAt}
 use Rattle.moves.specs.Parts.{blockPlace}
-use native.Mathlib.Omega.{arith}
 use borrow.Author.Needs.{needs}
 use Rattle.moves.proofs.block_place.Statement.{statement}
 use Rattle.moves.proofs.block_place.Tie as tie

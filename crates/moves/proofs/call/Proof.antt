@@ -1,13 +1,10 @@
 use mathlib.Core.Path.{ap}
-use mathlib.Core.List.{List}
-use Prim.Native.Nat.{ℕ}
 use denote.Ref.{now}
 use lib.ListN.{length}
 use Rattle.octets.specs.Test.{when}
 use Rattle.console.proofs.Ends.{request-none}
 use Rattle.moves.specs.Parts.{callAs}
 use Rattle.moves.proofs.Moves.{moved}
-use native.Mathlib.Omega.{arith}
 use borrow.Author.Needs.{needs}
 use Rattle.moves.proofs.call.Statement.{statement}
 use Rattle.moves.proofs.call.Tie as tie

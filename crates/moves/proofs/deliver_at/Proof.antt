@@ -1,6 +1,4 @@
-use mathlib.Core.Path.{_≡_}
 use denote.Ref.{now}
-use lib.ListN.{length}
 use Rattle.calls.specs.Calls as calls
 use Rattle.octets.specs.Test.{when}
 use Rattle.logbook.specs.Log.{frameAt}
@@ -8,7 +6,6 @@ use Rattle.moves.specs.Parts.{callAs}
 use Rattle.moves.proofs.Does.{loggable, does}
 use Rattle.moves.proofs.Moves.{has-place}
 use Rattle.moves.proofs.Handed.{stands}
-use native.Mathlib.Omega.{arith}
 use borrow.Author.Needs.{needs}
 use Rattle.moves.proofs.deliver_at.Statement.{statement}
 use Rattle.moves.proofs.deliver_at.Tie as tie

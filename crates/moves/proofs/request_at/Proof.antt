@@ -1,12 +1,9 @@
-use mathlib.Core.Path.{_≡_}
 use denote.Ref.{now}
-use lib.ListN.{length}
 use Rattle.calls.specs.Calls as calls
 use Rattle.octets.specs.Test.{when}
 use Rattle.moves.specs.Parts.{callAs}
 use Rattle.moves.proofs.Does.{no-block, loggable, does, any-frame}
 use Rattle.moves.proofs.Handed.{none-stands}
-use native.Mathlib.Omega.{arith}
 use borrow.Author.Needs.{needs}
 use Rattle.moves.proofs.request_at.Statement.{statement}
 use Rattle.moves.proofs.request_at.Tie as tie

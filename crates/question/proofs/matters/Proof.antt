@@ -1,3 +1,5 @@
+use Rattle.logbook.proofs.Log.{held}
+use Rattle.checks.proofs.Passed.{Passed}
 use mathlib.Core.Path.{_≡_, sym, _∙_}
 use mathlib.Core.Bool.{true}
 use denote.Ref.{now}
@@ -5,7 +7,7 @@ use native.Mathlib.Omega.{arith}
 use borrow.Author.Tests.{not-true, not-false}
 use Rattle.logbook.specs.Log.{holds}
 use Rattle.rig.specs.Bench.{Bench, benchOf}
-use Rattle.question.proofs.Delivery.{Ready, ready, held, not-held, to-a, to-b}
+use Rattle.question.proofs.Delivery.{ready, not-held, to-a, to-b}
 use Rattle.question.proofs.matters.Statement.{statement}
 use Rattle.question.proofs.matters.Tie as tie
 
@@ -13,7 +15,7 @@ abbrev bench : tie.Start → Bench
 bench c = benchOf (now (c .args .a)) (now (c .args .b)) (now (c .args .log)) (c .args .count)
 
 -- 11 and 12 have been passed
-is-ready : (c : tie.Start) → Ready (bench c)
+is-ready : (c : tie.Start) → Passed (bench c) 78
 is-ready c = ready (bench c) (c .pre)
 
 -- 13 has been passed

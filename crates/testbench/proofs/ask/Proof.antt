@@ -1,14 +1,12 @@
 use Rattle.console.proofs.Text.{whole}
 use Prim.Native.Nat.{_+_, _*_}
-use mathlib.Core.Path.{_≡_, sym, _∙_}
-use native.Mathlib.Omega.{arith}
+use mathlib.Core.Path.{_≡_, sym}
 use lib.ListN.{drop}
 use denote.Ref.{now}
 use Rattle.octets.specs.Octets.{field}
 use Rattle.frame.specs.Read.{kindOf}
 use Rattle.calls.specs.Calls as calls
 use Rattle.testbench.proofs.Plays.{declines, at-a, at-b, asks-a, asks-b, asks-none, asks-short, asks-frame, number-of}
-use native.Mathlib.Omega.{arith}
 use borrow.Author.Needs.{needs}
 use Rattle.testbench.proofs.ask.Statement.{statement}
 use Rattle.testbench.proofs.ask.Tie as tie

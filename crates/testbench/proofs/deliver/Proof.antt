@@ -1,10 +1,11 @@
+use Rattle.logbook.proofs.Log.{held}
 use mathlib.Core.Path.{sym, _∙_}
 use native.Mathlib.Omega.{arith}
 use borrow.Author.Tests.{not-true, not-false}
 use Rattle.calls.specs.Calls as calls
 use Rattle.logbook.specs.Log.{frameAt}
 use denote.Ref.{now}
-use Rattle.testbench.proofs.Plays.{declines, at-a, at-b, no-frame, held, to-a, to-b}
+use Rattle.testbench.proofs.Plays.{declines, at-a, at-b, no-frame, to-a, to-b}
 use native.Mathlib.Omega.{arith}
 use borrow.Author.Needs.{needs}
 use Rattle.testbench.proofs.deliver.Statement.{statement}
@@ -26,10 +27,10 @@ returns : tie.Need-returns
 returns c = let a = c .before .before .before .before .before .before .before .before .before .args in declines (now (a .a)) (now (a .b)) (now (a .log)) (a .count) (a .n) 13 (now (a .out)) (no-frame (now (a .a)) (now (a .b)) (now (a .log)) (a .count) (a .n) (now (a .out)) (sym (c .before .before .before .holds .ensures) ∙ not-true (c .before .before .before .holds .result) (c .before .before .if1 .taken))) (c .refuse .ensures (a .n))
 
 sender-of-requires : tie.Need-sender-of-requires
-sender-of-requires c κs = let s = c .before .before .before .before .before .before .before .before in let a = s .args in let h = held (now (a .a)) (now (a .b)) (now (a .log)) (a .count) (a .n) (sym (c .before .before .holds .ensures) ∙ not-false (c .before .before .holds .result) (c .before .if1 .left)) in omega (arith, h .is-below, s .pre)
+sender-of-requires c κs = let s = c .before .before .before .before .before .before .before .before in let a = s .args in let h = held (a .count) (a .n) (now (a .log)) (sym (c .before .before .holds .ensures) ∙ not-false (c .before .before .holds .result) (c .before .if1 .left)) in omega (arith, h .below, s .pre)
 
 deliver-at-requires : tie.Need-deliver-at-requires
-deliver-at-requires c κs = let s = c .before .before .before .before .before .before .before .before .before .before .before .before .before in let a = s .args in let h = held (now (a .a)) (now (a .b)) (now (a .log)) (a .count) (a .n) (sym (c .before .before .before .before .before .before .before .holds .ensures) ∙ not-false (c .before .before .before .before .before .before .before .holds .result) (c .before .before .before .before .before .before .if1 .left)) in omega (arith, h .is-below, h .short, s .pre)
+deliver-at-requires c κs = let s = c .before .before .before .before .before .before .before .before .before .before .before .before .before in let a = s .args in let h = held (a .count) (a .n) (now (a .log)) (sym (c .before .before .before .before .before .before .before .holds .ensures) ∙ not-false (c .before .before .before .before .before .before .before .holds .result) (c .before .before .before .before .before .before .if1 .left)) in omega (arith, h .below, h .short, s .pre)
 
 same-length-3 : tie.Need-same-length-3
 same-length-3 c = search needs
@@ -44,7 +45,7 @@ returns-2 : tie.Need-returns-2
 returns-2 c = let a = c .before .before .before .before .before .before .before .before .before .before .before .before .before .before .before .before .before .before .before .before .args in let h = sym (c .before .before .before .before .before .before .before .before .before .before .before .before .before .before .holds .ensures) ∙ not-false (c .before .before .before .before .before .before .before .before .before .before .before .before .before .before .holds .result) (c .before .before .before .before .before .before .before .before .before .before .before .before .before .if1 .left) in at-b (now (a .a)) (now (a .b)) (now (a .log)) (a .count) (a .n) (calls.receive (frameAt (a .n) (now (a .log))) (now (a .out))) (now (a .out)) (to-b (now (a .a)) (now (a .b)) (now (a .log)) (a .count) (a .n) (now (a .out)) h (sym (c .before .before .before .before .before .before .before .before .before .before .before .sender-of .ensures) ∙ c .before .before .before .before .before .before .before .before .before .before .if2 .taken)) (c .before .before .before .before .before .before .deliver-at .ensures)
 
 deliver-at-requires-2 : tie.Need-deliver-at-requires-2
-deliver-at-requires-2 c κs = let s = c .before .before .before .before .before .before .before .before .before .before .before .before .before in let a = s .args in let h = held (now (a .a)) (now (a .b)) (now (a .log)) (a .count) (a .n) (sym (c .before .before .before .before .before .before .before .holds .ensures) ∙ not-false (c .before .before .before .before .before .before .before .holds .result) (c .before .before .before .before .before .before .if1 .left)) in omega (arith, h .is-below, h .short, s .pre)
+deliver-at-requires-2 c κs = let s = c .before .before .before .before .before .before .before .before .before .before .before .before .before in let a = s .args in let h = held (a .count) (a .n) (now (a .log)) (sym (c .before .before .before .before .before .before .before .holds .ensures) ∙ not-false (c .before .before .before .before .before .before .before .holds .result) (c .before .before .before .before .before .before .if1 .left)) in omega (arith, h .below, h .short, s .pre)
 
 same-length-6 : tie.Need-same-length-6
 same-length-6 c = search needs

@@ -1,3 +1,5 @@
+use Rattle.rig.specs.Bench.{benchOf}
+use Rattle.checks.proofs.Passed as checked
 use Prim.Native.Nat.{ℕ, zero, suc, _≤_}
 use mathlib.Core.Path.{_≡_, refl, sym, ap, _∙_}
 use mathlib.Core.Logic.{_≢_}
@@ -13,7 +15,7 @@ use Rattle.console.proofs.Text.{taken}
 use Rattle.console.proofs.Ends.{put-fits}
 use Rattle.console.proofs.Lines.{Passed, passed, turned-away}
 use Rattle.testbench.proofs.Plays as plays
-use Rattle.testbench.proofs.Plays.{declines, unready, Ready, ready, passes, sizes, some-octet}
+use Rattle.testbench.proofs.Plays.{declines, unready, passes, sizes, some-octet}
 use native.Mathlib.Omega.{arith}
 use borrow.Author.Needs.{needs}
 use Rattle.testbench.proofs.play.Statement.{statement}
@@ -23,8 +25,8 @@ use Rattle.testbench.proofs.play.Tie as tie
 abbrev line : tie.After-ask-arg3 → List ℕ
 line c = now (c .before .before .before .before .before .before .before .before .before .before .before .before .before .before .before .before .before .before .before .args .line)
 
-is-ready : (c : tie.After-ask-arg3) → let a = c .before .before .before .before .before .before .before .before .before .before .before .before .before .before .before .before .before .before .before .args in Ready (now (a .a)) (now (a .b)) (now (a .log)) (a .count) (now (a .line)) (now (a .out))
-is-ready c = let a = c .before .before .before .before .before .before .before .before .before .before .before .before .before .before .before .before .before .before .before .args in ready (now (a .a)) (now (a .b)) (now (a .log)) (a .count) (now (a .line)) (now (a .out)) (sym (c .before .before .before .before .before .before .before .before .before .before .ready .ensures) ∙ c .before .before .before .before .before .before .before .before .before .if1 .left)
+is-ready : (c : tie.After-ask-arg3) → let a = c .before .before .before .before .before .before .before .before .before .before .before .before .before .before .before .before .before .before .before .args in checked.Passed (benchOf (now (a .a)) (now (a .b)) (now (a .log)) (a .count)) (length (now (a .out)))
+is-ready c = let a = c .before .before .before .before .before .before .before .before .before .before .before .before .before .before .before .before .before .before .before .args in checked.passed (benchOf (now (a .a)) (now (a .b)) (now (a .log)) (a .count)) (length (now (a .out))) (sym (c .before .before .before .before .before .before .before .before .before .before .ready .ensures) ∙ c .before .before .before .before .before .before .before .before .before .if1 .left)
 
 is-read : (c : tie.After-ask-arg3) → Passed (line c) (replicate 78 0) refl (c .before .before .before .before .read2 .given .0 .0) (c .before .before .before .before .before .before .before .read .last .1 .0)
 is-read c =
@@ -112,7 +114,7 @@ returns-3 c =
     let a = c .before .before .before .before .before .before .before .before .before .before .before .before .before .before .before .before .before .before .args in
     let r = c .before .before .before .before .before .before .read in
     let q = turned-away (now (a .line)) (replicate 78 0) refl _ (sym (r .ensures .0) ∙ c .before .before .before .read3 .given .1) in
-    let y = ready (now (a .a)) (now (a .b)) (now (a .log)) (a .count) (now (a .line)) (now (a .out)) (sym (c .before .before .before .before .before .before .before .before .before .ready .ensures) ∙ c .before .before .before .before .before .before .before .before .if1 .left) in
+    let y = checked.passed (benchOf (now (a .a)) (now (a .b)) (now (a .log)) (a .count)) (length (now (a .out))) (sym (c .before .before .before .before .before .before .before .before .before .ready .ensures) ∙ c .before .before .before .before .before .before .before .before .if1 .left) in
     declines (now (a .a)) (now (a .b)) (now (a .log)) (a .count) (field 2 1 (unhex (now (a .line)))) _ (now (a .out)) (plays.turned-away (now (a .a)) (now (a .b)) (now (a .log)) (a .count) (now (a .line)) (now (a .out)) y (q .0) (q .1) ∙ ap refused (sym (q .2))) (c .refuse2 .ensures (field 2 1 (unhex (now (a .line)))))
 
 pub play-spec : {M : Type 1} → statement M

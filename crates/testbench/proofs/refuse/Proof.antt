@@ -1,6 +1,5 @@
 use denote.Ref.{now}
 use Rattle.testbench.proofs.Plays.{told}
-use native.Mathlib.Omega.{arith}
 use borrow.Author.Needs.{needs}
 use Rattle.testbench.proofs.refuse.Statement.{statement}
 use Rattle.testbench.proofs.refuse.Tie as tie
