@@ -22,7 +22,7 @@ same-length-2 c = search needs
 
 returns-2 : tie.Need-returns-2
 unfolding receiveOutcome callOf outcomeOf
-returns-2 c = rw (c .before .before .before .before .if1 .taken) (c .before .before .receive .ensures)
+returns-2 c = rw (c .before .before .before .before .if1 .left) (c .before .before .receive .ensures)
 
 pub step-spec : {M : Type 1} → statement M
 step-spec =
