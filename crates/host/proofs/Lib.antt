@@ -1,1 +1,2 @@
 mod Walk
+pub mod Demand
