@@ -25,10 +25,11 @@ pub fn advance(asked: bool, e: &mut Endpoint, s: &[u8], out: &mut [u8]) -> Answe
 }
 
 // The same for callers that hold the record by value, who need no walk: it is lent from here, and answered as the call left it.
-pub fn lend(asked: bool, mut e: Endpoint, s: &[u8], out: &mut [u8]) -> Answer
+pub fn lend(asked: bool, e: Endpoint, s: &[u8], out: &mut [u8]) -> Answer
     ensures { λ r. ⌜ Answered e (outcomeOf e (callOf asked (now (s .entry)) (now (out .entry)))) (now (out .entry)) (now (out .exit)) r ⌝ }
 {
-    let mut r = advance(asked, &mut e, s, out);
-    r.endpoint = e;
+    let mut held = e;
+    let mut r = advance(asked, &mut held, s, out);
+    r.endpoint = held;
     r
 }
