@@ -1,0 +1,80 @@
+use Prim.Native.Nat.{_≤_}
+use mathlib.Core.Path.{_≡_, sym}
+use lib.ListN.{length}
+use lib.Seq.{length-take-le}
+use Rattle.console.proofs.Ends.{put-fits}
+use Rattle.hostrun.proofs.Fits.{frame-fits}
+use native.Mathlib.Omega.{arith}
+use borrow.Author.Needs.{needs}
+use Rattle.hostrun.proofs.call.Statement.{statement}
+use Rattle.hostrun.proofs.call.Tie as tie
+
+slice-aggregate-lend : tie.Need-slice-aggregate-lend
+slice-aggregate-lend c = search needs
+
+lend-requires : tie.Need-lend-requires
+lend-requires c κs = search needs
+
+sub-write-text : tie.Need-sub-write-text
+sub-write-text c = search needs
+
+part-write-text-start : tie.Need-part-write-text-start
+part-write-text-start c = search needs
+
+part-write-text-end : tie.Need-part-write-text-end
+part-write-text-end c = search needs
+
+-- the frame sent has room
+fits : (c : tie.After-frame2) → (length (c .before .lend .last .1 .1 .1 .0) ≡ 78) × (c .before .lend .result .sent ≤ 78)
+fits c = let l : length (c .before .lend .last .1 .1 .1 .0) ≡ 78 = search needs in (l, frame-fits _ _ _ (c .before .lend .ensures) l)
+
+array-share-prefix-frame : tie.Need-array-share-prefix-frame
+array-share-prefix-frame c = omega (arith, fits (c .before .before))
+
+slice-aggregate-write-text : tie.Need-slice-aggregate-write-text
+slice-aggregate-write-text c = sym (length-take-le _ _ (omega (arith, fits (c .before .before .before))))
+
+slice-aggregate-write-text-2 : tie.Need-slice-aggregate-write-text-2
+slice-aggregate-write-text-2 c = search needs
+
+write-text-requires : tie.Need-write-text-requires
+write-text-requires c κs =
+    let f = fits (c .before .before .before .before) in
+    (search needs, (search needs, omega (arith, f, length-take-le (c .before .before .before .before .before .lend .result .sent) (c .before .before .before .before .before .lend .last .1 .1 .1 .0) (omega (arith, f)))))
+
+-- and so has the text
+text-fits : (c : tie.After-text2) → (length (c .before .write-text .last .1 .1 .1 .0) ≡ 310) × (c .before .write-text .result ≤ 310)
+text-fits c =
+    let e = c .before .write-text .ensures in
+    let l : length (c .before .write-text .last .1 .1 .1 .0) ≡ 310 = search needs in
+    (l, omega (arith, e .count, put-fits _ _ (e .buffer) l))
+
+array-share-prefix-text : tie.Need-array-share-prefix-text
+array-share-prefix-text c = omega (arith, text-fits c)
+
+slice-aggregate-write-all : tie.Need-slice-aggregate-write-all
+slice-aggregate-write-all c = sym (length-take-le _ _ (omega (arith, text-fits (c .before))))
+
+write-all-requires : tie.Need-write-all-requires
+write-all-requires c κs = search needs
+
+returns : tie.Need-returns
+returns c = search needs
+
+pub call-spec : {M : Type 1} → statement M
+call-spec =
+    tie.close
+    (tie.spec
+    slice-aggregate-lend
+    lend-requires
+    sub-write-text
+    part-write-text-start
+    part-write-text-end
+    array-share-prefix-frame
+    slice-aggregate-write-text
+    slice-aggregate-write-text-2
+    write-text-requires
+    array-share-prefix-text
+    slice-aggregate-write-all
+    write-all-requires
+    returns)
