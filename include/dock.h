@@ -3,7 +3,8 @@
  *
  * An end is a record of 538 bytes that the host keeps and lends to each call. Frames come and go as bytes: the host carries them to
  * the other end, over a mesh that may lose, repeat and reorder them, and decides when to make a timer call. Nothing is allocated, and
- * nothing is kept between calls but the record; on a bench, the two records, the book and its count.
+ * nothing is kept between calls but the record; on a bench, the two records, the book and its count. What is lent to one call must
+ * not overlap.
  *
  * Link with the static library that has the call (built by `rt staticlib NAME`):
  *   link       dock_fresh, dock_request, dock_receive

@@ -51,7 +51,7 @@ At = ℕ × Call
 unfoldable pub delivery : Bench → ℕ → List ℕ → Outcome At
 delivery w n out = outcome (first ((13, holds (w .count) n (w .log)) ∷ [])) (1 - senderAt n (w .log), receive (frameAt n (w .log)) out)
 
--- Line 50 or 51 and a request: end A or B. Line 52 and a number of 2 octets: deliver that frame.
+-- Line 50 or 51 and a request: end A or B. Line 52 and a number of 2 octets: deliver that frame. (80, 81, 82 are not hexadecimal.)
 unfoldable pub asks : Bench → List ℕ → List ℕ → Outcome At
 asks w s out =
     ifEq (kindOf s) 80 (ok (0, request (drop 1 s) out))
