@@ -21,9 +21,11 @@ use Rattle.link.specs.Record.{format}
 use Rattle.link.specs.Lent.{sentOf, blockIn, blockOf, Lent}
 use Rattle.link.proofs.Up.{right}
 use Rattle.console.specs.Line.{room}
-use Rattle.console.specs.Text.{textOf, told, text}
-use Rattle.console.specs.Parts.{Begins, Gives}
-use Rattle.console.proofs.Text.{taken}
+use Rattle.text.specs.Text.{textOf}
+use Rattle.console.specs.Text.{told, text}
+use Rattle.text.specs.Text.{Begins}
+use Rattle.console.specs.Parts.{Gives}
+use Rattle.text.proofs.Text.{taken}
 
 -- what is written at the start of a buffer fits, since no buffer grows
 pub put-fits : (d s : List ℕ) {x : List ℕ} → x ≡ put d 0 s → length x ≡ length d → length s ≤ length d

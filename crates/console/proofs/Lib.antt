@@ -1,3 +1,2 @@
-pub mod Text
 pub mod Ends
 pub mod Lines

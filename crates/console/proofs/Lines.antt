@@ -22,8 +22,10 @@ use Rattle.protocol.specs.Table.{Step}
 use Rattle.link.specs.Lent.{sentOf, blockOf, toldOf, Lent}
 use Rattle.console.specs.declared.Reply.{Reply}
 use Rattle.console.specs.declared.Reply.the-variants as reply
-use Rattle.console.specs.Text.{textOf, text, replyOf, answered, recordOf, Answered}
-use Rattle.console.specs.Parts.{Begins, Gives}
+use Rattle.text.specs.Text.{textOf}
+use Rattle.console.specs.Text.{text, replyOf, answered, recordOf, Answered}
+use Rattle.text.specs.Text.{Begins}
+use Rattle.console.specs.Parts.{Gives}
 use Rattle.console.proofs.Ends.{put-fits, gives}
 
 -- the call that octets make has the buffer for a frame out

@@ -5,16 +5,11 @@ use mathlib.Core.List.{List, [], _∷_}
 use lib.Dec.{leb}
 use lib.ListN.{length}
 use Rattle.octets.specs.Test.{first, Outcome, refused, refusing}
-use Rattle.octets.specs.Octets.{put}
 use Rattle.protocol.specs.Table.{Step}
 use Rattle.calls.specs.Calls.{recordAfter}
 use Rattle.link.specs.Record.{format}
+use Rattle.text.specs.Text.{Begins}
 use Rattle.console.specs.Text.{text}
-
--- s stands at the start of the buffer, and n is its length
-pub record Begins (s out out′ : List ℕ) (n : ℕ) : Type 0 where
-  pub count : n ≡ length s
-  pub buffer : out′ ≡ put out 0 s
 
 -- a line refused with this number, after 11 and 12 of the record
 unfoldable pub refusedLine : List ℕ → ℕ → Outcome Step

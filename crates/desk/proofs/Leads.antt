@@ -9,10 +9,10 @@ use Rattle.octets.specs.Octets.{put}
 use Rattle.octets.proofs.Octets.{then-put}
 use Rattle.hexline.specs.Line.{digit, hex}
 use Rattle.frame.specs.Frame.{Block}
-use Rattle.console.specs.declared.Told.{Told}
-use Rattle.console.specs.Text.{asLine, answerOctets, frameLine, textOf}
-use Rattle.console.specs.Parts.{Begins}
-use Rattle.console.proofs.Text.{length-line, told-short, rest-put}
+use Rattle.text.specs.declared.Told.{Told}
+use Rattle.text.specs.Text.{asLine, answerOctets, frameLine, textOf}
+use Rattle.text.specs.Text.{Begins}
+use Rattle.text.proofs.Text.{length-line, told-short, rest-put}
 use Rattle.desk.specs.Text.{lead}
 
 -- the text at one end has at most 310 characters

@@ -19,8 +19,9 @@ use Rattle.logbook.proofs.Log.{held}
 use Rattle.console.specs.declared.Reply.{Reply}
 use Rattle.console.specs.declared.Reply.the-variants as reply
 use Rattle.console.specs.Line.{room}
-use Rattle.console.specs.Text.{textOf, told, text, replyOf}
-use Rattle.console.specs.Parts.{Begins}
+use Rattle.text.specs.Text.{textOf}
+use Rattle.console.specs.Text.{told, text, replyOf}
+use Rattle.text.specs.Text.{Begins}
 use Rattle.console.proofs.Ends.{sent-fits, sent-taken}
 use Rattle.console.proofs.Lines.{by-reply}
 use Rattle.rig.specs.Bench.{Bench, benchOf, recordAt, At, delivery, asks, asked, made, comes, endOf}
@@ -28,7 +29,7 @@ use Rattle.moves.specs.declared.Answer.{Answer}
 use Rattle.moves.specs.Answer.{answerOf}
 use Rattle.moves.proofs.Does.{no-block}
 use Rattle.moves.proofs.Handed.{made-from}
-use Rattle.testbench.specs.Played.{Played}
+use Rattle.orders.specs.Played.{Played}
 use Rattle.desk.specs.Text.{lead, benchText, toldIn, askedWith, benchIn, Answered}
 use Rattle.desk.specs.Parts.{Gives}
 

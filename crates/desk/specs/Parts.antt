@@ -3,7 +3,7 @@ use Prim.Native.Nat.{ℕ}
 use mathlib.Core.Path.{_≡_}
 use mathlib.Core.List.{List}
 use Rattle.octets.specs.Test.{Outcome}
-use Rattle.console.specs.Parts.{Begins}
+use Rattle.text.specs.Text.{Begins}
 use Rattle.rig.specs.Bench.{Bench, benchOf, At, comes, endOf, benchAfter}
 use Rattle.desk.specs.Text.{benchText}
 

@@ -8,7 +8,7 @@ use Rattle.octets.specs.Test.{first, Outcome, refused, ok, outcome, mapped}
 use Rattle.octets.specs.Octets.{left}
 use Rattle.hexline.specs.Line.{hex}
 use Rattle.console.specs.declared.Reply.{Reply}
-use Rattle.console.specs.declared.Told.{Told}
+use Rattle.text.specs.declared.Told.{Told}
 use Rattle.console.specs.Line.{room}
 use Rattle.console.specs.Text.{text, replyOf}
 use Rattle.rig.specs.Bench.{Bench, benchOf, At, recordAt, asked, comes, endOf, benchAfter}

@@ -1,20 +1,20 @@
 // The bench asked by lines of text: a line and its answer.
 use console::Reply;
-use console::Told;
 use moves::Answer;
+use text::Told;
 ghost use mathlib.Core.List.{_++_};
 ghost use Prim.Native.Nat.{_+_, _≤_};
 ghost use lib.ListN.{length, take, drop};
 ghost use Rattle.octets.specs.Sizes.{longestFrame, longestBlock};
 ghost use Rattle.console.specs.Line.{room};
-ghost use Rattle.console.specs.Text.{textOf};
-ghost use Rattle.console.specs.Parts.{Begins};
+ghost use Rattle.text.specs.Text.{textOf};
+ghost use Rattle.text.specs.Text.{Begins};
 ghost use Rattle.rig.specs.Bench.{benchOf, asked};
 ghost use Rattle.desk.specs.Text.{lead, toldIn, answerRoom, Answered};
 ghost use Rattle.desk.specs.Parts.{Gives};
 
 // Room for an answer: what one end's answer needs, and two characters before it.
-pub const ANSWER_ROOM: usize = console::ANSWER_ROOM + 2;
+pub const ANSWER_ROOM: usize = text::ANSWER_ROOM + 2;
 
 // The characters 5 and 0.
 const FIVE: u8 = 53;
@@ -38,7 +38,7 @@ fn tell(r: Answer, log: &[u8], frame: &[u8], out: &mut [u8]) -> usize
     let at = r.at;
     let stop = at + r.block;
     let sent = r.sent;
-    let n = console::write_text(t, &log[at..stop], &frame[..sent], &mut out[2..]);
+    let n = text::write_text(t, &log[at..stop], &frame[..sent], &mut out[2..]);
     n + 2
 }
 

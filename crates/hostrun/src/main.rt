@@ -1,6 +1,6 @@
 // A host that holds its end's record as a struct: document 01's run, each call lending the record.
-use console::Told;
 use endpoint::Endpoint;
+use text::Told;
 
 // One call: writes what it answers, and gives the record that it leaves. The block of notice 5 is a part of s, and isn't written.
 fn call(asked: bool, e: Endpoint, s: &[u8]) -> Endpoint {
@@ -14,8 +14,8 @@ fn call(asked: bool, e: Endpoint, s: &[u8]) -> Endpoint {
         local: after.local,
         remote: after.remote,
     };
-    let mut text = [0u8; console::ANSWER_ROOM];
-    let n = console::write_text(t, &s[0..0], &frame[..a.sent], &mut text);
+    let mut text = [0u8; text::ANSWER_ROOM];
+    let n = text::write_text(t, &s[0..0], &frame[..a.sent], &mut text);
     io::write_all(1, &text[..n]);
     after
 }

@@ -28,7 +28,7 @@ fn step(
     requires { ⌜ (Running (p .steps) p) × (0 < p .steps) ⌝ }
     ensures { λ r. ⌜ Running (p .steps - 1) r ⌝ }
 {
-    let q = stream::next(buf, line, out, console::ANSWER_ROOM, p);
+    let q = stream::next(buf, line, out, text::ANSWER_ROOM, p);
     if q.lines == 0 {
         return q;
     }

@@ -1,11 +1,7 @@
 // Lines of text from standard input, and text to standard output, through buffers: all of a program but its answers.
-ghost use mathlib.Core.Path.{_≡_};
 ghost use Prim.Native.Nat.{_-_, _≤_, _<_};
 ghost use lib.ListN.{length};
-ghost use Rattle.stream.specs.Lines.{lineLength, Kept};
 ghost use Rattle.stream.specs.Held.{Held};
-
-const LINE_FEED: u8 = 10;
 
 // The octets of a program's buffers for its input and its output.
 pub const BUFFER_SIZE: usize = 65536;
@@ -42,34 +38,6 @@ pub fn start() -> Place
         to: 0,
         steps: u64::MAX,
     }
-}
-
-// How many characters of s stand before its first line feed; all where there is none.
-fn line_length(s: &[u8]) -> usize
-    ensures { λ r. ⌜ (r ≡ lineLength (now (s .entry))) × (r ≤ length (now (s .entry))) ⌝ }
-{
-    let mut i = 0;
-    while i < s.len() {
-        if s[i] == LINE_FEED {
-            return i;
-        }
-        i += 1;
-    }
-    i
-}
-
-// Adds a piece to a line of which the first n characters are held already, as far as there is room; how many are held now.
-fn keep(line: &mut [u8], n: usize, piece: &[u8]) -> usize
-    requires { ⌜ n ≤ length (now line) ⌝ }
-    ensures { λ r. ⌜ (Kept (now (line .entry)) n (now (piece .entry)) (now (line .exit)) r) × (r ≤ length (now (line .entry))) ⌝ }
-{
-    let room = line.len() - n;
-    if piece.len() <= room {
-        octets::copy(line, n, piece);
-        return n + piece.len();
-    }
-    octets::copy(line, n, &piece[..room]);
-    n + room
 }
 
 // Writes what waits of the output. The program is done where it cannot be written.
@@ -122,11 +90,11 @@ fn take(buf: &[u8], line: &mut [u8], p: Place) -> Place
     let at = p.at;
     let end = p.end;
     let kept = p.kept;
-    let stop = at + line_length(&buf[at..end]);
+    let stop = at + lines::line_length(&buf[at..end]);
     let mut q = p;
     if stop == end {
         q.at = end;
-        q.kept = keep(line, kept, &buf[at..end]);
+        q.kept = lines::keep(line, kept, &buf[at..end]);
         q.lines = 0;
         return q;
     }
@@ -137,7 +105,7 @@ fn take(buf: &[u8], line: &mut [u8], p: Place) -> Place
         q.to = stop;
         return q;
     }
-    q.kept = keep(line, kept, &buf[at..stop]);
+    q.kept = lines::keep(line, kept, &buf[at..stop]);
     q
 }
 

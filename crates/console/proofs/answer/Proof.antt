@@ -5,7 +5,7 @@ use denote.Ref.{now}
 use lib.ListN.{length, take, replicate}
 use lib.Seq.{length-take-le}
 use Rattle.hexline.specs.Line.{unhex}
-use Rattle.console.proofs.Text.{taken}
+use Rattle.text.proofs.Text.{taken}
 use Rattle.console.proofs.Ends.{put-fits}
 use Rattle.console.proofs.Lines.{line-asks, Passed, passed, declined, no-room, with-text}
 use native.Mathlib.Omega.{arith}

@@ -3,7 +3,7 @@ use mathlib.Core.Path.{_≡_, sym}
 use lib.ListN.{take, drop, length-take}
 use lib.Seq.{length-take-le}
 use denote.Ref.{now}
-use Rattle.console.proofs.Text.{length-rest}
+use Rattle.text.proofs.Text.{length-rest}
 use Rattle.desk.specs.Text.{toldIn}
 use Rattle.desk.proofs.Leads.{text-short, tells}
 use native.Mathlib.Omega.{arith}

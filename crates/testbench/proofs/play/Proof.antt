@@ -11,11 +11,12 @@ use lib.Seq.{length-take-le}
 use Rattle.octets.specs.Test.{refused}
 use Rattle.octets.specs.Octets.{field}
 use Rattle.hexline.specs.Line.{unhex}
-use Rattle.console.proofs.Text.{taken}
+use Rattle.text.proofs.Text.{taken}
 use Rattle.console.proofs.Ends.{put-fits}
 use Rattle.console.proofs.Lines.{Passed, passed, turned-away}
-use Rattle.testbench.proofs.Plays as plays
-use Rattle.testbench.proofs.Plays.{declines, unready, passes, sizes, some-octet}
+use Rattle.orders.proofs.Plays.{declines}
+use Rattle.testbench.proofs.Asked as asked
+use Rattle.testbench.proofs.Asked.{unready, passes, sizes, some-octet}
 use native.Mathlib.Omega.{arith}
 use borrow.Author.Needs.{needs}
 use Rattle.testbench.proofs.play.Statement.{statement}
@@ -115,7 +116,7 @@ returns-3 c =
     let r = c .before .before .before .before .before .before .read in
     let q = turned-away (now (a .line)) (replicate 78 0) refl _ (sym (r .ensures .0) ∙ c .before .before .before .read3 .given .1) in
     let y = checked.passed (benchOf (now (a .a)) (now (a .b)) (now (a .log)) (a .count)) (length (now (a .out))) (sym (c .before .before .before .before .before .before .before .before .before .ready .ensures) ∙ c .before .before .before .before .before .before .before .before .if1 .left) in
-    declines (now (a .a)) (now (a .b)) (now (a .log)) (a .count) (field 2 1 (unhex (now (a .line)))) _ (now (a .out)) (plays.turned-away (now (a .a)) (now (a .b)) (now (a .log)) (a .count) (now (a .line)) (now (a .out)) y (q .0) (q .1) ∙ ap refused (sym (q .2))) (c .refuse2 .ensures (field 2 1 (unhex (now (a .line)))))
+    declines (now (a .a)) (now (a .b)) (now (a .log)) (a .count) (field 2 1 (unhex (now (a .line)))) _ (now (a .out)) (asked.turned-away (now (a .a)) (now (a .b)) (now (a .log)) (a .count) (now (a .line)) (now (a .out)) y (q .0) (q .1) ∙ ap refused (sym (q .2))) (c .refuse2 .ensures (field 2 1 (unhex (now (a .line)))))
 
 pub play-spec : {M : Type 1} → statement M
 play-spec =

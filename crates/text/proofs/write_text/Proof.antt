@@ -3,13 +3,13 @@ use mathlib.Core.Path.{_≡_, refl, sym, ap}
 use denote.Ref.{now}
 use lib.ListN.{length, take, replicate}
 use lib.Seq.{length-take-le}
-use Rattle.console.specs.Text.{asLine, answerOctets}
-use Rattle.console.specs.Parts.{Begins}
-use Rattle.console.proofs.Text.{length-line, length-rest, told-short, told-room, taken, text-none, text-some}
+use Rattle.text.specs.Text.{asLine, answerOctets}
+use Rattle.text.specs.Text.{Begins}
+use Rattle.text.proofs.Text.{length-line, length-rest, told-short, told-room, taken, text-none, text-some}
 use native.Mathlib.Omega.{arith}
 use borrow.Author.Needs.{needs}
-use Rattle.console.proofs.write_text.Statement.{statement}
-use Rattle.console.proofs.write_text.Tie as tie
+use Rattle.text.proofs.write_text.Statement.{statement}
+use Rattle.text.proofs.write_text.Tie as tie
 
 -- the octets of the answer line, and its text
 fits : (c : tie.After-octets2) → (c .before .tell .result ≤ 76) × (length (c .before .tell .last .1 .1 .0) ≡ 76)

@@ -11,9 +11,9 @@ use Rattle.octets.proofs.Octets.{length-put, then-put}
 use Rattle.hexline.specs.Line.{hex}
 use Rattle.hexline.proofs.Digits.{length-hex}
 use Rattle.frame.specs.Frame.{Block}
-use Rattle.console.specs.declared.Told.{Told}
-use Rattle.console.specs.Text.{asLine, counted, answerOctets, frameLine, textOf}
-use Rattle.console.specs.Parts.{Begins}
+use Rattle.text.specs.declared.Told.{Told}
+use Rattle.text.specs.Text.{asLine, counted, answerOctets, frameLine, textOf}
+use Rattle.text.specs.Text.{Begins}
 
 pub length-line : (s : List ℕ) → length (asLine s) ≡ 2 * length s + 1
 unfolding asLine

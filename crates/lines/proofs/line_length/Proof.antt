@@ -3,11 +3,11 @@ use Prim.Native.Nat.{_+_, _-_, _≤_}
 use mathlib.Core.Path.{_≡_}
 use denote.Ref.{now}
 use lib.ListN.{length, drop}
-use Rattle.stream.specs.Lines.{lineLength}
-use Rattle.stream.proofs.Lines.{at-feed, past-other, at-end}
+use Rattle.lines.specs.Lines.{lineLength}
+use Rattle.lines.proofs.Lines.{at-feed, past-other, at-end}
 use native.Mathlib.Omega.{arith}
-use Rattle.stream.proofs.line_length.Statement.{statement}
-use Rattle.stream.proofs.line_length.Tie as tie
+use Rattle.lines.proofs.line_length.Statement.{statement}
+use Rattle.lines.proofs.line_length.Tie as tie
 
 abbrev Inv-loop : tie.InvT-loop
 Inv-loop s i₀ i = (i ≤ length s) × (lineLength s ≡ i + lineLength (drop i s))

@@ -3,11 +3,11 @@ use mathlib.Core.Path.{sym}
 use lib.ListN.{length}
 use denote.Ref.{now}
 use lib.Seq.{length-take-le}
-use Rattle.stream.proofs.Lines.{keeps-all, keeps-some}
+use Rattle.lines.proofs.Lines.{keeps-all, keeps-some}
 use native.Mathlib.Omega.{arith}
 use borrow.Author.Needs.{needs}
-use Rattle.stream.proofs.keep.Statement.{statement}
-use Rattle.stream.proofs.keep.Tie as tie
+use Rattle.lines.proofs.keep.Statement.{statement}
+use Rattle.lines.proofs.keep.Tie as tie
 
 sub-room : tie.Need-sub-room
 sub-room c = search needs

@@ -1,4 +1,4 @@
-use Rattle.console.proofs.Text.{whole}
+use Rattle.text.proofs.Text.{whole}
 use Prim.Native.Nat.{_+_, _*_}
 use mathlib.Core.Path.{_≡_, sym}
 use lib.ListN.{drop}
@@ -6,10 +6,10 @@ use denote.Ref.{now}
 use Rattle.octets.specs.Octets.{field}
 use Rattle.frame.specs.Read.{kindOf}
 use Rattle.calls.specs.Calls as calls
-use Rattle.testbench.proofs.Plays.{declines, at-a, at-b, asks-a, asks-b, asks-none, asks-short, asks-frame, number-of}
+use Rattle.orders.proofs.Plays.{declines, at-a, at-b, asks-a, asks-b, asks-none, asks-short, asks-frame, number-of}
 use borrow.Author.Needs.{needs}
-use Rattle.testbench.proofs.ask.Statement.{statement}
-use Rattle.testbench.proofs.ask.Tie as tie
+use Rattle.orders.proofs.ask.Statement.{statement}
+use Rattle.orders.proofs.ask.Tie as tie
 
 shared-slice-read-kind : tie.Need-shared-slice-read-kind
 shared-slice-read-kind c = search needs

@@ -1,8 +1,8 @@
 use denote.Ref.{now}
-use Rattle.console.proofs.Text.{line-puts}
+use Rattle.text.proofs.Text.{line-puts}
 use borrow.Author.Needs.{needs}
-use Rattle.console.proofs.write_line.Statement.{statement}
-use Rattle.console.proofs.write_line.Tie as tie
+use Rattle.text.proofs.write_line.Statement.{statement}
+use Rattle.text.proofs.write_line.Tie as tie
 
 write-requires : tie.Need-write-requires
 write-requires c κs = search needs

@@ -1,32 +1,28 @@
--- What a bench line comes to, from what its parts answer. Assumes nothing.
-use Prim.Native.Nat.{ℕ, suc, _+_, _-_, _*_, _/_, _%_, _≤_}
+-- What an order comes to, from what its parts answer. Assumes nothing.
+use Prim.Native.Nat.{ℕ, _+_, _-_, _*_}
 use mathlib.Core.Path.{_≡_, refl, ap, _∙_}
 use mathlib.Core.Logic.{_≢_}
 use mathlib.Core.Bool.{true, false}
-use mathlib.Core.List.{List, [], _∷_, _++_}
+use mathlib.Core.List.{List, [], _∷_}
 use native.Mathlib.Omega.{arith}
 use lib.Dec.{eqb}
 use lib.ListN.{length, drop, getD}
-use borrow.Author.Tests.{eqb-true, le-leb, eq-eqb, ne-eqb}
-use Rattle.octets.specs.Test.{when, ifEq, Question, first, Outcome, refused, ok, outcome, refusing, mapped, andThen}
+use borrow.Author.Tests.{eq-eqb, ne-eqb}
+use Rattle.octets.specs.Test.{when, ifEq, first, Outcome, refused, ok, outcome, refusing, mapped, andThen}
 use Rattle.octets.specs.Octets.{field, left}
-use Rattle.octets.proofs.Test.{eq-yes, eq-no, both, within, all-yes}
+use Rattle.octets.proofs.Test.{eq-yes, eq-no}
 use Rattle.octets.proofs.Octets.{field-more, field-one}
-use Rattle.hexline.specs.Line.{unhex, lengthOk, lineQuestions}
-use Rattle.hexline.proofs.Digits.{length-unhex}
 use Rattle.frame.specs.Read.{kindOf}
 use Rattle.calls.specs.Calls.{Call, request, receive, recordAfter, bufferAfter}
 use Rattle.link.specs.Lent.{blockOf}
 use Rattle.logbook.specs.Log.{senderAt, frameAt, holds}
 use Rattle.logbook.proofs.Log.{held}
-use Rattle.rig.specs.Bench.{Bench, benchOf, recordAt, At, delivery, asks, asked, made, comes, endOf, logAfter, countAfter, benchAfter}
-use Rattle.checks.specs.Ready.{readyQuestions}
-use Rattle.checks.proofs.Passed.{Passed}
+use Rattle.rig.specs.Bench.{Bench, benchOf, recordAt, At, delivery, asks, made, comes, endOf, logAfter, countAfter, benchAfter}
 use Rattle.moves.specs.declared.Moved.{Moved}
 use Rattle.moves.specs.declared.Answer.{Answer}
 use Rattle.moves.specs.Answer.{answerOf}
 use Rattle.moves.specs.Parts.{movedOf, Does}
-use Rattle.testbench.specs.Played.{Played}
+use Rattle.orders.specs.Played.{Played}
 
 -- a refusal tells of A's record
 pub told : (rec : List ℕ) (number count n : ℕ) {m : Moved} → m ≡ movedOf rec (refused number)
@@ -102,49 +98,6 @@ module _ (a b log : List ℕ) (count : ℕ) where
     pub asks-frame : kindOf s ≡ 82 → length s ≡ 3 → {n : ℕ} → n ≡ field 2 1 s → asks w s out ≡ delivery w n out
     unfolding first when refusing
     asks-frame h x e = rw e (fetches h ∙ rw (eq-eqb (length s) 3 x) refl)
-
--- the first no of some questions is the first no of more
-later : (qs rs : List Question) (k : ℕ) → first qs ≡ suc k → first (qs ++ rs) ≡ suc k
-unfolding first when
-later [] rs k h = absurd (omega arith)
-later ((n, true) ∷ qs) rs k h = later qs rs k h
-later ((n, false) ∷ qs) rs k h = h
-
-module _ (a b log : List ℕ) (count : ℕ) (line out : List ℕ) where
-  abbrev v : Bench
-  v = benchOf a b log count
-
-  -- 11 and 12 come first
-  pub unready : (k : ℕ) → first (readyQuestions v (length out)) ≡ suc k → asked v line out ≡ refused (suc k)
-  unfolding asked refusing
-  unready k h = ap (λ (m : ℕ). refusing m (asks v (unhex line) out)) (later (readyQuestions v (length out)) (lineQuestions line) k h)
-
-  module _ (y : Passed v (length out)) where
-    next : asked v line out ≡ refusing (first (lineQuestions line)) (asks v (unhex line) out)
-    unfolding asked first when
-    next =
-        rw (le-leb 538 (length a) (y .long-a), le-leb 538 (length b) (y .long-b), le-leb 40960 (length log) (y .long-log), le-leb 78 (length out) (y .enough), y .sound-a, y .sound-b, le-leb count 512 (y .few)) refl
-
-    -- then 1 and 2 of the line
-    pub passes : first (lineQuestions line) ≡ 0 → asked v line out ≡ asks v (unhex line) out
-    unfolding refusing
-    passes h = next ∙ ap (λ (m : ℕ). refusing m (asks v (unhex line) out)) h
-
-    pub turned-away : (k : ℕ) → first (lineQuestions line) ≡ suc k → asked v line out ≡ refused (suc k)
-    unfolding refusing
-    turned-away k h = next ∙ ap (λ (m : ℕ). refusing m (asks v (unhex line) out)) h
-
-    pub sizes : (538 ≤ length a) × ((538 ≤ length b) × ((40960 ≤ length log) × ((count ≤ 512) × (78 ≤ length out))))
-    sizes = (y .long-a, (y .long-b, (y .long-log, (y .few, y .enough))))
-
--- a line has at least one octet
-pub some-octet : (line : List ℕ) → first (lineQuestions line) ≡ 0 → 1 ≤ length (unhex line)
-unfolding lengthOk
-some-octet line h =
-    let q = both _ _ (all-yes 1 _ _ h tt .0) in
-    let l = within 2 156 (length line) (q .0) in
-    let e : length line % 2 ≡ 0 = eqb-true (length line % 2) 0 (q .1) in
-    omega (arith, l, length-unhex (length line / 2) line (omega (arith, e)))
 
 -- the number of 2 octets
 pub number-of : (s : List ℕ) → length s ≡ 3 → field 2 1 s ≡ getD s 1 0 * 256 + getD s 2 0

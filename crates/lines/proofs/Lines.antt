@@ -8,7 +8,7 @@ use lib.ListN.{length, take, drop, getD, drop-of-length-le}
 use lib.Seq.{drop-cons, length-take-le}
 use Rattle.octets.specs.Octets.{put}
 use Rattle.octets.proofs.Test.{eq-yes, eq-no}
-use Rattle.stream.specs.Lines.{lineLength, Kept}
+use Rattle.lines.specs.Lines.{lineLength, Kept}
 
 -- the scan: i characters that are no line feed, then the rest
 pub at-feed : (s : List ℕ) (i : ℕ) → i < length s → getD s i 0 ≡ 10 → lineLength (drop i s) ≡ 0

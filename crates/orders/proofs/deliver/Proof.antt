@@ -5,11 +5,11 @@ use borrow.Author.Tests.{not-true, not-false}
 use Rattle.calls.specs.Calls as calls
 use Rattle.logbook.specs.Log.{frameAt}
 use denote.Ref.{now}
-use Rattle.testbench.proofs.Plays.{declines, at-a, at-b, no-frame, to-a, to-b}
+use Rattle.orders.proofs.Plays.{declines, at-a, at-b, no-frame, to-a, to-b}
 use native.Mathlib.Omega.{arith}
 use borrow.Author.Needs.{needs}
-use Rattle.testbench.proofs.deliver.Statement.{statement}
-use Rattle.testbench.proofs.deliver.Tie as tie
+use Rattle.orders.proofs.deliver.Statement.{statement}
+use Rattle.orders.proofs.deliver.Tie as tie
 
 holds-requires : tie.Need-holds-requires
 holds-requires c κs = search needs

@@ -1,8 +1,8 @@
 use denote.Ref.{now}
-use Rattle.testbench.proofs.Plays.{told}
+use Rattle.orders.proofs.Plays.{told}
 use borrow.Author.Needs.{needs}
-use Rattle.testbench.proofs.refuse.Statement.{statement}
-use Rattle.testbench.proofs.refuse.Tie as tie
+use Rattle.orders.proofs.refuse.Statement.{statement}
+use Rattle.orders.proofs.refuse.Tie as tie
 
 refuse-requires : tie.Need-refuse-requires
 refuse-requires c κs = search needs

@@ -1,11 +1,11 @@
 use Prim.Native.Nat.{ℕ, _+_, _%_}
 use mathlib.Core.Path.{ap}
 use denote.Ref.{now}
-use Rattle.console.proofs.Text.{numbers-put, told-none, told-some}
+use Rattle.text.proofs.Text.{numbers-put, told-none, told-some}
 use native.Mathlib.Omega.{arith}
 use borrow.Author.Needs.{needs}
-use Rattle.console.proofs.tell.Statement.{statement}
-use Rattle.console.proofs.tell.Tie as tie
+use Rattle.text.proofs.tell.Statement.{statement}
+use Rattle.text.proofs.tell.Tie as tie
 
 wide32-requires : tie.Need-wide32-requires
 wide32-requires c κs = search needs
