@@ -1,9 +1,26 @@
 // A host that holds its end's record as a struct: document 01's run, each call lending the record.
 use endpoint::Endpoint;
+ghost use mathlib.Core.Path.{_≡_};
+ghost use Prim.Native.Nat.{_≤_};
+ghost use lib.ListN.{length};
+ghost use Rattle.octets.specs.Sizes.{longestFrame, longestBlock};
 use text::Told;
 
-// One call: writes what it answers, and gives the record that it leaves. The block of notice 5 is a part of s, and isn't written.
-fn call(asked: bool, e: Endpoint, s: &[u8]) -> Endpoint {
+// The block that notice 5 tells of: what follows octet 14 of the frame received.
+fn block_of(notice: u8, s: &[u8]) -> &[u8]
+    requires { ⌜ (length (now s) ≤ longestFrame) × (notice ≡ 5 → 14 ≤ length (now s)) ⌝ }
+    ensures { λ r. ⌜ length (now r) ≤ longestBlock ⌝ }
+{
+    if notice != plan::HANDED_UP {
+        return &s[..0];
+    }
+    &s[14..]
+}
+
+// One call: writes what it answers, and gives the record that it leaves.
+fn call(asked: bool, e: Endpoint, s: &[u8]) -> Endpoint
+    requires { ⌜ length (now s) ≤ longestFrame ⌝ }
+{
     let mut frame = [0u8; Endpoint::LONGEST_FRAME];
     let a = host::lend(asked, e, s, &mut frame);
     let after = a.endpoint;
@@ -15,7 +32,8 @@ fn call(asked: bool, e: Endpoint, s: &[u8]) -> Endpoint {
         remote: after.remote,
     };
     let mut text = [0u8; text::ANSWER_ROOM];
-    let n = text::write_text(t, &s[0..0], &frame[..a.sent], &mut text);
+    let block = block_of(a.notice, s);
+    let n = text::write_text(t, block, &frame[..a.sent], &mut text);
     io::write_all(1, &text[..n]);
     after
 }

@@ -1,9 +1,10 @@
 use Prim.Native.Nat.{_≤_}
 use mathlib.Core.Path.{_≡_, sym}
-use lib.ListN.{length}
+use denote.Ref.{now}
+use lib.ListN.{length, replicate}
 use lib.Seq.{length-take-le}
 use Rattle.console.proofs.Ends.{put-fits}
-use Rattle.hostrun.proofs.Fits.{frame-fits}
+use Rattle.hostrun.proofs.Fits.{frame-fits, handed}
 use native.Mathlib.Omega.{arith}
 use borrow.Author.Needs.{needs}
 use Rattle.hostrun.proofs.call.Statement.{statement}
@@ -15,18 +16,12 @@ slice-aggregate-lend c = search needs
 lend-requires : tie.Need-lend-requires
 lend-requires c κs = search needs
 
-sub-write-text : tie.Need-sub-write-text
-sub-write-text c = search needs
-
-part-write-text-start : tie.Need-part-write-text-start
-part-write-text-start c = search needs
-
-part-write-text-end : tie.Need-part-write-text-end
-part-write-text-end c = search needs
-
 -- the frame sent has room
 fits : (c : tie.After-frame2) → (length (c .before .lend .last .1 .1 .1 .0) ≡ 78) × (c .before .lend .result .sent ≤ 78)
 fits c = let l : length (c .before .lend .last .1 .1 .1 .0) ≡ 78 = search needs in (l, frame-fits _ _ _ (c .before .lend .ensures) l)
+
+block-of-requires : tie.Need-block-of-requires
+block-of-requires c κs = let s = c .before .before .before .before .before in (s .pre, handed (s .args .asked) (s .args .e) (now (s .args .s)) (replicate 78 0) (c .before .before .lend .ensures))
 
 array-share-prefix-frame : tie.Need-array-share-prefix-frame
 array-share-prefix-frame c = omega (arith, fits (c .before .before))
@@ -40,7 +35,8 @@ slice-aggregate-write-text-2 c = search needs
 write-text-requires : tie.Need-write-text-requires
 write-text-requires c κs =
     let f = fits (c .before .before .before .before) in
-    (search needs, (search needs, omega (arith, f, length-take-le (c .before .before .before .before .before .lend .result .sent) (c .before .before .before .before .before .lend .last .1 .1 .1 .0) (omega (arith, f)))))
+    let l = c .before .before .before .before .before .lend in
+    (search needs, (c .before .before .block-of .ensures, omega (arith, f, length-take-le (l .result .sent) (l .last .1 .1 .1 .0) (omega (arith, f)))))
 
 -- and so has the text
 text-fits : (c : tie.After-text2) → (length (c .before .write-text .last .1 .1 .1 .0) ≡ 310) × (c .before .write-text .result ≤ 310)
@@ -67,9 +63,7 @@ call-spec =
     (tie.spec
     slice-aggregate-lend
     lend-requires
-    sub-write-text
-    part-write-text-start
-    part-write-text-end
+    block-of-requires
     array-share-prefix-frame
     slice-aggregate-write-text
     slice-aggregate-write-text-2
