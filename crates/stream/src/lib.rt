@@ -1,7 +1,8 @@
 // Lines of text from standard input, and text to standard output, through buffers: all of a program but its answers.
+ghost use mathlib.Core.Path.{_≡_};
 ghost use Prim.Native.Nat.{_-_, _≤_, _<_};
 ghost use lib.ListN.{length};
-ghost use Rattle.stream.specs.Held.{Held};
+ghost use Rattle.stream.specs.Held.{Held, readyLine};
 
 // The octets of a program's buffers for its input and its output.
 pub const BUFFER_SIZE: usize = 65536;
@@ -129,10 +130,11 @@ pub fn next(buf: &mut [u8], line: &mut [u8], out: &[u8], room: usize, p: Place) 
 // The line that is ready.
 pub fn ready<'a>(buf: &'a [u8], line: &'a [u8], p: Place) -> &'a [u8]
     requires { ⌜ Held (length (now buf)) (length (now line)) (p .filled) (p .steps) p ⌝ }
+    ensures { λ r. ⌜ now r ≡ readyLine (now (buf .entry)) (now (line .entry)) p ⌝ }
 {
     let kept = p.kept;
     if kept > 0 {
-        return &line[0..kept];
+        return &line[..kept];
     }
     let from = p.from;
     let to = p.to;

@@ -1,0 +1,40 @@
+use mathlib.Core.Path.{sym}
+use denote.Ref.{now}
+use lib.Seq.{length-take-le}
+use Rattle.octets.proofs.Test.{eq-yes, eq-no}
+use Rattle.stream.specs.Held.{readyLine}
+use native.Mathlib.Omega.{arith}
+use borrow.Author.Needs.{needs}
+use Rattle.stream.proofs.ready.Statement.{statement}
+use Rattle.stream.proofs.ready.Tie as tie
+
+slice-aggregate-result : tie.Need-slice-aggregate-result
+slice-aggregate-result c = let s = c .before .before in sym (length-take-le (s .args .p .kept) (now (s .args .line)) (s .pre .kept))
+
+returns : tie.Need-returns
+unfolding readyLine
+returns c = sym (eq-no _ _ _ _ (λ z. omega (arith, z, c .before .if1 .taken)))
+
+sub-result : tie.Need-sub-result
+sub-result c = search needs
+
+part-result-start : tie.Need-part-result-start
+part-result-start c = search needs
+
+part-result-end : tie.Need-part-result-end
+part-result-end c = search needs
+
+returns-2 : tie.Need-returns-2
+unfolding readyLine
+returns-2 c = sym (eq-yes _ _ _ _ (omega (arith, c .before .if1 .left)))
+
+pub ready-spec : {M : Type 1} → statement M
+ready-spec =
+    tie.close
+    (tie.spec
+    slice-aggregate-result
+    returns
+    sub-result
+    part-result-start
+    part-result-end
+    returns-2)
