@@ -56,17 +56,17 @@ of-mapped f (ok x) y h = (x, refl, (cc))
 abbrev Fair : History → protocol.Call → Type 0
 Fair other q = (sized (blockSent q) ≡ true) × protocol.Due other q
 
-said-fair : (other : End) (c : Call) → ((g : Frame) → List·Memᴰ g (sent (other .history)) → Fits g) → Due other c
-    → (q : protocol.Call) → said c ≡ ok q → Fair (other .history) q
+said-fair : (other : History) (c : Call) → ((g : Frame) → List·Memᴰ g (sent other) → Fits g) → Due other c
+    → (q : protocol.Call) → said c ≡ ok q → Fair other q
 unfolding said sized
 said-fair other (request s out) fits d q e =
     let r = of-mapped protocol.ask (readRequest s) q e in
-    subst (Fair (other .history)) (sym (r .2)) (read-sized s (r .0) (r .1), tt)
+    subst (Fair other) (sym (r .2)) (read-sized s (r .0) (r .1), tt)
 said-fair other (receive s out) fits d q e =
-    let m = among s (sent (other .history)) d in
+    let m = among s (sent other) d in
     let r = of-mapped protocol.deliver (readFrame s) q e in
     let f : r .0 ≡ m .0 = let k : ok (r .0) ≡ ok (m .0) = sym (r .1) ∙ ap readFrame (m .2) ∙ written-reads (fits (m .0) (m .1)) in cc in
-    subst (Fair (other .history)) (sym (r .2 ∙ ap protocol.deliver f)) (refl, m .1)
+    subst (Fair other) (sym (r .2 ∙ ap protocol.deliver f)) (refl, m .1)
 
 -- What one call does to an end's history: nothing, or what one call of the protocol does.
 data Moved (h other : History) : History → Type 0 where
@@ -125,15 +125,15 @@ module _ (format : Format) (law : Lawful format) where
   opens r stays o = absurd (o .0 (o .1))
   opens r (moves q f) o = met-at (r .reached-both) q (f .1) o
 
-  one : {x y : End} {p q : List ℕ} → Held x y p q → (c : Call) → Due y c → Moved (x .history) (y .history) (after format c x .history)
+  one : {x y : End} {p q : List ℕ} → Held x y p q → (c : Call) → Due (y .history) c → Moved (x .history) (y .history) (after format c x .history)
   unfolding after performed asked
   one {x} {y} {p} {q} h c d =
       let m = limited (h .roomy) in
       let z = limited (swap-roomy (h .roomy)) in
       moved format (x .history) (y .history) (x .rec) (first ((11, leb (format .size) (length (x .rec))) ∷ [])) (first (ownQuestions (format .sound (x .rec)) c)) (said c)
-      (said-fair y c (z .fits) d) (ap (format .holds) (h .mine) ∙ law .keeps (now (x .history)) p (m .is-sound) (m .bounded))
+      (said-fair (y .history) c (z .fits) d) (ap (format .holds) (h .mine) ∙ law .keeps (now (x .history)) p (m .is-sound) (m .bounded))
 
-  held : {x y : End} {p q : List ℕ} → Held x y p q → (c : Call) → Due y c → Held (after format c x) y p q
+  held : {x y : End} {p q : List ℕ} → Held x y p q → (c : Call) → Due (y .history) c → Held (after format c x) y p q
   unfolding after performed asked
   held {x} {y} {p} {q} h c d =
       let r = goes (h .roomy) (one h c d) in

@@ -17,6 +17,10 @@ use Rattle.protocol.specs.Network as protocol
 pub data Call : Type 0 where
   request receive : List ℕ → List ℕ → Call
 
+abbrev pub input : Call → List ℕ
+input (request s out) = s
+input (receive s out) = s
+
 abbrev pub buffer : Call → List ℕ
 buffer (request s out) = out
 buffer (receive s out) = out

@@ -57,13 +57,13 @@ run format w [] = w
 run format w (c ∷ cs) = run format (made format c w) cs
 
 -- Any call may stand anywhere, but a delivery's octets equal a frame that an earlier call at the other end sent.
-abbrev pub Due : End → Call → Type 0
+abbrev pub Due : History → Call → Type 0
 Due other (request s out) = Unit {0}
-Due other (receive s out) = List·Memᴰ s (map encode (sent (other .history)))
+Due other (receive s out) = List·Memᴰ s (map encode (sent other))
 
 abbrev pub DueAt : Entry → Ends → Type 0
-DueAt (atA c) w = Due (w .b) c
-DueAt (atB c) w = Due (w .a) c
+DueAt (atA c) w = Due (w .b .history) c
+DueAt (atB c) w = Due (w .a .history) c
 
 abbrev pub AllDue : Format → Ends → List Entry → Type 0
 AllDue format w [] = Unit {0}

@@ -1,21 +1,21 @@
 -- The codec's calls for C: what each answers, and every octet and number that it leaves.
-use Prim.Native.Nat.{ℕ, _*_}
+use Prim.Native.Nat.{ℕ, _-_, _*_}
 use mathlib.Core.Path.{_≡_}
 use mathlib.Core.Bool.{true}
 use mathlib.Core.List.{List, [], _∷_}
-use lib.ListN.{length}
+use lib.ListN.{length, drop}
 use lib.Dec.{leb}
 use Rattle.octets.specs.Sizes.{longestFrame}
 use Rattle.octets.specs.Test.{ifEq, first, Outcome, refused, ok, outcome, mapped, numberOf}
 use Rattle.octets.specs.Octets.{left}
 use Rattle.hexline.specs.Line.{hex}
-use Rattle.frame.specs.Frame.{Block, DATA}
+use Rattle.frame.specs.Frame.{Block, DATA, connect, listen, endListening, close, timer, send}
 use Rattle.frame.specs.Layout.{isFrame, encode}
 use Rattle.frame.specs.Read.{countOk, readFrame, readRequest, Input, frame, request, readInput}
 use Rattle.frame.specs.Answer.{valuesOf, frameWith, requestNumber}
 use Rattle.frame.specs.declared.Values.{Values}
 
--- how many octets a success wrote; a refusal leaves the number lent
+-- how many octets a success has; a refusal leaves the number lent
 unfoldable pub counted : Outcome (List ℕ) → ℕ → ℕ
 counted (refused n) c = c
 counted (ok s) c = length s
@@ -43,6 +43,21 @@ unfoldable pub shown : Outcome Input → Values → Values
 shown (refused n) v = v
 shown (ok (frame f)) v = valuesOf f
 shown (ok (request q)) v = record { kind = requestNumber q; sender = 0; quoted = 0; number = 0 }
+
+-- the block read: that of a DATA or a send
+unfoldable pub blockIn : Input → Block
+blockIn (frame f) = f .block
+blockIn (request connect) = []
+blockIn (request listen) = []
+blockIn (request endListening) = []
+blockIn (request close) = []
+blockIn (request (send b)) = b
+blockIn (request timer) = []
+
+-- its length is told, and it is the end of the octets s that were read
+pub record BlockTold (o : Outcome Input) (s : List ℕ) (c c′ : ℕ) : Type 0 where
+  pub count : c′ ≡ counted (mapped blockIn o) c
+  pub block : mapped (λ (i : Input). drop (length s - c′) s) o ≡ mapped blockIn o
 
 -- writing it asks for the buffer, for a frame's kind, and for the count of a DATA's block
 unfoldable pub writeFrame : Values → Block → List ℕ → Outcome (List ℕ)

@@ -9,7 +9,9 @@ ghost use Rattle.octets.specs.Octets.{left};
 ghost use Rattle.octets.specs.Test.{numberOf};
 ghost use Rattle.hexline.specs.Line.{readInto};
 ghost use Rattle.frame.specs.Answer.{frameOf, frameWith, inputRead};
-ghost use Rattle.codec.specs.Calls.{Filled, writeLine, readKnown, shown, writeFrame};
+ghost use lib.ListN.{length, drop};
+ghost use Rattle.codec.specs.Calls.{Filled, writeLine, readKnown, shown, BlockTold, writeFrame};
+ghost use Rattle.codec.specs.Parts.{blockAfter};
 
 // Reads a line into out, which has room for the longest frame; the count of its octets goes to length.
 #[no_mangle]
@@ -51,7 +53,29 @@ fn read_known(known: u8, s: &[u8]) -> InputRead
     }
 }
 
-// Reads octets by a call that knows frames (1), requests (2) or both (3). The kind and the numbers go to the last four.
+// How many octets of s stand from at on.
+fn count_from(s: &[u8], at: usize) -> usize
+    ensures { λ r. ⌜ r ≡ length (drop at (now (s .entry))) ⌝ }
+{
+    if s.len() < at {
+        return 0;
+    }
+    s.len() - at
+}
+
+// The length of the block in s, which was read as this kind.
+fn block_length(kind: u8, s: &[u8]) -> usize
+    ensures { λ r. ⌜ r ≡ length (blockAfter kind (now (s .entry))) ⌝ }
+{
+    match kind {
+        0x08 => count_from(s, 14),
+        0x44 => count_from(s, 2),
+        _ => 0,
+    }
+}
+
+// Reads octets by a call that knows frames (1), requests (2) or both (3). The kind and the numbers go to the next four, the length
+// of the block, which is the end of s, to the last.
 #[no_mangle]
 pub extern "C" fn codec_read(
     known: u8,
@@ -60,9 +84,11 @@ pub extern "C" fn codec_read(
     sender: &mut u32,
     quoted: &mut u32,
     number: &mut u32,
+    block: &mut usize,
 ) -> u8
     ensures answer { λ r. ⌜ r ≡ numberOf (readKnown known (now (s .entry))) ⌝ }
     ensures numbers { λ _. ⌜ record { kind = now (kind .exit); sender = now (sender .exit); quoted = now (quoted .exit); number = now (number .exit) } ≡ shown (readKnown known (now (s .entry))) (record { kind = now (kind .entry); sender = now (sender .entry); quoted = now (quoted .entry); number = now (number .entry) }) ⌝ }
+    ensures block { λ _. ⌜ BlockTold (readKnown known (now (s .entry))) (now (s .entry)) (now (block .entry)) (now (block .exit)) ⌝ }
 {
     let read = read_known(known, s);
     match read {
@@ -72,13 +98,16 @@ pub extern "C" fn codec_read(
             *sender = values.sender;
             *quoted = values.quoted;
             *number = values.number;
+            *block = block_length(values.kind, s);
             return 0;
         }
         InputRead::Request(request) => {
-            *kind = frame::request_number(request);
+            let asked = frame::request_number(request);
+            *kind = asked;
             *sender = 0;
             *quoted = 0;
             *number = 0;
+            *block = block_length(asked, s);
             return 0;
         }
         InputRead::Refused(refusal) => {

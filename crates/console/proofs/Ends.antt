@@ -5,21 +5,17 @@ use mathlib.Core.Bool.{Bool}
 use mathlib.Core.List.{List, []}
 use native.Mathlib.Omega.{arith}
 use lib.ListN.{length, take, drop, length-append, length-drop}
-use Rattle.octets.specs.Test.{Outcome, refused, ok, outcome, refusing, mapped, andThen}
+use Rattle.octets.specs.Test.{Outcome, refused, ok, outcome, refusing, mapped}
 use Rattle.octets.specs.Octets.{put, left}
 use Rattle.octets.proofs.Test.{by-eq}
-use Rattle.frame.specs.Frame.{Block, Request, connect, listen, endListening, close, timer, send}
-use Rattle.frame.specs.Read.{readRequest}
+use Rattle.frame.specs.Frame.{Block}
 use Rattle.protocol.specs.Endpoint.{Endpoint}
 use Rattle.protocol.specs.Table.{Step}
-use Rattle.protocol.specs.Requests.{refusal, accept}
-use Rattle.protocol.specs.Requests as protocol
-use Rattle.protocol.specs.Network.{ask, Call, perform}
-use Rattle.calls.specs.Calls.{request, receive, said, asked, wire, performed, bufferAfter}
-use Rattle.plan.specs.Plan.{noticeOf, sentIn}
+use Rattle.calls.specs.Calls.{request, receive, asked, wire, performed, bufferAfter}
+use Rattle.plan.specs.Plan.{noticeOf, sentIn, blockOf}
 use Rattle.link.specs.Record.{format}
-use Rattle.link.specs.Lent.{sentOf, blockIn, blockOf, Lent}
-use Rattle.link.proofs.Up.{right}
+use Rattle.link.specs.Lent.{sentOf, Lent}
+use Rattle.plan.proofs.Up.{right, request-silent, refusing-silent}
 use Rattle.console.specs.Line.{room}
 use Rattle.text.specs.Text.{textOf}
 use Rattle.console.specs.Text.{told, text}
@@ -44,33 +40,9 @@ sent-taken d (refused k) e h = rw h refl
 sent-taken d (ok y) e h = taken d (wire (y .sent)) e h
 
 -- a request hands nothing up
-accepts-none : (q : Request) (e : Endpoint) → blockIn (accept q e .indication) ≡ []
-unfolding accept blockIn
-accepts-none connect e = refl
-accepts-none listen e = refl
-accepts-none endListening e = refl
-accepts-none close e = refl
-accepts-none (send b) e = refl
-accepts-none timer e = refl
-
-outcome-none : (n : ℕ) (x : Step) → blockIn (x .indication) ≡ [] → blockOf (outcome n x) ≡ []
-unfolding outcome blockOf
-outcome-none zero x h = h
-outcome-none (suc n) x h = refl
-
-refusing-none : (n : ℕ) (o : Outcome Step) → blockOf o ≡ [] → blockOf (refusing n o) ≡ []
-unfolding refusing blockOf
-refusing-none zero o h = h
-refusing-none (suc n) o h = refl
-
-asking-none : (o : Outcome Request) (e : Endpoint) → blockOf (andThen (mapped ask o) (λ (x : Call). perform x e)) ≡ []
-unfolding andThen mapped perform blockOf protocol.request
-asking-none (refused n) e = refl
-asking-none (ok q) e = outcome-none (refusal q e) (accept q e) (accepts-none q e)
-
 pub request-none : (rec s out : List ℕ) → [] ≡ blockOf (performed format rec (request s out))
-unfolding performed asked said
-request-none rec s out = sym (refusing-none _ _ (refusing-none _ _ (asking-none (readRequest s) (format .holds rec))))
+unfolding performed
+request-none rec s out = sym (refusing-silent _ _ (request-silent (format .sound rec) (format .holds rec) s out) .block)
 
 -- a block handed up has at most 64 octets, since its frame has at most 78
 refusing-short : (n : ℕ) (o : Outcome Step) → length (blockOf o) ≤ 64 → length (blockOf (refusing n o)) ≤ 64
@@ -80,7 +52,7 @@ refusing-short (suc n) o h = omega arith
 
 asked-short : (sound : Bool) (e : Endpoint) (s out : List ℕ) → length s ≤ 78 → length (blockOf (asked sound e (receive s out))) ≤ 64
 asked-short sound e s out h =
-    let r = right sound e s out in
+    let r = right sound e (receive s out) in
     by-eq (noticeOf (asked sound e (receive s out))) 5
     (λ z. omega (arith, ap length (r .some z .0), length-drop 14 s))
     (λ z. omega (arith, ap length (r .nothing z)))

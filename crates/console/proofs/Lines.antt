@@ -10,7 +10,7 @@ use lib.ListN.{length}
 use Rattle.octets.specs.Test.{when, ifEq, inRange, first, Outcome, refused, ok, outcome, refusing, mapped, andThen, numberOf}
 use Rattle.frame.specs.Read.{kindOf, readRequest}
 use Rattle.calls.specs.Calls.{buffer, request, receive, said, asked, performed, recordAfter, bufferAfter}
-use Rattle.plan.specs.Plan.{noticeOf}
+use Rattle.plan.specs.Plan.{noticeOf, blockOf}
 use Rattle.link.specs.Record.{format}
 use Rattle.console.specs.Line.{room, callOf, lineOutcome}
 use Rattle.console.specs.Parts.{refusedLine}
@@ -19,7 +19,7 @@ use Rattle.hexline.specs.Line.{unhex, lineQuestions, readInto, lineOf}
 use Rattle.hexline.specs.declared.Line.the-variants.{Decoded, Refused}
 use Rattle.frame.specs.Layout.{isRequest}
 use Rattle.protocol.specs.Table.{Step}
-use Rattle.link.specs.Lent.{sentOf, blockOf, toldOf, Lent}
+use Rattle.link.specs.Lent.{sentOf, toldOf, Lent}
 use Rattle.console.specs.declared.Reply.{Reply}
 use Rattle.console.specs.declared.Reply.the-variants as reply
 use Rattle.text.specs.Text.{textOf}

@@ -8,9 +8,9 @@ use Rattle.octets.specs.Test.{first, Outcome, refused, ok, outcome, mapped, num
 use Rattle.octets.specs.Octets.{left}
 use Rattle.protocol.specs.Table.{Step}
 use Rattle.calls.specs.Calls.{wire, recordAfter}
-use Rattle.plan.specs.Plan.{noticeOf, sentIn}
+use Rattle.plan.specs.Plan.{noticeOf, sentIn, blockOf}
 use Rattle.link.specs.Record.{format}
-use Rattle.link.specs.Lent.{blockOf, toldOf}
+use Rattle.link.specs.Lent.{toldOf}
 use Rattle.text.specs.declared.Told.{Told}
 use Rattle.text.specs.Text.{textOf, answerRoom}
 use Rattle.console.specs.declared.Reply.{Reply}

@@ -13,7 +13,8 @@ use Rattle.octets.proofs.Test.{if-eq, by-eq, eq-yes}
 use Rattle.hexline.specs.Line.{unhex}
 use Rattle.frame.specs.Read.{kindOf}
 use Rattle.calls.specs.Calls.{request, receive}
-use Rattle.link.specs.Lent.{sentOf, blockOf}
+use Rattle.plan.specs.Plan.{blockOf}
+use Rattle.link.specs.Lent.{sentOf}
 use Rattle.logbook.specs.Log.{senderAt, lengthAt, frameAt, holds}
 use Rattle.logbook.proofs.Log.{held}
 use Rattle.console.specs.declared.Reply.{Reply}

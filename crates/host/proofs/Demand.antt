@@ -1,4 +1,4 @@
--- A list of calls on structs is a list of the calls in octets, so demand 3 holds of it. Assumes nothing.
+-- Demand 3 of hosts: a list of calls on structs is a list of the calls in octets. Assumes nothing.
 use Prim.Native.Nat.{ℕ, zero, suc}
 use mathlib.Core.Path.{_≡_, refl, sym, subst, ap, _∙_}
 use mathlib.Core.Bool.{true}
@@ -11,10 +11,11 @@ use Rattle.protocol.specs.Endpoint as abstract
 use Rattle.protocol.specs.Table.{Step}
 use Rattle.protocol.specs.Network.{History, now}
 use Rattle.protocol.specs.Network as protocol
+use Rattle.protocol.specs.Claim.{Meets, InOrder}
 use Rattle.protocol.specs.Limits.{Bounded}
 use Rattle.protocol.proofs.Theorem.{swap-roomy, fresh-roomy, limited}
 use Rattle.calls.specs.Calls.{Call, ownQuestions, said, asked, performed}
-use Rattle.calls.specs.Claim.{recorded, after, Entry, atA, atB, bothNew, DueAt, Demand}
+use Rattle.calls.specs.Claim.{recorded, after, Ends, Entry, atA, atB, bothNew}
 use Rattle.calls.specs.Claim as octets
 use Rattle.calls.proofs.Lift.{Held, holding}
 use Rattle.endpoint.specs.declared.Endpoint.{Endpoint}
@@ -27,7 +28,7 @@ use Rattle.machine.specs.Calls.{answerOf, Answered}
 use Rattle.link.specs.Record.{format}
 use Rattle.link.proofs.Demand.{lawful, no-end-alone}
 use Rattle.host.specs.Step.{outcomeOf}
-use Rattle.host.specs.Hosts.{Host, advanced, Hosts, made, run, bothFresh, endOf, endsOf, AllDue}
+use Rattle.host.specs.Hosts.{Host, advanced, Hosts, made, run, bothFresh, AllDue, answered, EachMeets, Demand, endOf, endsOf}
 
 -- a call on the struct of a sound endpoint comes to what the call on its octets comes to
 pub comes : (e : abstract.Endpoint) (rest : List ℕ) → abstract.sound e ≡ true → Bounded e → (c : Call)
@@ -52,7 +53,7 @@ leaves h zero (ok q) f = by-answer (f q)
     by-answer (ok x) = refl
 
 -- what `advance` leaves of the struct that it is lent
-pub lent : (x : Host) (c : Call) {out out′ : List ℕ} {r : Answer} {e : Endpoint} → Answered (x .endpoint) (outcomeOf (x .endpoint) c) out out′ r → e ≡ r .endpoint → e ≡ advanced c x .endpoint
+pub lent : (x : Host) (c : Call) {s out out′ : List ℕ} {r : Answer} {e : Endpoint} → Answered (x .endpoint) (outcomeOf (x .endpoint) c) s out out′ r → e ≡ r .endpoint → e ≡ advanced c x .endpoint
 unfolding advanced
 lent x c a k = k ∙ ap (λ (r : Answer). r .endpoint) (a .answer)
 
@@ -73,16 +74,21 @@ alike x k s b p c r =
     let e = r ∙ ap (λ (z : History). encode (pack (now z)) ++ p) h ∙ ap (λ (z : Endpoint). encode z ++ p) (sym (kept x k c)) in
     λ i. record { rec = e i; history = h i }
 
--- a list of calls of two hosts, whose octets hold what the calls have answered: it is due in octets too, and comes to the same
+-- a list of calls of two hosts, whose octets hold what the calls have answered: it is due in octets too, comes to the same there, and
+-- as an end opens there it opens here
 abbrev Follows : List ℕ → List ℕ → Hosts → List Entry → Type 0
-Follows p q w cs = octets.AllDue format (endsOf p q w) cs × (octets.run format (endsOf p q w) cs ≡ endsOf p q (run w cs))
+Follows p q w cs =
+    octets.AllDue format (endsOf p q w) cs × ((octets.run format (endsOf p q w) cs ≡ endsOf p q (run w cs)) × (octets.EachMeets format (endsOf p q w) cs → EachMeets w cs))
 
-before : (p q : List ℕ) (c : Entry) (w : Hosts) (cs : List Entry) → DueAt c (endsOf p q w) → octets.made format c (endsOf p q w) ≡ endsOf p q (made c w)
+before : (p q : List ℕ) (c : Entry) (w : Hosts) (cs : List Entry) → octets.DueAt c (endsOf p q w) → octets.made format c (endsOf p q w) ≡ endsOf p q (made c w)
     → Follows p q (made c w) cs → Follows p q w (c ∷ cs)
-before p q c w cs d e f = ((d, subst (λ v. octets.AllDue format v cs) (sym e) (f .0)), ap (λ v. octets.run format v cs) e ∙ f .1)
+before p q c w cs d e f = (
+  (d, subst (λ v. octets.AllDue format v cs) (sym e) (f .0)),
+  (ap (λ v. octets.run format v cs) e ∙ f .1 .0, λ m. (subst (λ (v : Ends). Meets (answered w) (octets.answered v)) e (m .0), f .1 .1 (subst (λ v. octets.EachMeets format v cs) e (m .1)))),
+)
 
-follows : (w : Hosts) {p q : List ℕ} → Held format lawful (endOf p (w .a)) (endOf q (w .b)) p q → Kept (w .a) → Kept (w .b) → (cs : List Entry) → AllDue p q w cs → Follows p q w cs
-follows w h ka kb [] d = (tt, refl)
+follows : (w : Hosts) {p q : List ℕ} → Held format lawful (endOf p (w .a)) (endOf q (w .b)) p q → Kept (w .a) → Kept (w .b) → (cs : List Entry) → AllDue w cs → Follows p q w cs
+follows w h ka kb [] d = (tt, (refl, λ _. tt))
 follows w {p} {q} h ka kb (atA c ∷ cs) d =
     let m = limited (h .roomy) in
     let k = holding format lawful (endsOf p q w) h (atA c ∷ []) (d .0, tt) in
@@ -96,11 +102,23 @@ follows w {p} {q} h ka kb (atB c ∷ cs) d =
     before p q (atB c) w cs (d .0) (λ i. record { a = endOf p (w .a); b = e i })
     (follows (made (atB c) w) (subst (λ v. Held format lawful (endOf p (w .a)) v p q) e k) ka (kept (w .b) kb c) cs (d .1))
 
--- Demand 3 of two hosts that start fresh: it holds of the same calls in octets, whatever follows the records there, and these leave the
--- octets of the structs and the same answers.
-pub no-host-alone : (p q : List ℕ) (calls : List Entry) → AllDue p q bothFresh calls
-    → Demand format (bothNew format p q) calls × (octets.run format (bothNew format p q) calls ≡ endsOf p q (run bothFresh calls))
+from-fresh : (p q : List ℕ) (calls : List Entry) → AllDue bothFresh calls → Follows p q bothFresh calls
 unfolding now
-no-host-alone p q calls d =
-    let f = follows bothFresh (record { roomy = fresh-roomy; mine = refl; other = refl }) refl refl calls d in
-    (no-end-alone p q calls (f .0), f .1)
+from-fresh p q calls d = follows bothFresh (record { roomy = fresh-roomy; mine = refl; other = refl }) refl refl calls d
+
+-- a list of calls of two hosts that start fresh is a list of the calls in octets, whatever follows the records there: it leaves the octets
+-- of the structs and the same answers
+pub in-octets : (p q : List ℕ) (calls : List Entry) → AllDue bothFresh calls
+    → octets.AllDue format (bothNew format p q) calls × (octets.run format (bothNew format p q) calls ≡ endsOf p q (run bothFresh calls))
+in-octets p q calls d = let f = from-fresh p q calls d in (f .0, f .1 .0)
+
+-- Demand 3 of two hosts that start fresh.
+pub no-host-alone : (calls : List Entry) → AllDue bothFresh calls → Demand bothFresh calls
+no-host-alone calls d =
+    let f = from-fresh [] [] calls d in
+    let o = no-end-alone [] [] calls (f .0) in
+    record {
+      meets = f .1 .1 (o .meets);
+      to-a = subst (λ (v : Ends). InOrder (v .a .history) (v .b .history)) (f .1 .0) (o .to-a);
+      to-b = subst (λ (v : Ends). InOrder (v .b .history) (v .a .history)) (f .1 .0) (o .to-b);
+    }

@@ -7,7 +7,7 @@ ghost use Rattle.host.specs.Step.{callOf, outcomeOf};
 
 // A request, the timer call among them, or a frame received: the step by value.
 pub fn step(asked: bool, e: Endpoint, s: &[u8], out: &mut [u8]) -> Answer
-    ensures { λ r. ⌜ Answered e (outcomeOf e (callOf asked (now (s .entry)) (now (out .entry)))) (now (out .entry)) (now (out .exit)) r ⌝ }
+    ensures { λ r. ⌜ Answered e (outcomeOf e (callOf asked (now (s .entry)) (now (out .entry)))) (now (s .entry)) (now (out .entry)) (now (out .exit)) r ⌝ }
 {
     if asked {
         return machine::request(e, s, out);
@@ -17,7 +17,7 @@ pub fn step(asked: bool, e: Endpoint, s: &[u8], out: &mut [u8]) -> Answer
 
 // The same step on a record that is lent. A refusal's answer has the record as it was.
 pub fn advance(asked: bool, e: &mut Endpoint, s: &[u8], out: &mut [u8]) -> Answer
-    ensures { λ r. ⌜ Answered (now (e .entry)) (outcomeOf (now (e .entry)) (callOf asked (now (s .entry)) (now (out .entry)))) (now (out .entry)) (now (out .exit)) r × (now (e .exit) ≡ r .endpoint) ⌝ }
+    ensures { λ r. ⌜ Answered (now (e .entry)) (outcomeOf (now (e .entry)) (callOf asked (now (s .entry)) (now (out .entry)))) (now (s .entry)) (now (out .entry)) (now (out .exit)) r × (now (e .exit) ≡ r .endpoint) ⌝ }
 {
     let r = step(asked, *e, s, out);
     *e = r.endpoint;
@@ -26,7 +26,7 @@ pub fn advance(asked: bool, e: &mut Endpoint, s: &[u8], out: &mut [u8]) -> Answe
 
 // The same for callers that hold the record by value, who need no walk: it is lent from here, and answered as the call left it.
 pub fn lend(asked: bool, e: Endpoint, s: &[u8], out: &mut [u8]) -> Answer
-    ensures { λ r. ⌜ Answered e (outcomeOf e (callOf asked (now (s .entry)) (now (out .entry)))) (now (out .entry)) (now (out .exit)) r ⌝ }
+    ensures { λ r. ⌜ Answered e (outcomeOf e (callOf asked (now (s .entry)) (now (out .entry)))) (now (s .entry)) (now (out .entry)) (now (out .exit)) r ⌝ }
 {
     let mut held = e;
     let mut r = advance(asked, &mut held, s, out);

@@ -1,25 +1,31 @@
 // A host that holds its end's record as a struct: document 01's run, each call lending the record.
 use endpoint::Endpoint;
 ghost use mathlib.Core.Path.{_≡_};
-ghost use Prim.Native.Nat.{_≤_};
-ghost use lib.ListN.{length};
-ghost use Rattle.octets.specs.Sizes.{longestFrame, longestBlock};
+ghost use mathlib.Core.Logic.{_≢_};
+ghost use Prim.Native.Nat.{_+_, _≤_};
+ghost use lib.ListN.{length, replicate};
+ghost use Rattle.octets.specs.Sizes.{longestFrame};
+ghost use Rattle.plan.specs.Plan.{blockPart};
+ghost use Rattle.machine.specs.Calls.{answerOf};
+ghost use Rattle.host.specs.Step.{callOf, outcomeOf};
 use text::Told;
 
-// The block that notice 5 tells of: what follows octet 14 of the frame received.
-fn block_of(notice: u8, s: &[u8]) -> &[u8]
-    requires { ⌜ (length (now s) ≤ longestFrame) × (notice ≡ 5 → 14 ≤ length (now s)) ⌝ }
-    ensures { λ r. ⌜ length (now r) ≤ longestBlock ⌝ }
+// The block handed up, of which an answer tells the length: it stands in the frame received, from octet 14 on.
+fn block_of(n: usize, s: &[u8]) -> &[u8]
+    requires { ⌜ (n ≢ 0 → 14 + n ≤ length (now s)) ⌝ }
+    ensures { λ r. ⌜ now r ≡ blockPart (now (s .entry)) n ⌝ }
 {
-    if notice != plan::HANDED_UP {
+    if n == 0 {
         return &s[..0];
     }
-    &s[14..]
+    let up = &s[14..];
+    &up[..n]
 }
 
 // One call: writes what it answers, and gives the record that it leaves.
 fn call(asked: bool, e: Endpoint, s: &[u8]) -> Endpoint
     requires { ⌜ length (now s) ≤ longestFrame ⌝ }
+    ensures { λ r. ⌜ r ≡ answerOf e (outcomeOf e (callOf asked (now (s .entry)) (replicate longestFrame 0))) .endpoint ⌝ }
 {
     let mut frame = [0u8; Endpoint::LONGEST_FRAME];
     let a = host::lend(asked, e, s, &mut frame);
@@ -32,7 +38,7 @@ fn call(asked: bool, e: Endpoint, s: &[u8]) -> Endpoint
         remote: after.remote,
     };
     let mut text = [0u8; text::ANSWER_ROOM];
-    let block = block_of(a.notice, s);
+    let block = block_of(a.block, s);
     let n = text::write_text(t, block, &frame[..a.sent], &mut text);
     io::write_all(1, &text[..n]);
     after

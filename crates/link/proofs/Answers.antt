@@ -1,5 +1,5 @@
 -- What a call on a lent record answers, from its plan. Assumes nothing.
-use Prim.Native.Nat.{ℕ, _≤_, _<_}
+use Prim.Native.Nat.{ℕ, zero, suc, _≤_, _<_}
 use mathlib.Core.Path.{_≡_, refl, sym, ap, _∙_}
 use mathlib.Core.Logic.{_≢_}
 use mathlib.Core.List.{List, []}
@@ -15,7 +15,9 @@ use Rattle.protocol.specs.Endpoint.{fresh}
 use Rattle.protocol.specs.Table.{Step}
 use Rattle.endpoint.specs.declared.Endpoint.{Endpoint}
 use Rattle.plan.specs.declared.Plan.{Plan}
-use Rattle.plan.specs.Plan.{noticeOf, sentIn, endpointAfter, Room}
+use Rattle.plan.specs.Plan.{noticeOf, sentIn, blockOf, blockPart, blockBy, endpointAfter, Room}
+use Rattle.plan.proofs.Up.{right}
+use Rattle.plan.proofs.Up as up
 use Rattle.endpoint.specs.View.{pack, view}
 use Rattle.endpoint.specs.Sound.{sound}
 use Rattle.endpoint.specs.Record.{encode, decode}
@@ -23,10 +25,9 @@ use Rattle.machine.specs.Calls.{answerOf}
 use Rattle.machine.specs.Carried.{carried, Prepared}
 use Rattle.machine.proofs.Carries.{buffer-is, ready-to, leaves}
 use Rattle.endpoint.proofs.Record.{encode-decode}
-use Rattle.calls.specs.Calls.{Call, buffer, wire, asked, performed, recordAfter, bufferAfter}
+use Rattle.calls.specs.Calls.{Call, input, buffer, wire, asked, performed, recordAfter, bufferAfter}
 use Rattle.link.specs.Record.{format}
-use Rattle.link.specs.Lent.{sentOf, blockOf, toldOf, Lent}
-use Rattle.link.proofs.Up.{Right}
+use Rattle.link.specs.Lent.{sentOf, toldOf, Lent}
 
 -- the numbers of an endpoint that are told
 record Told (a : abstract.Endpoint) (e : Endpoint) : Type 0 where
@@ -145,8 +146,19 @@ module _ (rec : List ℕ) (long : 538 ≤ length rec) where
     pub refused-none : p .number ≢ 0 → [] ≡ blockOf (performed format rec c)
     refused-none h = rw (enough c) (none-refused o (λ z. h (w .comes .number ∙ z)))
 
-    pub up-none : {s : List ℕ} → Right s (blockOf o) (noticeOf o) → p .notice ≢ 5 → [] ≡ blockOf (performed format rec c)
-    up-none r h = rw (enough c) (sym (r .nothing (λ z. h (w .comes .notice ∙ z))))
+    -- the block that the notice tells of
+    pub long-enough : p .notice ≡ 5 → 14 ≤ length (input c)
+    long-enough h = right (sound (decode rec)) (view (decode rec)) c .some (sym (w .comes .notice) ∙ h) .1
 
-    pub up-some : {s : List ℕ} → Right s (blockOf o) (noticeOf o) → p .notice ≡ 5 → (drop 14 s ≡ blockOf (performed format rec c)) × (14 ≤ length s)
-    up-some r h = let b = r .some (sym (w .comes .notice) ∙ h) in (rw (enough c) (sym (b .0)), b .1)
+    pub hands-up : blockBy (p .notice) (input c) ≡ blockOf (performed format rec c)
+    hands-up = rw (enough c, w .comes .notice) (up.told (right (sound (decode rec)) (view (decode rec)) c))
+
+-- it stands in what the call was given, where its length tells
+refusing-part : (s : List ℕ) (n : ℕ) (o : Outcome Step) → blockPart s (length (blockOf o)) ≡ blockOf o → blockPart s (length (blockOf (refusing n o))) ≡ blockOf (refusing n o)
+unfolding refusing blockOf blockPart
+refusing-part s zero o h = h
+refusing-part s (suc n) o h = refl
+
+pub stands : (rec : List ℕ) (c : Call) → blockPart (input c) (length (blockOf (performed format rec c))) ≡ blockOf (performed format rec c)
+unfolding performed
+stands rec c = refusing-part (input c) _ _ (up.part (right (format .sound rec) (format .holds rec) c))

@@ -5,10 +5,9 @@ use mathlib.Core.List.{List, [], _∷_}
 use lib.Dec.{leb}
 use lib.ListN.{length}
 use Rattle.octets.specs.Test.{when, first, Outcome, refused, ok, outcome, numberOf}
-use Rattle.frame.specs.Frame.{Block}
 use Rattle.protocol.specs.Endpoint.{fresh}
-use Rattle.protocol.specs.Table.{Indication, none, connected, rejected, closedByPartner, closeFinished, handedUp, Step}
-use Rattle.plan.specs.Plan.{noticeOf}
+use Rattle.protocol.specs.Table.{Step}
+use Rattle.plan.specs.Plan.{noticeOf, blockOf, blockPart}
 use Rattle.endpoint.specs.declared.Endpoint.{Endpoint}
 use Rattle.endpoint.specs.View.{pack}
 use Rattle.endpoint.specs.Record.{recordSize, decode}
@@ -19,19 +18,6 @@ use Rattle.link.specs.Record.{format}
 unfoldable pub sentOf : Outcome Step → ℕ
 sentOf (refused n) = 0
 sentOf (ok x) = length (wire (x .sent))
-
--- the block handed up
-unfoldable pub blockIn : Indication → Block
-blockIn none = []
-blockIn connected = []
-blockIn rejected = []
-blockIn closedByPartner = []
-blockIn closeFinished = []
-blockIn (handedUp b) = b
-
-unfoldable pub blockOf : Outcome Step → Block
-blockOf (refused n) = []
-blockOf (ok x) = blockIn (x .indication)
 
 -- The record whose state, L and D are told: the new one; after a refusal the one lent, as it stands, or a fresh one where the
 -- buffer is too short to hold any.
@@ -50,14 +36,15 @@ pub record Lent (o : Outcome Step) (rec out rec′ out′ : List ℕ) (number st
   pub is-rec : rec′ ≡ recordAfter format rec o
   pub is-out : out′ ≡ bufferAfter out o
 
--- receiving gives the block too; for C it gives the block's length
+-- receiving gives the block too; for C it tells the block's length, and the block stands in the frame s received
 pub record Received (o : Outcome Step) (rec out rec′ out′ : List ℕ) (number state notice local remote sent : ℕ) (block : List ℕ) : Type 0 where
   pub lent : Lent o rec out rec′ out′ number state notice local remote sent
   pub is-block : block ≡ blockOf o
 
-pub record Called (o : Outcome Step) (rec out rec′ out′ : List ℕ) (number state notice local remote sent count : ℕ) : Type 0 where
+pub record Called (o : Outcome Step) (rec s out rec′ out′ : List ℕ) (number state notice local remote sent count : ℕ) : Type 0 where
   pub lent : Lent o rec out rec′ out′ number state notice local remote sent
   pub is-count : count ≡ length (blockOf o)
+  pub is-block : blockPart s count ≡ blockOf o
 
 -- a fresh record in a buffer; 11 where it is too short
 unfoldable pub freshIn : List ℕ → Outcome (List ℕ)

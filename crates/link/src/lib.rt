@@ -85,11 +85,11 @@ pub extern "C" fn dock_request(
         return 11;
     }
     let asked = plan_request(rec, s, out, sent);
-    let n = asked.numbers;
-    *state = n.state;
+    let after = asked.numbers;
+    *state = after.state;
     *notice = asked.notice;
-    *local = n.local;
-    *remote = n.remote;
+    *local = after.local;
+    *remote = after.remote;
     if asked.number != 0 {
         return asked.number;
     }
@@ -132,10 +132,7 @@ pub fn receive<'a>(
         return &s[..0];
     }
     carry_out(rec, heard, s);
-    if heard.notice != plan::HANDED_UP {
-        return &s[..0];
-    }
-    &s[14..]
+    plan::handed_up(heard.notice, s)
 }
 
 // Receives the frame s for programs in C. Answers the number; the block handed up is octets 14 on of s, and its length, 0 where
@@ -152,7 +149,7 @@ pub extern "C" fn dock_receive(
     sent: &mut usize,
     block: &mut usize,
 ) -> u8
-    ensures { λ r. ⌜ Called (performed format (now (rec .entry)) (calls.receive (now (s .entry)) (now (out .entry)))) (now (rec .entry)) (now (out .entry)) (now (rec .exit)) (now (out .exit)) r (now (state .exit)) (now (notice .exit)) (now (local .exit)) (now (remote .exit)) (now (sent .exit)) (now (block .exit)) ⌝ }
+    ensures { λ r. ⌜ Called (performed format (now (rec .entry)) (calls.receive (now (s .entry)) (now (out .entry)))) (now (rec .entry)) (now (s .entry)) (now (out .entry)) (now (rec .exit)) (now (out .exit)) r (now (state .exit)) (now (notice .exit)) (now (local .exit)) (now (remote .exit)) (now (sent .exit)) (now (block .exit)) ⌝ }
 {
     let mut number: u8 = 0;
     let up = receive(rec, s, out, &mut number, state, notice, local, remote, sent);

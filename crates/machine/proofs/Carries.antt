@@ -11,14 +11,15 @@ use Rattle.octets.proofs.Octets.{put-none}
 use Rattle.octets.proofs.Test.{by-eq}
 use Rattle.frame.specs.Frame.{Block}
 use Rattle.protocol.specs.Table.{Step}
-use Rattle.calls.specs.Calls.{Call, asked, wire, bufferAfter}
+use Rattle.calls.specs.Calls.{Call, input, asked, wire, bufferAfter}
 use Rattle.decide.specs.Rows.{holding}
 use Rattle.plan.specs.declared.Plan.{Plan}
 use Rattle.plan.specs.declared.Queue.{Queue}
 use Rattle.plan.specs.declared.Queue.the-variants.{Keep, Join, Release}
-use Rattle.plan.specs.Plan.{noticeOf, sentIn, endpointAfter, queueAfter, Room, blockOut, sentBy, Oldest, Comes, Sends}
+use Rattle.plan.specs.Plan.{noticeOf, sentIn, blockOf, blockPart, blockBy, endpointAfter, queueAfter, Room, blockOut, sentBy, Oldest, Comes, Sends}
 use Rattle.plan.specs.Parts.{refusing}
 use Rattle.plan.proofs.Comes.{refuses}
+use Rattle.plan.proofs.Up.{right, part, told}
 use Rattle.endpoint.specs.declared.Endpoint.{Endpoint}
 use Rattle.endpoint.specs.View.{padded, places, lengthsOf, pack, tab, blockAt, view}
 use Rattle.endpoint.specs.Sound.{sound}
@@ -118,6 +119,11 @@ unfolding sentIn answerOf wire
 sent-is e (refused n) = refl
 sent-is e (ok x) = refl
 
+block-is : (e : Endpoint) (o : Outcome Step) → length (blockOf o) ≡ answerOf e o .block
+unfolding blockOf answerOf
+block-is e (refused n) = refl
+block-is e (ok x) = refl
+
 kept-is : (e : Endpoint) (o : Outcome Step) → (numberOf o ≡ 0 → ⊥) → e ≡ answerOf e o .endpoint
 unfolding numberOf answerOf
 kept-is e (refused n) h = refl
@@ -160,17 +166,28 @@ module _ (e : Endpoint) (l8 : length (e .lengths) ≡ 8) (l512 : length (e .bloc
     pub leaves : p .number ≡ 0 → carried p b e ≡ answerOf e outcome .endpoint
     leaves z = carries e (is-sound z) l8 l512 (w .comes)
 
-    abbrev Ends : Answer → Type 0
-    Ends r = Answered e outcome out out′ r
-
     said : out′ ≡ bufferAfter out outcome
     said = w .sends .octets ∙ buffer-is out outcome
 
-    pub answers : {r : Answer} → Carried e p b sent r → Ends r
-    answers {r} k =
-        record {
-          answer = by-eq (p .number) 0
-              (λ z. k .accepted z ∙ (λ i. record { number = (sym z ∙ w .comes .number ∙ number-is e outcome) i; endpoint = leaves z i; notice = (w .comes .notice ∙ notice-is e outcome) i; sent = (w .sends .count ∙ sent-is e outcome) i }))
-              (λ z. k .refused z ∙ (λ i. record { number = (w .comes .number ∙ number-is e outcome) i; endpoint = kept-is e outcome (λ y. z (w .comes .number ∙ y)) i; notice = (w .comes .notice ∙ notice-is e outcome) i; sent = (w .sends .count ∙ sent-is e outcome) i }));
-          octets = said;
-        }
+  module _ {out out′ : List ℕ} {sent : ℕ} {p : Plan} (w : Prepared e (drop 2 (input c)) outcome out out′ sent p) where
+    -- the block that is handed up stands in what the call was given
+    long-enough : p .notice ≡ 5 → 14 ≤ length (input c)
+    long-enough z = right (sound e) (view e) c .some (sym (w .comes .notice) ∙ z) .1
+
+    counted : length (blockBy (p .notice) (input c)) ≡ answerOf e outcome .block
+    counted = ap (λ (n : ℕ). length (blockBy n (input c))) (w .comes .notice) ∙ ap length (told (right (sound e) (view e) c)) ∙ block-is e outcome
+
+    stands : {r : Answer} → r ≡ answerOf e outcome → blockPart (input c) (r .block) ≡ blockOf outcome
+    stands h = ap (λ (x : Answer). blockPart (input c) (x .block)) h ∙ ap (blockPart (input c)) (sym (block-is e outcome)) ∙ part (right (sound e) (view e) c)
+
+    pub finishes : (p .notice ≡ 5 → 14 ≤ length (input c)) × (p .number ≡ 0 → (e .waiting ≤ 8) × Room (p .queue) (drop 2 (input c)) (e .waiting))
+    finishes = (long-enough, ready-to w)
+
+    answer-is : {r : Answer} → Carried e p (input c) sent r → r ≡ answerOf e outcome
+    answer-is k =
+        by-eq (p .number) 0
+        (λ z. k .accepted z ∙ (λ i. record { number = (sym z ∙ w .comes .number ∙ number-is e outcome) i; endpoint = leaves w z i; notice = (w .comes .notice ∙ notice-is e outcome) i; sent = (w .sends .count ∙ sent-is e outcome) i; block = counted i }))
+        (λ z. k .refused z ∙ (λ i. record { number = (w .comes .number ∙ number-is e outcome) i; endpoint = kept-is e outcome (λ y. z (w .comes .number ∙ y)) i; notice = (w .comes .notice ∙ notice-is e outcome) i; sent = (w .sends .count ∙ sent-is e outcome) i; block = counted i }))
+
+    pub answers : {r : Answer} → Carried e p (input c) sent r → Answered e outcome (input c) out out′ r
+    answers k = record { answer = answer-is k; octets = said w; block = stands (answer-is k) }

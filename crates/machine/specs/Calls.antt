@@ -7,7 +7,7 @@ use Rattle.octets.specs.Test.{Outcome, refused, ok}
 use Rattle.calls.specs.Calls.{asked, wire, bufferAfter}
 use Rattle.calls.specs.Calls as calls
 use Rattle.protocol.specs.Table.{notice, Step}
-use Rattle.protocol.specs.Requests.{request}
+use Rattle.plan.specs.Plan.{blockIn, blockOf, blockPart}
 use Rattle.endpoint.specs.declared.Endpoint.{Endpoint}
 use Rattle.machine.specs.declared.Answer.{Answer}
 use Rattle.endpoint.specs.View.{pack, view}
@@ -21,13 +21,21 @@ requestOutcome e s out = asked (sound e) (view e) (calls.request s out)
 unfoldable pub receiveOutcome : Endpoint → List ℕ → List ℕ → Outcome Step
 receiveOutcome e s out = asked (sound e) (view e) (calls.receive s out)
 
--- what a call answers: a refusal leaves the record, with no notice and no frame
+-- what a call answers: a refusal leaves the record, with no notice, no frame and no block
 unfoldable pub answerOf : Endpoint → Outcome Step → Answer
-answerOf e (refused n) = record { number = n; endpoint = e; notice = 0; sent = 0 }
+answerOf e (refused n) = record { number = n; endpoint = e; notice = 0; sent = 0; block = 0 }
 answerOf e (ok x) =
-    record { number = 0; endpoint = pack (x .endpoint); notice = notice (x .indication); sent = length (wire (x .sent)) }
+    record {
+      number = 0;
+      endpoint = pack (x .endpoint);
+      notice = notice (x .indication);
+      sent = length (wire (x .sent));
+      block = length (blockIn (x .indication));
+    }
 
--- What a call of e with this outcome answers, and what it leaves of the buffer out.
-pub record Answered (e : Endpoint) (o : Outcome Step) (out out′ : List ℕ) (r : Answer) : Type 0 where
+-- What a call of e with this outcome answers, and what it leaves of the buffer out. The block handed up stands in the octets s that
+-- the call was given.
+pub record Answered (e : Endpoint) (o : Outcome Step) (s out out′ : List ℕ) (r : Answer) : Type 0 where
   pub answer : r ≡ answerOf e o
   pub octets : out′ ≡ bufferAfter out o
+  pub block : blockPart s (r .block) ≡ blockOf o

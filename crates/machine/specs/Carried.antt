@@ -12,7 +12,7 @@ use Rattle.protocol.specs.Table.{Step}
 use Rattle.plan.specs.declared.Plan.{Plan}
 use Rattle.plan.specs.declared.Queue.{Queue}
 use Rattle.plan.specs.declared.Queue.the-variants.{Keep, Join, Release}
-use Rattle.plan.specs.Plan.{sentIn, Comes, Sends}
+use Rattle.plan.specs.Plan.{sentIn, blockBy, Comes, Sends}
 use Rattle.endpoint.specs.declared.Endpoint.{Endpoint}
 use Rattle.endpoint.specs.View.{blockAt, view}
 use Rattle.endpoint.specs.Parts.{recordOf, numbersOf}
@@ -39,7 +39,7 @@ pub record Prepared (e : Endpoint) (b : Block) (o : Outcome Step) (out out′ : 
   pub comes : Comes (numbersOf e) (view e .queue) b (blockAt (e .lengths) (e .blocks) 0) o p
   pub sends : Sends (sentIn o) out out′ sent
 
--- An answer by the plan p: a refusal leaves the record.
-pub record Carried (e : Endpoint) (p : Plan) (b : Block) (sent : ℕ) (r : Answer) : Type 0 where
-  pub refused : p .number ≢ 0 → r ≡ record { number = p .number; endpoint = e; notice = p .notice; sent = sent }
-  pub accepted : p .number ≡ 0 → r ≡ record { number = 0; endpoint = carried p b e; notice = p .notice; sent = sent }
+-- An answer by the plan p, of a call that was given the octets s: a refusal leaves the record.
+pub record Carried (e : Endpoint) (p : Plan) (s : List ℕ) (sent : ℕ) (r : Answer) : Type 0 where
+  pub refused : p .number ≢ 0 → r ≡ record { number = p .number; endpoint = e; notice = p .notice; sent = sent; block = length (blockBy (p .notice) s) }
+  pub accepted : p .number ≡ 0 → r ≡ record { number = 0; endpoint = carried p (drop 2 s) e; notice = p .notice; sent = sent; block = length (blockBy (p .notice) s) }

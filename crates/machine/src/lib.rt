@@ -141,25 +141,29 @@ fn carry_out(e: Endpoint, p: Plan, s: &[u8]) -> Endpoint
 }
 
 // What a call answers. number is document 01's number of the refusal, 0 for success; notice its indication; sent the length
-// of the frame sent, which stands at the start of the caller's buffer (0: none). The block of notice 5 is the received
-// frame's own, octets 14 on.
+// of the frame sent, which stands at the start of the caller's buffer (0: none); block the length of the block handed up, which
+// stands in the caller's own received frame, from octet 14 on (0: none).
 pub struct Answer {
     pub number: u8,
     pub endpoint: Endpoint,
     pub notice: u8,
     pub sent: usize,
+    pub block: usize,
 }
 
 fn finish(e: Endpoint, p: Plan, s: &[u8], sent: usize) -> Answer
-    requires { ⌜ (p .number ≡ 0 → (e .waiting ≤ queueSize) × Room (p .queue) (drop 2 (now s)) (e .waiting)) ⌝ }
-    ensures { λ r. ⌜ Carried e p (drop 2 (now (s .entry))) sent r ⌝ }
+    requires { ⌜ (p .notice ≡ 5 → 14 ≤ length (now s)) × (p .number ≡ 0 → (e .waiting ≤ queueSize) × Room (p .queue) (drop 2 (now s)) (e .waiting)) ⌝ }
+    ensures { λ r. ⌜ Carried e p (now (s .entry)) sent r ⌝ }
 {
+    let up = plan::handed_up(p.notice, s);
+    let block = up.len();
     if p.number != 0 {
         return Answer {
             number: p.number,
             endpoint: e,
             notice: p.notice,
             sent,
+            block,
         };
     }
     let changed = carry_out(e, p, s);
@@ -168,11 +172,12 @@ fn finish(e: Endpoint, p: Plan, s: &[u8], sent: usize) -> Answer
         endpoint: changed,
         notice: p.notice,
         sent,
+        block,
     }
 }
 
 pub fn request(e: Endpoint, s: &[u8], out: &mut [u8]) -> Answer
-    ensures { λ r. ⌜ Answered e (requestOutcome e (now (s .entry)) (now (out .entry))) (now (out .entry)) (now (out .exit)) r ⌝ }
+    ensures { λ r. ⌜ Answered e (requestOutcome e (now (s .entry)) (now (out .entry))) (now (s .entry)) (now (out .entry)) (now (out .exit)) r ⌝ }
 {
     let mut sent = 0usize;
     let n = endpoint::numbers_of(e);
@@ -180,9 +185,8 @@ pub fn request(e: Endpoint, s: &[u8], out: &mut [u8]) -> Answer
     finish(e, p, s, sent)
 }
 
-// The block of notice 5 is octets 14 on of s.
 pub fn receive(e: Endpoint, s: &[u8], out: &mut [u8]) -> Answer
-    ensures { λ r. ⌜ Answered e (receiveOutcome e (now (s .entry)) (now (out .entry))) (now (out .entry)) (now (out .exit)) r ⌝ }
+    ensures { λ r. ⌜ Answered e (receiveOutcome e (now (s .entry)) (now (out .entry))) (now (s .entry)) (now (out .entry)) (now (out .exit)) r ⌝ }
 {
     let mut sent = 0usize;
     let n = endpoint::numbers_of(e);

@@ -13,9 +13,9 @@ use Rattle.frame.specs.Frame.{Frame}
 use Rattle.frame.specs.Layout.{encode}
 use Rattle.protocol.specs.Table.{Step, Sent, nothing, frame}
 use Rattle.calls.specs.Calls.{Call, request, wire, performed}
-use Rattle.plan.specs.Plan.{sentIn}
+use Rattle.plan.specs.Plan.{sentIn, blockOf}
 use Rattle.link.specs.Record.{format}
-use Rattle.link.specs.Lent.{sentOf, blockOf}
+use Rattle.link.specs.Lent.{sentOf}
 use Rattle.console.proofs.Ends.{sent-fits, sent-taken, request-none}
 use Rattle.rig.specs.Bench.{sends, logged, made, logAfter, countAfter}
 use Rattle.moves.specs.declared.Moved.{Moved}

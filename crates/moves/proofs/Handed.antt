@@ -12,10 +12,10 @@ use Rattle.octets.proofs.Test.{by-eq, eq-no}
 use Rattle.protocol.specs.Endpoint.{Endpoint}
 use Rattle.protocol.specs.Table.{Step, Sent, nothing, frame}
 use Rattle.calls.specs.Calls.{receive, asked, wire, performed}
-use Rattle.plan.specs.Plan.{noticeOf}
+use Rattle.plan.specs.Plan.{noticeOf, blockOf}
 use Rattle.link.specs.Record.{format}
-use Rattle.link.specs.Lent.{sentOf, blockOf}
-use Rattle.link.proofs.Up.{right}
+use Rattle.link.specs.Lent.{sentOf}
+use Rattle.plan.proofs.Up.{right}
 use Rattle.logbook.specs.Log.{lengthAt, frameAt, place}
 use Rattle.logbook.proofs.Places.{stays}
 use Rattle.rig.specs.Bench.{sends, logged, made, logAfter}
@@ -43,7 +43,7 @@ refusing-from s (suc n) o h = inl refl
 
 asked-from : (sound : Bool) (e : Endpoint) (s out : List ℕ) → From s (blockOf (asked sound e (receive s out)))
 asked-from sound e s out =
-    let r = right sound e s out in
+    let r = right sound e (receive s out) in
     by-eq (noticeOf (asked sound e (receive s out))) 5 (λ z. inr (r .some z .0)) (λ z. inl (r .nothing z))
 
 pub made-from : (rec : List ℕ) (count : ℕ) (s out : List ℕ) → From s (blockOf (made rec count (receive s out)))

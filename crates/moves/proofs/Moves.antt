@@ -16,12 +16,12 @@ use Rattle.frame.specs.Layout.{encode}
 use Rattle.protocol.specs.Endpoint.{fresh}
 use Rattle.protocol.specs.Table.{Step, Sent, nothing, frame}
 use Rattle.calls.specs.Calls.{Call, said, asked, wire, performed}
-use Rattle.plan.specs.Plan.{noticeOf}
+use Rattle.plan.specs.Plan.{noticeOf, blockOf}
 use Rattle.endpoint.specs.declared.Endpoint.{Endpoint}
 use Rattle.endpoint.specs.View.{pack}
 use Rattle.endpoint.specs.Record.{decode}
 use Rattle.link.specs.Record.{format}
-use Rattle.link.specs.Lent.{sentOf, blockOf, toldOf, Lent}
+use Rattle.link.specs.Lent.{sentOf, toldOf, Lent}
 use Rattle.moves.specs.declared.Moved.{Moved}
 use Rattle.rig.specs.Bench.{sends, logged, made}
 use Rattle.moves.specs.Parts.{callAs, movedOf, Moves}

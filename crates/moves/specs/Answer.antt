@@ -4,8 +4,8 @@ use mathlib.Core.List.{List}
 use lib.ListN.{length}
 use Rattle.octets.specs.Test.{ifEq, Outcome, numberOf}
 use Rattle.protocol.specs.Table.{Step}
-use Rattle.plan.specs.Plan.{noticeOf}
-use Rattle.link.specs.Lent.{sentOf, blockOf, toldOf}
+use Rattle.plan.specs.Plan.{noticeOf, blockOf}
+use Rattle.link.specs.Lent.{sentOf, toldOf}
 use Rattle.logbook.specs.Log.{placeSize}
 use Rattle.rig.specs.Bench.{countAfter}
 use Rattle.moves.specs.declared.Answer.{Answer}

@@ -8,9 +8,9 @@ use Rattle.octets.specs.Test.{when, ifEq, Outcome, numberOf}
 use Rattle.octets.specs.Octets.{put}
 use Rattle.protocol.specs.Table.{Step}
 use Rattle.calls.specs.Calls.{Call, request, receive, recordAfter, bufferAfter}
-use Rattle.plan.specs.Plan.{noticeOf}
+use Rattle.plan.specs.Plan.{noticeOf, blockOf}
 use Rattle.link.specs.Record.{format}
-use Rattle.link.specs.Lent.{sentOf, blockOf, toldOf}
+use Rattle.link.specs.Lent.{sentOf, toldOf}
 use Rattle.logbook.specs.Log.{placeSize, place}
 use Rattle.rig.specs.Bench.{logAfter}
 use Rattle.moves.specs.declared.Moved.{Moved}

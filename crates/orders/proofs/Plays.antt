@@ -14,7 +14,7 @@ use Rattle.octets.proofs.Test.{eq-yes, eq-no}
 use Rattle.octets.proofs.Octets.{field-more, field-one}
 use Rattle.frame.specs.Read.{kindOf}
 use Rattle.calls.specs.Calls.{Call, request, receive, recordAfter, bufferAfter}
-use Rattle.link.specs.Lent.{blockOf}
+use Rattle.plan.specs.Plan.{blockOf}
 use Rattle.logbook.specs.Log.{senderAt, frameAt, holds}
 use Rattle.logbook.proofs.Log.{held}
 use Rattle.rig.specs.Bench.{Bench, benchOf, recordAt, At, delivery, asks, made, comes, endOf, logAfter, countAfter, benchAfter}

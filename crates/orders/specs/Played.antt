@@ -5,7 +5,7 @@ use mathlib.Core.List.{List}
 use lib.ListN.{take, drop}
 use Rattle.octets.specs.Test.{Outcome}
 use Rattle.calls.specs.Calls.{bufferAfter}
-use Rattle.link.specs.Lent.{blockOf}
+use Rattle.plan.specs.Plan.{blockOf}
 use Rattle.rig.specs.Bench.{Bench, benchOf, At, recordAt, comes, endOf, benchAfter}
 use Rattle.moves.specs.declared.Answer.{Answer}
 use Rattle.moves.specs.Answer.{answerOf}

@@ -2,15 +2,15 @@
 use Prim.Native.Nat.{ℕ, _≤_, _<_}
 use mathlib.Core.Path.{_≡_}
 use mathlib.Core.List.{List, [], _∷_, _++_}
-use lib.ListN.{length, drop}
+use lib.ListN.{length, take, drop}
 use Rattle.octets.specs.Sizes.{longestBlock, queueSize}
-use Rattle.octets.specs.Test.{Outcome, refused, ok, mapped, andThen, numberOf}
+use Rattle.octets.specs.Test.{ifEq, Outcome, refused, ok, mapped, andThen, numberOf}
 use Rattle.octets.specs.Octets.{put}
 use Rattle.frame.specs.Frame.{Block}
 use Rattle.frame.specs.Read.{readFrame, readRequest}
 use Rattle.frame.specs.Answer.{frameOf}
 use Rattle.protocol.specs.Endpoint.{Endpoint}
-use Rattle.protocol.specs.Table.{Sent, nothing, frame, Step, notice}
+use Rattle.protocol.specs.Table.{Sent, nothing, frame, Step, notice, Indication, none, connected, rejected, closedByPartner, closeFinished, handedUp}
 use Rattle.protocol.specs.Network.{Call, ask, deliver, perform}
 use Rattle.calls.specs.Calls.{wire}
 use Rattle.decide.specs.declared.Numbers.{Numbers}
@@ -40,6 +40,27 @@ sentIn (ok x) = x .sent
 unfoldable pub endpointAfter : Endpoint → Outcome Step → Endpoint
 endpointAfter e (refused n) = e
 endpointAfter e (ok x) = x .endpoint
+
+-- the block handed up
+unfoldable pub blockIn : Indication → Block
+blockIn none = []
+blockIn connected = []
+blockIn rejected = []
+blockIn closedByPartner = []
+blockIn closeFinished = []
+blockIn (handedUp b) = b
+
+unfoldable pub blockOf : Outcome Step → Block
+blockOf (refused n) = []
+blockOf (ok x) = blockIn (x .indication)
+
+-- "A part of the caller's own received frame": the n octets of s from 14 on, where the block of a DATA stands.
+unfoldable pub blockPart : List ℕ → ℕ → Block
+blockPart s n = take n (drop 14 s)
+
+-- the block that a notice tells of: all that follows octet 14 with notice 5, else none
+unfoldable pub blockBy : ℕ → List ℕ → Block
+blockBy n s = ifEq n 5 (drop 14 s) []
 
 -- the waiting blocks q after the plan; b is the request's block
 unfoldable pub queueAfter : Queue → Block → List Block → List Block

@@ -6,7 +6,7 @@ ghost use Prim.Native.Nat.{ℕ, _-_, _≤_};
 ghost use lib.ListN.{length, drop};
 ghost use Rattle.octets.specs.Sizes.{longestFrame, longestBlock};
 ghost use Rattle.protocol.specs.Requests.{request};
-ghost use Rattle.plan.specs.Plan.{Room, blockOut, sentBy, Sends};
+ghost use Rattle.plan.specs.Plan.{blockBy, Room, blockOut, sentBy, Sends};
 ghost use Rattle.plan.specs.Parts.{refusing, keeping, turning};
 
 // The number of an answer that refuses nothing.
@@ -116,4 +116,15 @@ pub fn send_reply(p: Plan, s: &[u8], oldest: &[u8], out: &mut [u8]) -> usize
         Queue::Join => write(reply, &s[2..], out),
         Queue::Release(_) => write(reply, oldest, out),
     }
+}
+
+// The block that a notice tells of, a part of the frame s received; empty where none is handed up.
+pub fn handed_up<'a>(notice: u8, s: &'a [u8]) -> &'a [u8]
+    requires { ⌜ (notice ≡ 5 → 14 ≤ length (now s)) ⌝ }
+    ensures { λ r. ⌜ now r ≡ blockBy notice (now (s .entry)) ⌝ }
+{
+    if notice != HANDED_UP {
+        return &s[..0];
+    }
+    &s[14..]
 }

@@ -58,7 +58,9 @@ impl Call {
         let number = match self {
             Self::ReadLine { line } => C::read_line(&line.0, out, &mut memory.length),
             Self::WriteLine { bytes } => C::write_line(&bytes.0, out),
-            Self::Read { known, bytes } => C::read(*known, &bytes.0, &mut memory.fields),
+            Self::Read { known, bytes } => {
+                C::read(*known, &bytes.0, &mut memory.fields, &mut memory.length)
+            }
             Self::Write { fields, block } => C::write(fields, &block.0, out, &mut memory.length),
         };
         Answer { number, memory }

@@ -29,8 +29,9 @@ pub trait Codec {
     fn read_line(line: &[u8], out: &mut [u8], length: &mut usize) -> u8;
     /// The bytes as a line; 11 if it has no room.
     fn write_line(bytes: &[u8], out: &mut [u8]) -> u8;
-    /// Questions 3 to 7 of a call that knows frames (1), requests (2), both (3) or nothing.
-    fn read(known: u8, bytes: &[u8], fields: &mut Fields) -> u8;
+    /// Questions 3 to 7 of a call that knows frames (1), requests (2), both (3) or nothing; the numbers
+    /// and the length of the block, which is the end of the bytes.
+    fn read(known: u8, bytes: &[u8], fields: &mut Fields, block: &mut usize) -> u8;
     /// The bytes of a frame and their count; 11, 3 and 5 are asked.
     fn write(fields: &Fields, block: &[u8], out: &mut [u8], length: &mut usize) -> u8;
 }

@@ -21,6 +21,7 @@ extern "C" {
         sender: *mut u32,
         quoted: *mut u32,
         number: *mut u32,
+        block: *mut usize,
     ) -> u8;
 
     fn codec_write(
@@ -58,7 +59,7 @@ impl Codec for First {
         unsafe { codec_write_line(bytes.as_ptr(), bytes.len(), out.as_mut_ptr(), out.len()) }
     }
 
-    fn read(known: u8, bytes: &[u8], fields: &mut Fields) -> u8 {
+    fn read(known: u8, bytes: &[u8], fields: &mut Fields, block: &mut usize) -> u8 {
         unsafe {
             codec_read(
                 known,
@@ -68,6 +69,7 @@ impl Codec for First {
                 &mut fields.sender,
                 &mut fields.quoted,
                 &mut fields.number,
+                block,
             )
         }
     }

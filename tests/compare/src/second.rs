@@ -19,14 +19,17 @@ impl Codec for Second {
         refusal::number(ask_room(out, line.len()).map(|()| put(out, &line)))
     }
 
-    fn read(known: u8, bytes: &[u8], fields: &mut Fields) -> u8 {
+    fn read(known: u8, bytes: &[u8], fields: &mut Fields, block: &mut usize) -> u8 {
         let message = match known {
             1 => Frame::read(bytes).map(Message::Frame),
             2 => Request::read(bytes).map(Message::Request),
             3 => Message::read(bytes),
             _ => Err(Refusal::Kind),
         };
-        refusal::number(message.map(|message| *fields = fields_of(&message)))
+        refusal::number(message.map(|message| {
+            *fields = fields_of(&message);
+            *block = block_of(&message).len();
+        }))
     }
 
     fn write(fields: &Fields, block: &[u8], out: &mut [u8], length: &mut usize) -> u8 {
@@ -50,6 +53,18 @@ fn fields_of(message: &Message) -> Fields {
             quoted: 0,
             number: 0,
         },
+    }
+}
+
+/// The block of a DATA or a send, else nothing.
+fn block_of<'a>(message: &Message<'a>) -> &'a [u8] {
+    match message {
+        Message::Frame(Frame {
+            body: Body::Data { block, .. },
+            ..
+        }) => block.bytes(),
+        Message::Request(Request::Send(block)) => block.bytes(),
+        _ => &[],
     }
 }
 

@@ -12,8 +12,6 @@ use reference::frame::LONGEST_FRAME;
 use std::fmt::Debug;
 
 const RANDOM_LINES: usize = 10_000;
-/// Where the block of a DATA frame begins.
-const BLOCK: usize = 14;
 
 /// The groups of this module, with all cases made.
 pub fn groups() -> Vec<Group> {
@@ -84,9 +82,9 @@ fn check<T: Debug + PartialEq>(group: &mut Group, start: T, end: Result<T, u8>) 
 /// The fields and the block of a frame, or the number of the refusal.
 fn read_frame<C: Codec>(bytes: &[u8]) -> Result<(Fields, Hex), u8> {
     let mut fields = Fields::default();
-    accepted(C::read(1, bytes, &mut fields))?;
-    let block = bytes.get(BLOCK..).unwrap_or_default();
-    Ok((fields, Hex(block.to_vec())))
+    let mut block = 0;
+    accepted(C::read(1, bytes, &mut fields, &mut block))?;
+    Ok((fields, Hex(bytes[bytes.len() - block..].to_vec())))
 }
 
 /// The bytes that the first implementation writes of a frame.

@@ -1,10 +1,14 @@
+use Prim.Native.Nat.{ℕ}
 use mathlib.Core.Path.{refl, sym, ap, _∙_}
-use lib.ListN.{drop}
+use lib.ListN.{length, drop}
 use denote.Ref.{now}
 use Rattle.octets.specs.Test.{numberOf}
-use Rattle.frame.specs.Answer.{inputRead}
+use Rattle.frame.specs.Answer.{inputRead, valuesOf}
+use Rattle.frame.specs.declared.Values.{Values}
 use Rattle.frame.specs.declared.InputRead.{InputRead}
 use Rattle.codec.specs.Calls.{shown}
+use Rattle.codec.specs.Parts.{blockAfter}
+use Rattle.codec.proofs.Blocks.{frame-block, request-block, tells, tells-nothing}
 use borrow.Author.Needs.{needs}
 use Rattle.codec.proofs.codec_read.Statement.{statement}
 use Rattle.codec.proofs.codec_read.Tie as tie
@@ -18,13 +22,19 @@ enum-known-read c = search needs
 values-of-requires : tie.Need-values-of-requires
 values-of-requires c κs = search needs
 
+block-length-requires : tie.Need-block-length-requires
+block-length-requires c κs = search needs
+
 returns : tie.Need-returns
-unfolding inputRead numberOf shown
+unfolding inputRead numberOf shown valuesOf
 returns c =
-    let a = c .before .before .before .before .before .before .args in
+    let a = c .before .before .before .before .before .before .before .args in
     let s = now (a .s) in
-    let e = sym (c .before .before .before .before .read-known .ensures) ∙ ap (λ (r : InputRead). inputRead r s) (c .before .before .read .given .1) in
-    rw e (refl, c .values-of .ensures (drop 14 s))
+    let h = c .before .before .before .read .given in
+    let e = sym (c .before .before .before .before .before .read-known .ensures) ∙ ap (λ (r : InputRead). inputRead r s) (h .1) in
+    let v = c .before .values-of .ensures (drop 14 s) in
+    let k = ap (λ (x : Values). length (blockAfter (x .kind) s)) v in
+    rw e (refl, (v, tells s _ (now (a .block)) refl (frame-block _ s) (c .block-length .ensures ∙ k)))
 
 enum-known-read-2 : tie.Need-enum-known-read-2
 enum-known-read-2 c = search needs
@@ -32,13 +42,18 @@ enum-known-read-2 c = search needs
 request-number-requires : tie.Need-request-number-requires
 request-number-requires c κs = search needs
 
+block-length-requires-2 : tie.Need-block-length-requires-2
+block-length-requires-2 c κs = search needs
+
 returns-2 : tie.Need-returns-2
 unfolding inputRead numberOf shown
 returns-2 c =
-    let a = c .before .before .before .before .before .before .args in
+    let a = c .before .before .before .before .before .before .before .args in
     let s = now (a .s) in
-    let e = sym (c .before .before .before .before .read-known .ensures) ∙ ap (λ (r : InputRead). inputRead r s) (c .before .before .read2 .given .1) in
-    rw e (refl, λ i. record { kind = c .request-number .ensures (drop 2 s) i; sender = 0; quoted = 0; number = 0 })
+    let e = sym (c .before .before .before .before .before .read-known .ensures) ∙ ap (λ (r : InputRead). inputRead r s) (c .before .before .before .read2 .given .1) in
+    let q = c .before .request-number .ensures (drop 2 s) in
+    let k = ap (λ (n : ℕ). length (blockAfter n s)) q in
+    rw e (refl, ((λ i. record { kind = q i; sender = 0; quoted = 0; number = 0 }), tells s _ (now (a .block)) refl (request-block _ s) (c .block-length2 .ensures ∙ k)))
 
 enum-known-read-3 : tie.Need-enum-known-read-3
 enum-known-read-3 c = search needs
@@ -48,7 +63,7 @@ unfolding inputRead numberOf shown
 returns-3 c =
     let a = c .before .before .before .before .before .args in
     let e = sym (c .before .before .before .read-known .ensures) ∙ ap (λ (r : InputRead). inputRead r (now (a .s))) (c .before .read3 .given .1) in
-    rw e (refl, refl)
+    rw e (refl, (refl, tells-nothing (now (a .s)) (now (a .block)) refl))
 
 pub codec-read-spec : {M : Type 1} → statement M
 codec-read-spec =
@@ -57,9 +72,11 @@ codec-read-spec =
     read-known-requires
     enum-known-read
     values-of-requires
+    block-length-requires
     returns
     enum-known-read-2
     request-number-requires
+    block-length-requires-2
     returns-2
     enum-known-read-3
     returns-3)

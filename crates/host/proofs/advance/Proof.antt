@@ -93,7 +93,7 @@ module _ {M : Type 1} (𝓤 : URA M) (H : Heap 𝓤) (A : Atoms 𝓤) (W : Given
   to = (((κ′, (κ″, tt)), (q′, (q″, tt)), tt, x′, (vbool a ∷ [], (of-end h ∷ [], (v ∷ [], (v′ ∷ [], tt))))), tt)
 
   abbrev Said : Answer → List ℕ → Type 0
-  Said r ys = Answered h (outcomeOf h (callOf a (now s) (now out))) (now out) ys r
+  Said r ys = Answered h (outcomeOf h (callOf a (now s) (now out))) (now s) (now out) ys r
 
   -- the tokens of the slices, and what they own
   abbrev Tokens : Item 𝓤

@@ -1,10 +1,11 @@
 use Prim.Native.Nat.{_≤_}
-use mathlib.Core.Path.{_≡_, sym}
+use mathlib.Core.Path.{_≡_, sym, ap}
 use denote.Ref.{now}
-use lib.ListN.{length, replicate}
+use lib.ListN.{length}
 use lib.Seq.{length-take-le}
+use Rattle.machine.specs.declared.Answer.{Answer}
 use Rattle.console.proofs.Ends.{put-fits}
-use Rattle.hostrun.proofs.Fits.{frame-fits, handed}
+use Rattle.hostrun.proofs.Fits.{frame-fits, block-long, block-fits, block-short}
 use native.Mathlib.Omega.{arith}
 use borrow.Author.Needs.{needs}
 use Rattle.hostrun.proofs.call.Statement.{statement}
@@ -21,7 +22,9 @@ fits : (c : tie.After-frame2) → (length (c .before .lend .last .1 .1 .1 .0) �
 fits c = let l : length (c .before .lend .last .1 .1 .1 .0) ≡ 78 = search needs in (l, frame-fits _ _ _ (c .before .lend .ensures) l)
 
 block-of-requires : tie.Need-block-of-requires
-block-of-requires c κs = let s = c .before .before .before .before .before in (s .pre, handed (s .args .asked) (s .args .e) (now (s .args .s)) (replicate 78 0) (c .before .before .lend .ensures))
+block-of-requires c κs =
+    let l = c .before .before .lend in
+    block-fits (now (c .before .before .before .before .before .args .s)) (l .result .block) (block-long _ _ (l .ensures))
 
 array-share-prefix-frame : tie.Need-array-share-prefix-frame
 array-share-prefix-frame c = omega (arith, fits (c .before .before))
@@ -36,7 +39,8 @@ write-text-requires : tie.Need-write-text-requires
 write-text-requires c κs =
     let f = fits (c .before .before .before .before) in
     let l = c .before .before .before .before .before .lend in
-    (search needs, (c .before .before .block-of .ensures, omega (arith, f, length-take-le (l .result .sent) (l .last .1 .1 .1 .0) (omega (arith, f)))))
+    let s = c .before .before .before .before .before .before .before .before in
+    (search needs, (rw (c .before .before .block-of .ensures) (block-short (now (s .args .s)) _ (s .pre)), omega (arith, f, length-take-le (l .result .sent) (l .last .1 .1 .1 .0) (omega (arith, f)))))
 
 -- and so has the text
 text-fits : (c : tie.After-text2) → (length (c .before .write-text .last .1 .1 .1 .0) ≡ 310) × (c .before .write-text .result ≤ 310)
@@ -55,7 +59,7 @@ write-all-requires : tie.Need-write-all-requires
 write-all-requires c κs = search needs
 
 returns : tie.Need-returns
-returns c = search needs
+returns c = ap (λ (r : Answer). r .endpoint) (c .before .before .before .before .before .before .before .before .before .lend .ensures .answer)
 
 pub call-spec : {M : Type 1} → statement M
 call-spec =

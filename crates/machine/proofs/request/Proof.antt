@@ -1,7 +1,7 @@
 use denote.Ref.{now}
 use Rattle.calls.specs.Calls as calls
 use Rattle.machine.specs.Calls.{requestOutcome}
-use Rattle.machine.proofs.Carries.{ready-to, answers}
+use Rattle.machine.proofs.Carries.{finishes, answers}
 use borrow.Author.Needs.{needs}
 use Rattle.machine.proofs.request.Statement.{statement}
 use Rattle.machine.proofs.request.Tie as tie
@@ -16,7 +16,7 @@ finish-requires : tie.Need-finish-requires
 unfolding requestOutcome
 finish-requires c κs =
     let s = c .before .before .before .before .before .before .before .before .before .before .before .before .before in
-    ready-to (s .args .t1) (search needs) (search needs) (calls.request (now (s .args .s)) (now (s .args .out)))
+    finishes (s .args .t1) (search needs) (search needs) (calls.request (now (s .args .s)) (now (s .args .out)))
     (rw (c .before .before .before .before .before .before .before .before .before .before .numbers-of .ensures) at (c .before .before .plan-request .ensures))
 
 same-length : tie.Need-same-length

@@ -1,0 +1,35 @@
+use mathlib.Core.Path.{refl}
+use Rattle.octets.proofs.Test.{eq-yes, eq-no}
+use Rattle.codec.specs.Parts.{blockAfter}
+use native.Mathlib.Omega.{arith}
+use borrow.Author.Needs.{needs}
+use Rattle.codec.proofs.block_length.Statement.{statement}
+use Rattle.codec.proofs.block_length.Tie as tie
+
+count-from-requires : tie.Need-count-from-requires
+count-from-requires c κs = search needs
+
+count-from-requires-2 : tie.Need-count-from-requires-2
+count-from-requires-2 c κs = search needs
+
+returns : tie.Need-returns
+unfolding blockAfter
+returns c =
+    let k = c .before .before .before .args .kind in
+    rw (eq-yes k 8 _ _ (omega arith)) (c .count-from .ensures)
+
+returns-2 : tie.Need-returns-2
+unfolding blockAfter
+returns-2 c =
+    let k = c .before .before .before .args .kind in
+    rw (eq-no k 8 _ _ (λ z. omega (arith, z)), eq-yes k 68 _ _ (omega arith)) (c .count-from2 .ensures)
+
+returns-3 : tie.Need-returns-3
+unfolding blockAfter
+returns-3 c =
+    let k = c .before .before .args .kind in
+    rw (eq-no k 8 _ _ (λ z. omega (arith, z)), eq-no k 68 _ _ (λ z. omega (arith, z))) refl
+
+pub block-length-spec : {M : Type 1} → statement M
+block-length-spec =
+    tie.close (tie.spec count-from-requires count-from-requires-2 returns returns-2 returns-3)

@@ -1,0 +1,44 @@
+use Prim.Native.Nat.{_-_}
+use mathlib.Core.Path.{sym, _∙_}
+use denote.Ref.{now}
+use lib.ListN.{length, drop, length-drop}
+use lib.Seq.{take-all}
+use Rattle.octets.proofs.Test.{eq-yes, eq-no}
+use Rattle.plan.specs.Plan.{blockBy}
+use native.Mathlib.Omega.{arith}
+use borrow.Author.Needs.{needs}
+use Rattle.plan.proofs.handed_up.Statement.{statement}
+use Rattle.plan.proofs.handed_up.Tie as tie
+
+slice-aggregate-result : tie.Need-slice-aggregate-result
+slice-aggregate-result c = search needs
+
+returns : tie.Need-returns
+unfolding blockBy
+returns c = sym (eq-no _ _ _ _ (c .before .if1 .taken))
+
+sub-result : tie.Need-sub-result
+sub-result c = omega (arith, c .before .pre (c .if1 .left))
+
+part-result-start : tie.Need-part-result-start
+part-result-start c = omega (arith, c .before .pre (c .if1 .left))
+
+part-result-end : tie.Need-part-result-end
+part-result-end c = search needs
+
+returns-2 : tie.Need-returns-2
+unfolding blockBy
+returns-2 c =
+    let s = now (c .before .before .args .s) in
+    take-all (length s - 14) (drop 14 s) (omega (arith, length-drop 14 s)) ∙ sym (eq-yes _ _ _ _ (c .before .if1 .left))
+
+pub handed-up-spec : {M : Type 1} → statement M
+handed-up-spec =
+    tie.close
+    (tie.spec
+    slice-aggregate-result
+    returns
+    sub-result
+    part-result-start
+    part-result-end
+    returns-2)
