@@ -19,14 +19,14 @@ use Rattle.frame.specs.Layout.{isFrame}
 use Rattle.frame.specs.Read.{kindOf, countOk, numbersOk, frameAt, readFrame, readRequest}
 use Rattle.frame.proofs.Reading.{control-read, ack-read, data-read}
 use Rattle.protocol.specs.Table.{Step}
-use Rattle.protocol.specs.Requests.{request}
 use Rattle.protocol.specs.Network.{ask, deliver, perform}
-use Rattle.protocol.specs.Limits.{LeavesSound}
-use Rattle.protocol.proofs.Limits.{call-sound}
+use Rattle.protocol.specs.Network as protocol
+use Rattle.protocol.specs.Endpoint as abstract
+use Rattle.protocol.specs.Limits.{Bounded, Readable, LeavesSound, LeavesBounded}
+use Rattle.protocol.proofs.Limits.{call-sound, call-bounded}
 use Rattle.endpoint.specs.declared.Endpoint.{Endpoint}
 use Rattle.endpoint.specs.View.{pack, view}
 use Rattle.endpoint.specs.Sound.{sound}
-use Rattle.machine.specs.Calls.{requestOutcome, receiveOutcome}
 use Rattle.calls.specs.Calls.{Call, ownQuestions, said, asked}
 use Rattle.calls.specs.Calls as calls
 use Rattle.calls.proofs.Lift.{read-sized}
@@ -35,7 +35,7 @@ use Rattle.endpoint.proofs.Held.{held, pack-sound}
 use Rattle.receiving.proofs.Reading.{good, passed, sender-is, quoted-is, number-is}
 
 -- four octets make a number of 32 bits
-field-32 : (at : ℕ) (s : List ℕ) → Octets s → at + 4 ≤ length s → field 4 at s ≤ lastNumber
+pub field-32 : (at : ℕ) (s : List ℕ) → Octets s → at + 4 ≤ length s → field 4 at s ≤ lastNumber
 unfolding Octets
 field-32 at s o h =
     omega (arith, field-one at s (omega arith), field-more 1 at s (omega arith), field-more 2 at s (omega arith), field-more 3 at s (omega arith), o at, o (at + 1), o (at + 2), o (at + 3))
@@ -97,27 +97,44 @@ mapped-ok f (ok x) next h = (x, refl, h)
 ready-sound : (t : Bool) (c : Call) → first (ownQuestions t c) ≡ 0 → t ≡ true
 ready-sound t c h = all-yes 12 t _ (all-yes 11 _ _ h tt .1) tt .0
 
--- what an accepted call leaves
-pub record Leaves (x : Step) : Type 0 where
-  pub is-sound : sound (pack (x .endpoint)) ≡ true
+-- an accepted call of a sound endpoint performs what its octets say, which was read
+pub record Accepted (fine : Bool) (a : abstract.Endpoint) (x : Step) : Type 0 where
+  pub is-sound : fine ≡ true
+  pub call : protocol.Call
+  pub readable : Readable call
+  pub performs : perform call a ≡ ok x
+
+-- what a call is given: the octets of a frame are octets
+abbrev pub InOctets : Call → Type 0
+InOctets (calls.request s out) = Unit {0}
+InOctets (calls.receive s out) = Octets s
+
+pub accepts : (fine : Bool) (a : abstract.Endpoint) (c : Call) → InOctets c → {x : Step} → asked fine a c ≡ ok x → Accepted fine a x
+unfolding asked said
+accepts fine a (calls.request s out) o h =
+    let r = passing (first (ownQuestions fine (calls.request s out))) h in
+    let q = mapped-ok ask (readRequest s) _ (r .1) in
+    record { is-sound = ready-sound fine (calls.request s out) (r .0); call = ask (q .0); readable = read-sized s (q .0) (q .1); performs = q .2 }
+accepts fine a (calls.receive s out) o h =
+    let r = passing (first (ownQuestions fine (calls.receive s out))) h in
+    let f = mapped-ok deliver (readFrame s) _ (r .1) in
+    record { is-sound = ready-sound fine (calls.receive s out) (r .0); call = deliver (f .0); readable = read-fits s o (f .1); performs = f .2 }
+
+-- What an accepted call leaves: a sound endpoint, whose struct is sound and holds it, and where the numbers had 32 bits they have.
+pub record Leaves (a : abstract.Endpoint) (x : Step) : Type 0 where
+  pub is-sound : abstract.sound (x .endpoint) ≡ true
+  pub record-sound : sound (pack (x .endpoint)) ≡ true
   pub holds : view (pack (x .endpoint)) ≡ x .endpoint
+  pub bounded : Bounded a → Bounded (x .endpoint)
 
-leaves : {o : Outcome Step} {x : Step} → o ≡ ok x → LeavesSound o → Leaves x
-leaves h l = let s = subst LeavesSound h l in record { is-sound = pack-sound _ s; holds = held _ s }
-
-module _ (e : Endpoint) (l8 : length (e .lengths) ≡ 8) (l512 : length (e .blocks) ≡ 512) (s out : List ℕ) {x : Step} where
-  pub request-leaves : requestOutcome e s out ≡ ok x → Leaves x
-  unfolding requestOutcome asked said perform
-  request-leaves h =
-      let r = passing (first (ownQuestions (sound e) (calls.request s out))) h in
-      let q = mapped-ok ask (readRequest s) _ (r .1) in
-      let y = ready-sound (sound e) (calls.request s out) (r .0) in
-      leaves (q .2) (call-sound (ask (q .0)) (view e) (view-sound e y l8 l512) (read-sized s (q .0) (q .1)))
-
-  pub receive-leaves : Octets s → receiveOutcome e s out ≡ ok x → Leaves x
-  unfolding receiveOutcome asked said perform
-  receive-leaves o h =
-      let r = passing (first (ownQuestions (sound e) (calls.receive s out))) h in
-      let f = mapped-ok deliver (readFrame s) _ (r .1) in
-      let y = ready-sound (sound e) (calls.receive s out) (r .0) in
-      leaves (f .2) (call-sound (deliver (f .0)) (view e) (view-sound e y l8 l512) (read-fits s o (f .1)))
+pub leaves : (e : Endpoint) → length (e .lengths) ≡ 8 → length (e .blocks) ≡ 512 → (c : Call) → InOctets c → {x : Step} → asked (sound e) (view e) c ≡ ok x → Leaves (view e) x
+leaves e l8 l512 c o h =
+    let a = accepts (sound e) (view e) c o h in
+    let v = view-sound e (a .is-sound) l8 l512 in
+    let s = subst LeavesSound (a .performs) (call-sound (a .call) (view e) v (a .readable)) in
+    record {
+      is-sound = s;
+      record-sound = pack-sound _ s;
+      holds = held _ s;
+      bounded = λ b. subst LeavesBounded (a .performs) (call-bounded (a .call) (view e) v b (a .readable));
+    }

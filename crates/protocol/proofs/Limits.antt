@@ -14,7 +14,7 @@ use Rattle.octets.specs.Sizes.{lastNumber}
 use Rattle.protocol.specs.Requests.{begun, accept}
 use Rattle.protocol.specs.Network.{Call, ask, deliver, perform, History, now, sent}
 use Rattle.protocol.specs.Claim.{blockSent}
-use Rattle.protocol.specs.Limits.{Bounded, Readable, LeavesSound}
+use Rattle.protocol.specs.Limits.{Bounded, Readable, Leaves, LeavesSound, LeavesBounded}
 use Rattle.frame.specs.Fits.{Fits, control-fits, data-fits, ack-fits}
 use Rattle.protocol.proofs.Facts.{Move, stays, answers, recalls, opens, joins, relistens, resets, hangs-up, drops}
 use Rattle.protocol.proofs.Facts.{Carry, keeps, clears, begins, takes, releases, queues, Fires, fires, heard}
@@ -127,19 +127,36 @@ begun-sound st e a b = sounds (begun st e) (record {
   blocks = sized-none;
 })
 
-allowed-sound : (q : Request) (e : Endpoint) → Sound e → sized (blockSent (ask q)) ≡ true → Allowed q e → sound (accept q e .endpoint) ≡ true
-unfolding accept
-allowed-sound connect e s t y = begun-sound 2 e (omega arith) (omega arith)
-allowed-sound listen e s t y = begun-sound 1 e (omega arith) (omega arith)
-allowed-sound endListening e s t y = sound-on s small-none t (asks-on (control 0 0 0) (s .sane) (s .laden) endListening tt y)
-allowed-sound close e s t y = sound-on s small-none t (asks-on (control 0 0 0) (s .sane) (s .laden) close tt y)
-allowed-sound timer e s t y = sound-on s small-none t (asks-on (control 0 0 0) (s .sane) (s .laden) timer tt y)
-allowed-sound (send b) e s t y = sound-on s small-none t (asks-on (control 0 0 0) (s .sane) (s .laden) (send b) tt y)
+begun-bounded : (st : ℕ) {e : Endpoint} → Bounded e → e .local < lastNumber → Bounded (begun st e)
+begun-bounded st v p = omega arith
+
+-- What an accepted call leaves, of which it is known what holds where an incarnation begins and where the end goes on.
+module _ (P : Endpoint → Type 0) (e : Endpoint) (s : Sound e) (begins : (st : ℕ) → 1 ≤ st → st ≤ 2 → e .local < lastNumber → P (begun st e))
+    (on : (f : Frame) (bs : List Block) (x : Step) → Small f → sized bs ≡ true → Fires e f bs x → P (x .endpoint)) where
+  after-request : (q : Request) → sized (blockSent (ask q)) ≡ true → Allowed q e → P (accept q e .endpoint)
+  unfolding accept
+  after-request connect t y = begins 2 (omega arith) (omega arith) (y .1)
+  after-request listen t y = begins 1 (omega arith) (omega arith) (y .1)
+  after-request endListening t y = on _ _ _ small-none t (asks-on (control 0 0 0) (s .sane) (s .laden) endListening tt y)
+  after-request close t y = on _ _ _ small-none t (asks-on (control 0 0 0) (s .sane) (s .laden) close tt y)
+  after-request timer t y = on _ _ _ small-none t (asks-on (control 0 0 0) (s .sane) (s .laden) timer tt y)
+  after-request (send b) t y = on _ _ _ small-none t (asks-on (control 0 0 0) (s .sane) (s .laden) (send b) tt y)
+
+  after-call : (c : Call) → Readable c → Leaves P (perform c e)
+  unfolding perform
+  after-call (ask q) t = requested (Leaves P) q e (λ n. tt) (λ y. after-request q t y)
+  after-call (deliver f) t = on _ _ _ (small t) sized-none (heard e f)
 
 pub call-sound : (c : Call) (e : Endpoint) → sound e ≡ true → Readable c → LeavesSound (perform c e)
-unfolding perform
-call-sound (ask q) e p t = requested LeavesSound q e (λ n. tt) (λ y. allowed-sound q e (sound-so e p) t y)
-call-sound (deliver f) e p t = sound-on (sound-so e p) (small t) sized-none (heard e f)
+call-sound c e p t =
+    after-call (λ (x : Endpoint). sound x ≡ true) e (sound-so e p) (λ st a b _. begun-sound st e a b) (λ _ _ _ u k f. sound-on (sound-so e p) u k f) c t
+
+-- and of numbers of 32 bits it leaves such numbers
+bounded-fires : {e : Endpoint} {f : Frame} {bs : List Block} {x : Step} → Bounded e → Small f → Fires e f bs x → Bounded (x .endpoint)
+bounded-fires v u (fires m k _) = bounded-on u v m k
+
+pub call-bounded : (c : Call) (e : Endpoint) → sound e ≡ true → Bounded e → Readable c → LeavesBounded (perform c e)
+call-bounded c e p v t = after-call Bounded e (sound-so e p) (λ st _ _ l. begun-bounded st v l) (λ _ _ _ u _ f. bounded-fires v u f) c t
 
 -- What is kept of one end.
 pub record Room (h : History) : Type 0 where
@@ -150,9 +167,6 @@ pub record Room (h : History) : Type 0 where
 pub no-room : Room []
 unfolding now sent sized
 no-room = record { bounded = omega arith; blocks = refl; fits = λ g m. absurd (List·Memᴰ·not-nil m) }
-
-begun-bounded : (st : ℕ) {e : Endpoint} → Bounded e → e .local < lastNumber → Bounded (begun st e)
-begun-bounded st v p = omega arith
 
 -- a call at the end a, which is sane and laden afterwards
 pub room-on : {a b : History} {c : Call} {a′ : History} → Room a → Room b → sized (blockSent c) ≡ true → Sane (now a′) → Laden (now a′)

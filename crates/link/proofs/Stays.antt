@@ -1,0 +1,40 @@
+-- Every accepted call of a sound record leaves a sound record, in octets too. Assumes nothing.
+use Prim.Native.Nat.{ℕ, _≤_}
+use mathlib.Core.Path.{_≡_}
+use mathlib.Core.Bool.{true}
+use mathlib.Core.List.{List, [], _∷_}
+use native.Mathlib.Omega.{arith}
+use borrow.Author.Tests.{leb-true}
+use lib.ListN.{length}
+use Rattle.octets.specs.Test.{first, ok, mapped}
+use Rattle.octets.specs.Octets.{put, left, Octets}
+use Rattle.octets.proofs.Test.{passing, all-yes}
+use Rattle.protocol.specs.Table.{Step}
+use Rattle.protocol.specs.Limits.{Bounded}
+use Rattle.endpoint.specs.View.{view}
+use Rattle.endpoint.specs.Record.{decode}
+use Rattle.machine.proofs.Laws.{field-32, InOctets, leaves}
+use Rattle.calls.specs.Calls.{Call, performed, recordAfter}
+use Rattle.link.specs.Record.{format}
+use Rattle.link.proofs.Demand.{lawful}
+use Rattle.link.proofs.Answers.{lengths-8, blocks-512}
+
+-- the numbers of a record in octets have 32 bits
+bounded : (rec : List ℕ) → Octets rec → 538 ≤ length rec → Bounded (view (decode rec))
+unfolding view decode
+bounded rec o l =
+    record {
+      local≤ = field-32 1 rec o (omega arith);
+      remote≤ = field-32 5 rec o (omega arith);
+      accepted≤ = field-32 9 rec o (omega arith);
+      delivered≤ = field-32 13 rec o (omega arith);
+    }
+
+pub stays-sound : (rec : List ℕ) → Octets rec → (c : Call) → InOctets c → {x : Step} → performed format rec c ≡ ok x
+    → format .sound (recordAfter format rec (performed format rec c)) ≡ true
+unfolding performed recordAfter mapped left put
+stays-sound rec o c i {x} h =
+    let r = passing (first ((11, _) ∷ [])) h in
+    let l = leb-true 538 (length rec) (all-yes 11 _ _ (r .0) tt .0) in
+    let k = leaves (decode rec) (lengths-8 rec l) (blocks-512 rec l) c i (r .1) in
+    rw h (lawful .passes (x .endpoint) _ (k .is-sound) (k .bounded (bounded rec o l)))
