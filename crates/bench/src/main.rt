@@ -1,9 +1,16 @@
 // The bench program: two ends and every frame ever sent, asked by lines of standard input, answered on standard output.
 use console::Reply;
 use stream::Place;
-ghost use Prim.Native.Nat.{_-_, _≤_, _<_};
+ghost use mathlib.Core.Path.{_≡_};
+ghost use Prim.Native.Nat.{_+_, _≤_, _<_};
 ghost use lib.ListN.{length};
-ghost use Rattle.stream.specs.Held.{Running};
+ghost use Rattle.link.specs.Lent.{freshRecord};
+ghost use Rattle.rig.specs.Bench.{benchOf};
+ghost use Rattle.desk.specs.Text.{answerRoom};
+ghost use Rattle.stream.specs.Place.{Fits};
+ghost use Rattle.stream.specs.Step.{Replied, Stepped};
+ghost use Rattle.stream.specs.Program.{Ran};
+ghost use Rattle.bench.specs.Ends.{bothEnds};
 
 // Answers a line into the free part of out; how many characters the answer has.
 fn answer(
@@ -15,8 +22,8 @@ fn answer(
     out: &mut [u8],
     filled: usize,
 ) -> usize
-    requires { ⌜ filled ≤ length (now out) ⌝ }
-    ensures { λ r. ⌜ r ≤ length (now (out .entry)) - filled ⌝ }
+    requires { ⌜ filled + answerRoom ≤ length (now out) ⌝ }
+    ensures { λ r. ⌜ Replied bothEnds (benchOf (now (a .entry)) (now (b .entry)) (now (log .entry)) (now (count .entry))) (now (line .entry)) (now (out .entry)) filled (benchOf (now (a .exit)) (now (b .exit)) (now (log .exit)) (now (count .exit))) (now (out .exit)) r ⌝ }
 {
     let reply = desk::answer(a, b, log, count, line, &mut out[filled..]);
     match reply {
@@ -36,38 +43,53 @@ fn step(
     out: &mut [u8; stream::BUFFER_SIZE],
     p: Place,
 ) -> Place
-    requires { ⌜ (Running (p .steps) p) × (0 < p .steps) ⌝ }
-    ensures { λ r. ⌜ Running (p .steps - 1) r ⌝ }
+    requires { ⌜ (Fits p) × (0 < p .steps) ⌝ }
+    ensures { λ r. ⌜ Stepped bothEnds answerRoom (benchOf (now (a .entry)) (now (b .entry)) (now (log .entry)) (now (count .entry))) (now (buf .entry)) (now (line .entry)) (now (out .entry)) p (benchOf (now (a .exit)) (now (b .exit)) (now (log .exit)) (now (count .exit))) (now (buf .exit)) (now (line .exit)) (now (out .exit)) r ⌝ }
 {
     let q = stream::next(buf, line, out, desk::ANSWER_ROOM, p);
     if q.lines == 0 {
         return q;
     }
     let n = answer(a, b, log, count, stream::ready(buf, line, q), out, q.filled);
-    stream::answered(out, q, n)
+    stream::answered(q, n)
+}
+
+// Two fresh ends, and steps while some are left.
+fn run(
+    a: &mut [u8; link::RECORD_SIZE],
+    b: &mut [u8; link::RECORD_SIZE],
+    log: &mut [u8; logbook::LOG_SIZE],
+    count: &mut usize,
+    buf: &mut [u8; stream::BUFFER_SIZE],
+    line: &mut [u8; stream::LONGEST_KEPT],
+    out: &mut [u8; stream::BUFFER_SIZE],
+) -> Place
+    ensures { λ r. ⌜ (Ran bothEnds answerRoom (benchOf freshRecord freshRecord (now (log .entry)) (now (count .entry))) (benchOf (now (a .exit)) (now (b .exit)) (now (log .exit)) (now (count .exit))) (now (buf .exit)) (now (line .exit)) (now (out .exit)) r) × (r .steps ≡ 0) ⌝ }
+{
+    link::dock_fresh(a);
+    link::dock_fresh(b);
+    let mut p = stream::start();
+    while p.steps > 0 {
+        p = step(a, b, log, count, buf, line, out, p);
+    }
+    p
 }
 
 fn main() {
     let mut a = [0u8; link::RECORD_SIZE];
-    link::dock_fresh(&mut a);
     let mut b = [0u8; link::RECORD_SIZE];
-    link::dock_fresh(&mut b);
     let mut log = [0u8; logbook::LOG_SIZE];
     let mut count = 0;
     let mut buf = [0u8; stream::BUFFER_SIZE];
     let mut line = [0u8; stream::LONGEST_KEPT];
     let mut out = [0u8; stream::BUFFER_SIZE];
-    let mut p = stream::start();
-    while p.steps > 0 {
-        p = step(
-            &mut a,
-            &mut b,
-            &mut log,
-            &mut count,
-            &mut buf,
-            &mut line,
-            &mut out,
-            p,
-        );
-    }
+    run(
+        &mut a,
+        &mut b,
+        &mut log,
+        &mut count,
+        &mut buf,
+        &mut line,
+        &mut out,
+    );
 }

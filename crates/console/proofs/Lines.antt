@@ -172,3 +172,19 @@ by-reply out (ok s) {out′} {n} h e l = let c : n ≡ length s = cc in omega (a
 
 pub written-fits : {rec line out rec′ out′ : List ℕ} {n : ℕ} → Answered rec line out rec′ out′ (reply.Written n) → length out′ ≡ length out → n ≤ length out
 written-fits {out = out} a l = by-reply out _ (a .answer) (a .buffer) l
+
+-- the answer where there is room for it, to what comes to x
+module _ {A : Type 0} (f : A → List ℕ) {o : Outcome A} {x : A} (e : o ≡ ok x) where
+  pub written-count : {n : ℕ} → reply.Written n ≡ replyOf (mapped f o) → n ≡ length (f x)
+  unfolding mapped replyOf
+  written-count {n} h = let g : reply.Written n ≡ reply.Written (length (f x)) = h ∙ ap (λ (y : Outcome A). replyOf (mapped f y)) e in cc
+
+  pub written-text : (d : List ℕ) {d′ : List ℕ} → d′ ≡ left (mapped f o) d → d′ ≡ put d 0 (f x)
+  unfolding mapped left
+  written-text d h = h ∙ ap (λ (y : Outcome A). left (mapped f y) d) e
+
+  pub never-refused : {n : ℕ} → reply.Refused n ≡ replyOf (mapped f o) → ⊥
+  unfolding mapped replyOf
+  never-refused {n} h =
+      let g : reply.Refused n ≡ reply.Written (length (f x)) = h ∙ ap (λ (y : Outcome A). replyOf (mapped f y)) e in
+      let z : _≡_ {A = ℕ} 0 1 = cc in omega arith

@@ -46,6 +46,9 @@ pub record Called (o : Outcome Step) (rec s out rec′ out′ : List ℕ) (numbe
   pub is-count : count ≡ length (blockOf o)
   pub is-block : blockPart s count ≡ blockOf o
 
--- a fresh record in a buffer; 11 where it is too short
+-- a fresh record, and one in a buffer; 11 where it is too short
+abbrev pub freshRecord : List ℕ
+freshRecord = format .octets fresh
+
 unfoldable pub freshIn : List ℕ → Outcome (List ℕ)
-freshIn rec = outcome (first ((11, leb recordSize (length rec)) ∷ [])) (format .octets fresh)
+freshIn rec = outcome (first ((11, leb recordSize (length rec)) ∷ [])) freshRecord

@@ -1,8 +1,10 @@
 // Lines of text from standard input, and text to standard output, through buffers: all of a program but its answers.
 ghost use mathlib.Core.Path.{_≡_};
-ghost use Prim.Native.Nat.{_-_, _≤_, _<_};
-ghost use lib.ListN.{length};
-ghost use Rattle.stream.specs.Held.{Held, readyLine};
+ghost use Prim.Native.Nat.{_+_, _≤_, _<_};
+ghost use lib.ListN.{length, take};
+ghost use Rattle.octets.specs.Test.{when};
+ghost use Rattle.lines.specs.Split.{longestKept};
+ghost use Rattle.stream.specs.Place.{bufferSize, Fits, Starts, readyLine, emptied, answeredWith, Flushed, AfterRead, Filled, Taken, Next};
 
 // The octets of a program's buffers for its input and its output.
 pub const BUFFER_SIZE: usize = 65536;
@@ -27,7 +29,7 @@ pub struct Place {
 
 // Before the first read, with more steps than any run takes.
 pub fn start() -> Place
-    ensures { λ r. ⌜ Held 0 0 0 (r .steps) r ⌝ }
+    ensures { λ r. ⌜ Starts r ⌝ }
 {
     Place {
         at: 0,
@@ -41,38 +43,49 @@ pub fn start() -> Place
     }
 }
 
-// Writes what waits of the output. The program is done where it cannot be written.
-fn flush(out: &[u8], p: Place) -> Place
-    requires { ⌜ Held (p .end) (p .kept) (length (now out)) (p .steps) p ⌝ }
-    ensures { λ r. ⌜ Held (p .end) (p .kept) 0 (p .steps) r ⌝ }
+// The output that waits.
+fn waiting(out: &[u8], p: Place) -> &[u8]
+    requires { ⌜ p .filled ≤ length (now out) ⌝ }
+    ensures { λ r. ⌜ now r ≡ take (p .filled) (now (out .entry)) ⌝ }
 {
     let filled = p.filled;
+    &out[..filled]
+}
+
+// Nothing waits after a write. The program is done where not all was written.
+fn after_write(p: Place, all: bool) -> Place
+    ensures { λ r. ⌜ r ≡ emptied p (when all (p .steps) 0) ⌝ }
+{
     let mut q = p;
     q.filled = 0;
     q.lines = 0;
-    if io::write_all(1, &out[0..filled]) {
+    if all {
         return q;
     }
     q.steps = 0;
     q
 }
 
-// The input at hand is used up: writes what waits, then reads on. What is read, no contract can say. At the end of the input,
-// text after the last line feed is a line too, and one step is left, which writes its answer.
-fn fill(buf: &mut [u8], out: &[u8], p: Place) -> Place
-    requires { ⌜ Held (length (now buf)) (p .kept) (length (now out)) (p .steps) p ⌝ }
-    ensures { λ r. ⌜ Held (length (now (buf .entry))) (p .kept) 0 (p .steps) r ⌝ }
+// Writes what waits of the output.
+fn flush(out: &[u8; BUFFER_SIZE], p: Place) -> Place
+    requires { ⌜ p .filled ≤ bufferSize ⌝ }
+    ensures { λ r. ⌜ Flushed p r ⌝ }
 {
-    let mut q = flush(out, p);
-    if q.steps == 0 {
-        return q;
-    }
-    let got = libc::read(0, buf);
+    after_write(p, io::write_all(1, waiting(out, p)))
+}
+
+// After a read of n octets. At the end of the input there are none; text after the last line feed is a line too, and one step
+// is left, which writes its answer.
+fn after_read(p: Place, n: usize) -> Place
+    requires { ⌜ p .lines ≡ 0 ⌝ }
+    ensures { λ r. ⌜ AfterRead n p r ⌝ }
+{
+    let mut q = p;
     q.at = 0;
-    q.end = io::count(got, buf);
+    q.end = n;
     q.from = 0;
     q.to = 0;
-    if q.end > 0 {
+    if n > 0 {
         return q;
     }
     q.steps = 1;
@@ -83,16 +96,31 @@ fn fill(buf: &mut [u8], out: &[u8], p: Place) -> Place
     q
 }
 
+// Reads on where a step is left. What is read, no contract can say.
+fn fill(buf: &mut [u8; BUFFER_SIZE], p: Place) -> Place
+    requires { ⌜ p .lines ≡ 0 ⌝ }
+    ensures { λ r. ⌜ Filled p (now (buf .exit)) r ⌝ }
+{
+    if p.steps == 0 {
+        return p;
+    }
+    let got = libc::read(0, buf);
+    after_read(p, io::count(got, buf))
+}
+
 // Takes the next line of the input at hand, or what there is of it.
 fn take(buf: &[u8], line: &mut [u8], p: Place) -> Place
-    requires { ⌜ Held (length (now buf)) (length (now line)) (p .filled) (p .steps) p ⌝ }
-    ensures { λ r. ⌜ Held (length (now (buf .entry))) (length (now (line .entry))) (p .filled) (p .steps) r ⌝ }
+    requires { ⌜ (Fits p) × (p .at < p .end) ⌝ }
+    requires { ⌜ (length (now buf) ≡ bufferSize) × (length (now line) ≡ longestKept) ⌝ }
+    ensures { λ r. ⌜ Taken (now (buf .entry)) (now (line .entry)) p (now (line .exit)) r ⌝ }
 {
     let at = p.at;
     let end = p.end;
     let kept = p.kept;
     let stop = at + lines::line_length(&buf[at..end]);
     let mut q = p;
+    q.from = at;
+    q.to = stop;
     if stop == end {
         q.at = end;
         q.kept = lines::keep(line, kept, &buf[at..end]);
@@ -102,8 +130,6 @@ fn take(buf: &[u8], line: &mut [u8], p: Place) -> Place
     q.at = stop + 1;
     q.lines = 1;
     if kept == 0 {
-        q.from = at;
-        q.to = stop;
         return q;
     }
     q.kept = lines::keep(line, kept, &buf[at..stop]);
@@ -112,16 +138,22 @@ fn take(buf: &[u8], line: &mut [u8], p: Place) -> Place
 
 // One step towards the next line: reads on, makes room for an answer, or takes a line. Where one is ready, room characters of
 // out are free.
-pub fn next(buf: &mut [u8], line: &mut [u8], out: &[u8], room: usize, p: Place) -> Place
-    requires { ⌜ (Held (length (now buf)) (length (now line)) (length (now out)) (p .steps) p) × (0 < p .steps) ⌝ }
-    ensures { λ r. ⌜ Held (length (now (buf .entry))) (length (now (line .entry))) (length (now (out .entry)) - room) (p .steps - 1) r ⌝ }
+pub fn next(
+    buf: &mut [u8; BUFFER_SIZE],
+    line: &mut [u8; LONGEST_KEPT],
+    out: &[u8; BUFFER_SIZE],
+    room: usize,
+    p: Place,
+) -> Place
+    requires { ⌜ (Fits p) × (0 < p .steps) ⌝ }
+    ensures { λ r. ⌜ Next room (now (buf .entry)) (now (line .entry)) p (now (buf .exit)) (now (line .exit)) r ⌝ }
 {
     let mut q = p;
     q.steps = p.steps - 1;
     if p.at == p.end {
-        return fill(buf, out, q);
+        return fill(buf, flush(out, q));
     }
-    if out.len() - p.filled < room {
+    if BUFFER_SIZE - p.filled < room {
         return flush(out, q);
     }
     take(buf, line, q)
@@ -129,7 +161,7 @@ pub fn next(buf: &mut [u8], line: &mut [u8], out: &[u8], room: usize, p: Place) 
 
 // The line that is ready.
 pub fn ready<'a>(buf: &'a [u8], line: &'a [u8], p: Place) -> &'a [u8]
-    requires { ⌜ Held (length (now buf)) (length (now line)) (p .filled) (p .steps) p ⌝ }
+    requires { ⌜ (p .kept ≤ length (now line)) × ((p .from ≤ p .to) × (p .to ≤ length (now buf))) ⌝ }
     ensures { λ r. ⌜ now r ≡ readyLine (now (buf .entry)) (now (line .entry)) p ⌝ }
 {
     let kept = p.kept;
@@ -142,9 +174,9 @@ pub fn ready<'a>(buf: &'a [u8], line: &'a [u8], p: Place) -> &'a [u8]
 }
 
 // The line that was ready has its answer: n more characters of output wait.
-pub fn answered(out: &[u8], p: Place, n: usize) -> Place
-    requires { ⌜ (Held (p .end) (p .kept) (length (now out) - n) (p .steps) p) × (n ≤ length (now out)) ⌝ }
-    ensures { λ r. ⌜ Held (p .end) 0 (length (now (out .entry))) (p .steps) r ⌝ }
+pub fn answered(p: Place, n: usize) -> Place
+    requires { ⌜ p .filled + n ≤ bufferSize ⌝ }
+    ensures { λ r. ⌜ r ≡ answeredWith p n ⌝ }
 {
     let mut q = p;
     q.kept = 0;

@@ -1,6 +1,14 @@
-use lib.ListN.{length-take, length-drop}
-use Rattle.desk.proofs.Plays.{written-fits}
+use Prim.Native.Nat.{_-_, _≤_}
+use mathlib.Core.Path.{_≡_, ap, _∙_}
+use denote.Ref.{now}
 use native.Mathlib.Omega.{arith}
+use lib.ListN.{length, take, drop, length-take, length-drop}
+use Rattle.rig.specs.Bench.{benchOf}
+use Rattle.console.proofs.Lines.{written-count, written-text, never-refused}
+use Rattle.desk.specs.Text.{answerRoom, benchText, benchIn}
+use Rattle.desk.proofs.Plays.{written-fits}
+use Rattle.stream.proofs.Steps.{replied}
+use Rattle.bench.proofs.Ends.{asks}
 use borrow.Author.Needs.{needs}
 use Rattle.bench.proofs.answer.Statement.{statement}
 use Rattle.bench.proofs.answer.Tie as tie
@@ -36,7 +44,17 @@ same-length-4 : tie.Need-same-length-4
 same-length-4 c = search needs
 
 returns : tie.Need-returns
-returns c = omega (arith, simp (length-take, length-drop) at (written-fits (rw (c .before .reply .given .1) at (c .before .before .before .before .before .before .before .before .before .before .before .answer .ensures)) (search needs)))
+unfolding benchIn
+returns c =
+    let a = c .before .before .before .before .before .before .before .before .before .before .before .before .before .before .before .before .before .before .before .before .before .before in
+    let d = take (length (now (a .args .out)) - a .args .filled) (drop (a .args .filled) (now (a .args .out))) in
+    let l : answerRoom ≤ length d = simp (length-take, length-drop) (omega (arith, a .pre)) in
+    let w = rw (c .before .reply .given .1) at (c .before .before .before .before .before .before .before .before .before .before .before .answer .ensures) in
+    let h = benchOf (now (a .args .a)) (now (a .args .b)) (now (a .args .log)) (now (a .args .count)) in
+    let e = asks h (now (a .args .line)) d l in
+    replied (now (a .args .line)) (now (a .args .out)) (a .args .filled) _ (omega (arith, a .pre)) (w .bench ∙ ap (benchIn h) e)
+    (written-count (benchText h) e (w .answer)) (written-text (benchText h) e d (w .buffer))
+    (omega (arith, simp (length-take, length-drop) at (written-fits w (search needs))))
 
 same-length-5 : tie.Need-same-length-5
 same-length-5 c = search needs
@@ -51,7 +69,13 @@ same-length-8 : tie.Need-same-length-8
 same-length-8 c = search needs
 
 returns-2 : tie.Need-returns-2
-returns-2 c = search needs
+returns-2 c =
+    let a = c .before .before .before .before .before .before .before .before .before .before .before .before .before .before .before .before .before .before .before .before .before in
+    let d = take (length (now (a .args .out)) - a .args .filled) (drop (a .args .filled) (now (a .args .out))) in
+    let l : answerRoom ≤ length d = simp (length-take, length-drop) (omega (arith, a .pre)) in
+    let w = rw (c .enum-told .given .1) at (c .before .before .before .before .before .before .before .before .before .before .answer .ensures) in
+    let h = benchOf (now (a .args .a)) (now (a .args .b)) (now (a .args .log)) (now (a .args .count)) in
+    absurd (never-refused (benchText h) (asks h (now (a .args .line)) d l) (w .answer))
 
 pub answer-spec : {M : Type 1} → statement M
 answer-spec =

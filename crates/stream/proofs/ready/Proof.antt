@@ -2,14 +2,14 @@ use mathlib.Core.Path.{sym}
 use denote.Ref.{now}
 use lib.Seq.{length-take-le}
 use Rattle.octets.proofs.Test.{eq-yes, eq-no}
-use Rattle.stream.specs.Held.{readyLine}
+use Rattle.stream.specs.Place.{readyLine}
 use native.Mathlib.Omega.{arith}
 use borrow.Author.Needs.{needs}
 use Rattle.stream.proofs.ready.Statement.{statement}
 use Rattle.stream.proofs.ready.Tie as tie
 
 slice-aggregate-result : tie.Need-slice-aggregate-result
-slice-aggregate-result c = let s = c .before .before in sym (length-take-le (s .args .p .kept) (now (s .args .line)) (s .pre .kept))
+slice-aggregate-result c = let s = c .before .before in sym (length-take-le (s .args .p .kept) (now (s .args .line)) (s .pre .0))
 
 returns : tie.Need-returns
 unfolding readyLine

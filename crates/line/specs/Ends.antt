@@ -1,0 +1,17 @@
+-- What answers the lines of the line program: one end.
+use Prim.Native.Nat.{ℕ}
+use mathlib.Core.List.{List}
+use Rattle.calls.specs.Calls.{recordAfter}
+use Rattle.link.specs.Record.{format}
+use Rattle.console.specs.Line.{lineOutcome}
+use Rattle.console.specs.Text.{text}
+use Rattle.stream.specs.Answering.{Answering}
+
+-- Its state is the record. A line's text is that of its outcome.
+abbrev pub oneEnd : Answering
+oneEnd =
+    record {
+      State = List ℕ;
+      next = λ rec line. recordAfter format rec (lineOutcome rec line);
+      says = λ rec line. text rec (lineOutcome rec line);
+    }

@@ -1,0 +1,4 @@
+pub mod Answers
+pub mod Taken
+pub mod Steps
+pub mod Program

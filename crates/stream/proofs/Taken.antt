@@ -1,0 +1,90 @@
+-- The next line of the input at hand, or what there is of it. Assumes nothing.
+use Prim.Native.Nat.{ℕ, suc, _+_, _-_, _≤_, _<_}
+use mathlib.Core.Path.{_≡_, refl, sym, ap, _∙_}
+use mathlib.Core.Logic.{_≢_}
+use mathlib.Core.List.{List, [], _∷_, _++_}
+use native.Mathlib.Omega.{arith}
+use lib.ListN.{length, take, drop, length-drop}
+use lib.Seq.{length-take-le, take-take}
+use Rattle.octets.proofs.Test.{eq-yes, eq-no}
+use Rattle.lines.specs.Lines.{lineLength, Kept}
+use Rattle.lines.specs.Split.{ended, begun, longestKept, cut}
+use Rattle.lines.proofs.Split.{ended-none, begun-none, ended-one, begun-one, kept-cut, cut-cut}
+use Rattle.stream.specs.declared.Place.{Place}
+use Rattle.stream.specs.Place.{between, readyLine, Taken}
+
+-- a part of a part
+part-of : (f n t m : ℕ) (s : List ℕ) → n ≤ t - f → m ≡ n → take m (drop f s) ≡ take n (between f t s)
+part-of f n t m s h e = rw e (sym (take-take n (t - f) (drop f s) h))
+
+-- the next line, or what there is of it
+module _ (buf line : List ℕ) (p : Place) (n : ℕ) (on : p .at < p .end) (read : p .end ≤ length buf) (l : length line ≡ longestKept) (k : p .kept ≤ longestKept)
+    (e : n ≡ lineLength (between (p .at) (p .end) buf)) where
+  all : length (between (p .at) (p .end) buf) ≡ p .end - p .at
+  all = length-take-le (p .end - p .at) (drop (p .at) buf) (rw length-drop (omega arith))
+
+  pub takes-piece : p .at + n ≡ p .end → {line′ : List ℕ} {m : ℕ} → Kept line (p .kept) (between (p .at) (p .end) buf) line′ m → m ≤ length line
+      → Taken buf line p line′ (record { at = p .end; end = p .end; kept = m; filled = p .filled; lines = 0; from = p .at; to = p .at + n; steps = p .steps })
+  takes-piece z w b =
+      let h : lineLength (between (p .at) (p .end) buf) ≡ length (between (p .at) (p .end) buf) = omega (arith, e, z, all) in
+      record {
+        on = on;
+        used = omega arith;
+        end = refl;
+        filled = refl;
+        steps = refl;
+        held = omega arith;
+        begins = omega arith;
+        stops = omega arith;
+        none = λ _. (ended-none _ _ h, kept-cut line _ (p .kept) l k w ∙ ap cut (sym (begun-none _ _ h)));
+        one = λ y. absurd (y refl);
+      }
+
+  module _ (z : p .at + n ≢ p .end) (bound : n ≤ length (between (p .at) (p .end) buf)) where
+    less : n < p .end - p .at
+    less = omega (arith, all, bound, z)
+
+    used-is : between (p .at) (p .at + n + 1) buf ≡ take (suc (lineLength (between (p .at) (p .end) buf))) (between (p .at) (p .end) buf)
+    used-is = rw (← e) (part-of (p .at) (suc n) (p .end) (p .at + n + 1 - p .at) buf (omega (arith, less)) (omega arith))
+
+    piece-is : between (p .at) (p .at + n) buf ≡ take (lineLength (between (p .at) (p .end) buf)) (between (p .at) (p .end) buf)
+    piece-is = rw (← e) (part-of (p .at) n (p .end) (p .at + n - p .at) buf (omega (arith, less)) (omega arith))
+
+    short : lineLength (between (p .at) (p .end) buf) < length (between (p .at) (p .end) buf)
+    short = omega (arith, e, less, all)
+
+    ends-one : ended (take (p .kept) line) (between (p .at) (p .at + n + 1) buf) ≡ (take (p .kept) line ++ between (p .at) (p .at + n) buf) ∷ []
+    ends-one = rw (used-is, piece-is) (ended-one (take (p .kept) line) (between (p .at) (p .end) buf) short)
+
+    begins-none : begun (take (p .kept) line) (between (p .at) (p .at + n + 1) buf) ≡ []
+    begins-none = rw used-is (begun-one (take (p .kept) line) (between (p .at) (p .end) buf) short)
+
+    takes-line : {line′ : List ℕ} {m : ℕ} → m ≤ longestKept
+        → cut (take (p .kept) line ++ between (p .at) (p .at + n) buf)
+        ≡ cut (readyLine buf line′ (record { at = p .at + n + 1; end = p .end; kept = m; filled = p .filled; lines = 1; from = p .at; to = p .at + n; steps = p .steps }))
+        → Taken buf line p line′ (record { at = p .at + n + 1; end = p .end; kept = m; filled = p .filled; lines = 1; from = p .at; to = p .at + n; steps = p .steps })
+    takes-line b f =
+        record {
+          on = omega arith;
+          used = omega (arith, less);
+          end = refl;
+          filled = refl;
+          steps = refl;
+          held = b;
+          begins = omega arith;
+          stops = omega (arith, less);
+          none = λ y. absurd (omega arith);
+          one = λ _. (rw ends-one (ap (λ (x : List ℕ). x ∷ []) f), begins-none);
+        }
+
+    pub takes-fresh : p .kept ≡ 0
+        → Taken buf line p line (record { at = p .at + n + 1; end = p .end; kept = p .kept; filled = p .filled; lines = 1; from = p .at; to = p .at + n; steps = p .steps })
+    unfolding readyLine
+    takes-fresh y = takes-line k (ap cut (rw (eq-yes (p .kept) 0 (between (p .at) (p .at + n) buf) (take (p .kept) line) y, y) refl))
+
+    pub takes-kept : p .kept ≢ 0 → {line′ : List ℕ} {m : ℕ} → Kept line (p .kept) (between (p .at) (p .at + n) buf) line′ m → m ≤ length line
+        → Taken buf line p line′ (record { at = p .at + n + 1; end = p .end; kept = m; filled = p .filled; lines = 1; from = p .at; to = p .at + n; steps = p .steps })
+    unfolding readyLine
+    takes-kept y {line′} {m} w b =
+        takes-line (omega arith)
+        (rw (eq-no m 0 (between (p .at) (p .at + n) buf) (take m line′) (λ x. y (omega (arith, x, w .count)))) (sym (ap cut (kept-cut line _ (p .kept) l k w) ∙ cut-cut _)))
