@@ -1,6 +1,4 @@
 -- What answers the lines of the bench program: two ends and the log.
-use Prim.Native.Nat.{ℕ}
-use mathlib.Core.List.{List}
 use lib.ListN.{replicate}
 use Rattle.link.specs.Lent.{freshRecord}
 use Rattle.logbook.specs.Log.{logSize}

@@ -1,14 +1,12 @@
 -- Question 1 refuses a line of more than 156 characters, and so the first 157 of it. Assumes nothing.
-use Prim.Native.Nat.{ℕ, _*_, _%_, _≤_, _<_}
-use mathlib.Core.Path.{_≡_, refl, sym, ap, _∙_}
+use Prim.Native.Nat.{ℕ, _<_}
+use mathlib.Core.Path.{_≡_, refl}
 use mathlib.Core.Logic.{_⊎_, inl, inr}
-use mathlib.Core.Bool.{Bool, true, false, _&&_}
+use mathlib.Core.Bool.{Bool, true, false}
 use mathlib.Core.List.{List}
 use native.Mathlib.Omega.{arith}
 use lib.ListN.{length, take}
 use lib.Seq.{length-take-le, take-all}
-use lib.Dec.{eqb}
-use Rattle.octets.specs.Test.{inRange}
 use Rattle.octets.proofs.Test.{if-lt, above-range}
 use Rattle.hexline.specs.Line.{lengthOk}
 use Rattle.lines.specs.Split.{longestKept, cut}

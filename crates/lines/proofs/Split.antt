@@ -4,9 +4,8 @@ use mathlib.Core.Path.{_≡_, refl, sym, ap, _∙_}
 use mathlib.Core.Logic.{_≢_}
 use mathlib.Core.List.{List, [], _∷_, _++_, append-assoc, append-nil, map}
 use native.Mathlib.Omega.{arith}
-use native.Mathlib.Numerals.{add-one}
 use lib.ListN.{length, take, drop, length-append}
-use lib.Seq.{length-take-le, take-append-add, take-at, take-append-seam, take-take, take-add, drop-drop}
+use lib.Seq.{length-take-le, take-append-add, take-at, take-take}
 use Rattle.octets.specs.Octets.{put}
 use Rattle.octets.specs.Test.{when, ifEq}
 use Rattle.octets.proofs.Test.{by-eq, eq-yes, eq-no}

@@ -7,11 +7,11 @@ use native.Mathlib.Omega.{arith}
 use lib.ListN.{length, take, drop}
 use lib.Seq.{length-take-le, take-add, drop-drop}
 use Rattle.octets.proofs.Test.{by-eq, eq-yes, eq-no, lt-yes, lt-no}
-use Rattle.lines.specs.Split.{ended, begun, last, cut}
+use Rattle.lines.specs.Split.{ended, begun, cut}
 use Rattle.stream.specs.declared.Place.{Place}
 use Rattle.stream.specs.Answering.{Answering, Cuts, after, answers, textOf}
 use Rattle.stream.specs.Place.{bufferSize, Fits, Starts, between}
-use Rattle.stream.specs.Step.{Went, Rests, Wrote, ReadOn, Finished, Stopped, Stepped}
+use Rattle.stream.specs.Step.{Rests, Stepped}
 use Rattle.stream.specs.Program.{handed, brought, Run, starts, steps, Ran, Over, joined}
 use Rattle.stream.proofs.Answers.{Fed, fed-more, fed-whole}
 use Rattle.stream.proofs.Steps.{by-lt}

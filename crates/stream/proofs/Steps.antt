@@ -13,7 +13,7 @@ use Rattle.octets.proofs.Test.{by-eq, eq-yes, eq-no, if-lt}
 use Rattle.lines.specs.Split.{ended, last, longestKept, cut}
 use Rattle.stream.specs.declared.Place.{Place}
 use Rattle.stream.specs.Answering.{Answering, Cuts, after, answers}
-use Rattle.stream.specs.Place.{bufferSize, Fits, between, readyLine, oneLess, emptied, answeredWith, Flushed, AfterRead, Filled, Taken, Refilled, Next}
+use Rattle.stream.specs.Place.{bufferSize, Fits, between, readyLine, oneLess, emptied, answeredWith, Flushed, AfterRead, Taken, Refilled, Next}
 use Rattle.stream.specs.Step.{Replied, Went, Rests, Wrote, ReadOn, Finished, Stopped, Stepped}
 use Rattle.stream.proofs.Answers.{answers-cut, after-cut}
 

@@ -1,11 +1,12 @@
 -- The next line of the input at hand, or what there is of it. Assumes nothing.
 use Prim.Native.Nat.{ℕ, suc, _+_, _-_, _≤_, _<_}
-use mathlib.Core.Path.{_≡_, refl, sym, ap, _∙_}
+use mathlib.Core.Path.{_≡_, refl, sym, ap, subst, _∙_}
 use mathlib.Core.Logic.{_≢_}
 use mathlib.Core.List.{List, [], _∷_, _++_}
 use native.Mathlib.Omega.{arith}
 use lib.ListN.{length, take, drop, length-drop}
 use lib.Seq.{length-take-le, take-take}
+use Rattle.octets.specs.Test.{ifEq}
 use Rattle.octets.proofs.Test.{eq-yes, eq-no}
 use Rattle.lines.specs.Lines.{lineLength, Kept}
 use Rattle.lines.specs.Split.{ended, begun, longestKept, cut}
@@ -23,9 +24,9 @@ module _ (buf line : List ℕ) (p : Place) (n : ℕ) (on : p .at < p .end) (read
   all : length (between (p .at) (p .end) buf) ≡ p .end - p .at
   all = length-take-le (p .end - p .at) (drop (p .at) buf) (rw length-drop (omega arith))
 
-  pub takes-piece : p .at + n ≡ p .end → {line′ : List ℕ} {m : ℕ} → Kept line (p .kept) (between (p .at) (p .end) buf) line′ m → m ≤ length line
-      → Taken buf line p line′ (record { at = p .end; end = p .end; kept = m; filled = p .filled; lines = 0; from = p .at; to = p .at + n; steps = p .steps })
-  takes-piece z w b =
+  pub takes-piece : p .at + n ≡ p .end → {line′ : List ℕ} {m f t : ℕ} → Kept line (p .kept) (between (p .at) (p .end) buf) line′ m → m ≤ length line → f ≤ t → t ≤ p .end
+      → Taken buf line p line′ (record { at = p .end; end = p .end; kept = m; filled = p .filled; lines = 0; from = f; to = t; steps = p .steps })
+  takes-piece z w b g s =
       let h : lineLength (between (p .at) (p .end) buf) ≡ length (between (p .at) (p .end) buf) = omega (arith, e, z, all) in
       record {
         on = on;
@@ -34,8 +35,8 @@ module _ (buf line : List ℕ) (p : Place) (n : ℕ) (on : p .at < p .end) (read
         filled = refl;
         steps = refl;
         held = omega arith;
-        begins = omega arith;
-        stops = omega arith;
+        begins = g;
+        stops = s;
         none = λ _. (ended-none _ _ h, kept-cut line _ (p .kept) l k w ∙ ap cut (sym (begun-none _ _ h)));
         one = λ y. absurd (y refl);
       }
@@ -59,32 +60,34 @@ module _ (buf line : List ℕ) (p : Place) (n : ℕ) (on : p .at < p .end) (read
     begins-none : begun (take (p .kept) line) (between (p .at) (p .at + n + 1) buf) ≡ []
     begins-none = rw used-is (begun-one (take (p .kept) line) (between (p .at) (p .end) buf) short)
 
-    takes-line : {line′ : List ℕ} {m : ℕ} → m ≤ longestKept
-        → cut (take (p .kept) line ++ between (p .at) (p .at + n) buf)
-        ≡ cut (readyLine buf line′ (record { at = p .at + n + 1; end = p .end; kept = m; filled = p .filled; lines = 1; from = p .at; to = p .at + n; steps = p .steps }))
-        → Taken buf line p line′ (record { at = p .at + n + 1; end = p .end; kept = m; filled = p .filled; lines = 1; from = p .at; to = p .at + n; steps = p .steps })
-    takes-line b f =
-        record {
+    -- after a line, at is past its line feed
+    takes-line : {line′ : List ℕ} {m f t x : ℕ} → x ≡ p .at + n + 1 → m ≤ longestKept → f ≤ t → t ≤ p .end
+        → cut (take (p .kept) line ++ between (p .at) (p .at + n) buf) ≡ cut (ifEq m 0 (between f t buf) (take m line′))
+        → Taken buf line p line′ (record { at = x; end = p .end; kept = m; filled = p .filled; lines = 1; from = f; to = t; steps = p .steps })
+    unfolding readyLine
+    takes-line {line′} {m} {f} {t} ex b g s r =
+        subst (λ (x : ℕ). Taken buf line p line′ (record { at = x; end = p .end; kept = m; filled = p .filled; lines = 1; from = f; to = t; steps = p .steps })) (sym ex)
+        (record {
           on = omega arith;
           used = omega (arith, less);
           end = refl;
           filled = refl;
           steps = refl;
           held = b;
-          begins = omega arith;
-          stops = omega (arith, less);
+          begins = g;
+          stops = s;
           none = λ y. absurd (omega arith);
-          one = λ _. (rw ends-one (ap (λ (x : List ℕ). x ∷ []) f), begins-none);
-        }
+          one = λ _. (rw ends-one (ap (λ (x : List ℕ). x ∷ []) r), begins-none);
+        })
 
-    pub takes-fresh : p .kept ≡ 0
-        → Taken buf line p line (record { at = p .at + n + 1; end = p .end; kept = p .kept; filled = p .filled; lines = 1; from = p .at; to = p .at + n; steps = p .steps })
-    unfolding readyLine
-    takes-fresh y = takes-line k (ap cut (rw (eq-yes (p .kept) 0 (between (p .at) (p .at + n) buf) (take (p .kept) line) y, y) refl))
+    pub takes-fresh : p .kept ≡ 0 → {f t x : ℕ} → x ≡ p .at + n + 1 → f ≡ p .at → t ≡ p .at + n
+        → Taken buf line p line (record { at = x; end = p .end; kept = p .kept; filled = p .filled; lines = 1; from = f; to = t; steps = p .steps })
+    takes-fresh y {f} {t} ex ef et =
+        takes-line ex k (omega arith) (omega (arith, less)) (ap cut (rw (eq-yes (p .kept) 0 (between f t buf) (take (p .kept) line) y, y, ef, et) refl))
 
-    pub takes-kept : p .kept ≢ 0 → {line′ : List ℕ} {m : ℕ} → Kept line (p .kept) (between (p .at) (p .at + n) buf) line′ m → m ≤ length line
-        → Taken buf line p line′ (record { at = p .at + n + 1; end = p .end; kept = m; filled = p .filled; lines = 1; from = p .at; to = p .at + n; steps = p .steps })
-    unfolding readyLine
-    takes-kept y {line′} {m} w b =
-        takes-line (omega arith)
-        (rw (eq-no m 0 (between (p .at) (p .at + n) buf) (take m line′) (λ x. y (omega (arith, x, w .count)))) (sym (ap cut (kept-cut line _ (p .kept) l k w) ∙ cut-cut _)))
+    pub takes-kept : p .kept ≢ 0 → {line′ : List ℕ} {m f t x : ℕ} → Kept line (p .kept) (between (p .at) (p .at + n) buf) line′ m → m ≤ length line → x ≡ p .at + n + 1
+        → f ≤ t → t ≤ p .end
+        → Taken buf line p line′ (record { at = x; end = p .end; kept = m; filled = p .filled; lines = 1; from = f; to = t; steps = p .steps })
+    takes-kept y {line′} {m} {f} {t} w b ex g s =
+        takes-line ex (omega arith) g s
+        (rw (eq-no m 0 (between f t buf) (take m line′) (λ z. y (omega (arith, z, w .count)))) (sym (ap cut (kept-cut line _ (p .kept) l k w) ∙ cut-cut _)))

@@ -1,6 +1,5 @@
 -- A program from its start: its steps, the pieces of input that they read and the texts that they hand to be written.
 use Prim.Native.Nat.{ℕ, _+_, _<_}
-use mathlib.Core.Path.{_≡_}
 use mathlib.Core.List.{List, [], _∷_, _++_}
 use lib.ListN.{take}
 use Rattle.octets.specs.Test.{ifEq, ifLt}

@@ -2,8 +2,6 @@ use mathlib.Core.Bool.{Bool}
 use mathlib.Core.Path.{sym, ap}
 use Rattle.octets.specs.Test.{when}
 use Rattle.stream.specs.Place.{emptied}
-use borrow.Author.Needs.{needs}
-use native.Mathlib.Omega.{arith}
 use Rattle.stream.proofs.after_write.Statement.{statement}
 use Rattle.stream.proofs.after_write.Tie as tie
 

@@ -1,5 +1,4 @@
 use Rattle.stream.proofs.Steps.{flushed}
-use native.Mathlib.Omega.{arith}
 use borrow.Author.Needs.{needs}
 use Rattle.stream.proofs.flush.Statement.{statement}
 use Rattle.stream.proofs.flush.Tie as tie

@@ -36,13 +36,21 @@ same-length : tie.Need-same-length
 same-length c = search needs
 
 returns : tie.Need-returns
-returns c = let a = c .before .before .before .before .before .before .before .before .before .before in takes-piece (now (a .args .buf)) (now (a .args .line)) (a .args .p) _ (a .pre .0 .1) (omega (arith, a .pre .0 .0 .read, a .pre .1 .0)) (a .pre .1 .1) (a .pre .0 .0 .kept) (c .before .before .before .before .before .before .line-length .ensures .0) (c .before .before .before .before .before .if1 .taken) (c .before .before .keep .ensures .0) (c .before .before .keep .ensures .1)
+returns c =
+    let a = c .before .before .before .before .before .before .before .before .before .before in
+    let k = c .before .before .keep .ensures in
+    takes-piece (now (a .args .buf)) (now (a .args .line)) (a .args .p) _ (a .pre .0 .1) (omega (arith, a .pre .0 .0 .read, a .pre .1 .0)) (a .pre .1 .1) (a .pre .0 .0 .kept)
+    (c .before .before .before .before .before .before .line-length .ensures .0) (c .before .before .before .before .before .if1 .taken) (k .0) (k .1) (omega arith) (omega arith)
 
 add-q : tie.Need-add-q
 add-q c = search needs
 
 returns-2 : tie.Need-returns-2
-returns-2 c = let a = c .before .before .before .before .before .before in takes-fresh (now (a .args .buf)) (now (a .args .line)) (a .args .p) _ (a .pre .0 .1) (omega (arith, a .pre .0 .0 .read, a .pre .1 .0)) (a .pre .1 .1) (a .pre .0 .0 .kept) (c .before .before .line-length .ensures .0) (c .before .if1 .left) (c .before .before .line-length .ensures .1) (c .if2 .taken)
+returns-2 c =
+    let a = c .before .before .before .before .before .before in
+    let l = c .before .before .line-length .ensures in
+    takes-fresh (now (a .args .buf)) (now (a .args .line)) (a .args .p) _ (a .pre .0 .1) (omega (arith, a .pre .0 .0 .read, a .pre .1 .0)) (a .pre .1 .1) (a .pre .0 .0 .kept)
+    (l .0) (c .before .if1 .left) (l .1) (c .if2 .taken) (omega arith) (omega arith) (omega arith)
 
 sub-keep-2 : tie.Need-sub-keep-2
 sub-keep-2 c = search needs
@@ -60,7 +68,12 @@ same-length-2 : tie.Need-same-length-2
 same-length-2 c = search needs
 
 returns-3 : tie.Need-returns-3
-returns-3 c = let a = c .before .before .before .before .before .before .before .before .before .before .before in takes-kept (now (a .args .buf)) (now (a .args .line)) (a .args .p) _ (a .pre .0 .1) (omega (arith, a .pre .0 .0 .read, a .pre .1 .0)) (a .pre .1 .1) (a .pre .0 .0 .kept) (c .before .before .before .before .before .before .before .line-length .ensures .0) (c .before .before .before .before .before .before .if1 .left) (c .before .before .before .before .before .before .before .line-length .ensures .1) (c .before .before .before .before .before .if2 .left) (c .before .before .keep2 .ensures .0) (c .before .before .keep2 .ensures .1)
+returns-3 c =
+    let a = c .before .before .before .before .before .before .before .before .before .before .before in
+    let l = c .before .before .before .before .before .before .before .line-length .ensures in
+    let k = c .before .before .keep2 .ensures in
+    takes-kept (now (a .args .buf)) (now (a .args .line)) (a .args .p) _ (a .pre .0 .1) (omega (arith, a .pre .0 .0 .read, a .pre .1 .0)) (a .pre .1 .1) (a .pre .0 .0 .kept)
+    (l .0) (c .before .before .before .before .before .before .if1 .left) (l .1) (c .before .before .before .before .before .if2 .left) (k .0) (k .1) (omega arith) (omega arith) (omega arith)
 
 pub take-spec : {M : Type 1} → statement M
 take-spec =

@@ -1,7 +1,6 @@
 use mathlib.Core.Path.{sym}
 use denote.Ref.{now}
 use lib.Seq.{length-take-le}
-use native.Mathlib.Omega.{arith}
 use borrow.Author.Needs.{needs}
 use Rattle.stream.proofs.waiting.Statement.{statement}
 use Rattle.stream.proofs.waiting.Tie as tie
