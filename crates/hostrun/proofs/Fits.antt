@@ -7,10 +7,11 @@ use mathlib.Core.List.{List}
 use lib.ListN.{length, drop, length-take, length-drop}
 use Rattle.octets.specs.Test.{Outcome, refused, ok}
 use Rattle.protocol.specs.Table.{Step}
-use Rattle.plan.specs.Plan.{blockOf, blockPart}
+use Rattle.plan.specs.Plan.{blockPart}
 use Rattle.endpoint.specs.declared.Endpoint.{Endpoint}
 use Rattle.machine.specs.declared.Answer.{Answer}
 use Rattle.machine.specs.Calls.{answerOf, Answered}
+use Rattle.machine.proofs.Carries.{block-is}
 use Rattle.link.specs.Lent.{sentOf}
 use Rattle.console.proofs.Ends.{sent-fits}
 
@@ -22,14 +23,9 @@ sent-is e (ok x) = refl
 pub frame-fits : (e : Endpoint) (o : Outcome Step) (out : List ℕ) {s out′ : List ℕ} {r : Answer} → Answered e o s out out′ r → length out′ ≡ length out → r .sent ≤ length out
 frame-fits e o out a l = sent-fits out o (a .octets) l (ap (λ (r : Answer). r .sent) (a .answer) ∙ sent-is e o)
 
-block-is : (e : Endpoint) (o : Outcome Step) → answerOf e o .block ≡ length (blockOf o)
-unfolding answerOf blockOf
-block-is e (refused n) = refl
-block-is e (ok x) = refl
-
 -- the block is as long as its answer tells
 pub block-long : (e : Endpoint) (o : Outcome Step) {s out out′ : List ℕ} {r : Answer} → Answered e o s out out′ r → length (blockPart s (r .block)) ≡ r .block
-block-long e o a = ap length (a .block) ∙ sym (block-is e o) ∙ ap (λ (r : Answer). r .block) (sym (a .answer))
+block-long e o a = ap length (a .block) ∙ block-is e o ∙ ap (λ (r : Answer). r .block) (sym (a .answer))
 
 -- so there is room for it after octet 14
 pub block-fits : (s : List ℕ) (n : ℕ) → length (blockPart s n) ≡ n → n ≢ 0 → 14 + n ≤ length s

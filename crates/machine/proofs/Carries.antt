@@ -119,7 +119,7 @@ unfolding sentIn answerOf wire
 sent-is e (refused n) = refl
 sent-is e (ok x) = refl
 
-block-is : (e : Endpoint) (o : Outcome Step) → length (blockOf o) ≡ answerOf e o .block
+pub block-is : (e : Endpoint) (o : Outcome Step) → length (blockOf o) ≡ answerOf e o .block
 unfolding blockOf answerOf
 block-is e (refused n) = refl
 block-is e (ok x) = refl
