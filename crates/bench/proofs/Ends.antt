@@ -11,9 +11,10 @@ use Rattle.octets.specs.Test.{when, first, Outcome, ok, outcome, refusing}
 use Rattle.octets.specs.Sizes.{longestFrame}
 use Rattle.hexline.specs.Line.{isDigit, all}
 use Rattle.link.specs.Record.{format}
+use Rattle.link.specs.Lent.{freshRecord}
 use Rattle.console.specs.Line.{room}
 use Rattle.logbook.specs.Log.{places, logSize}
-use Rattle.rig.specs.Bench.{Bench, At, asked, comes, endOf, benchAfter}
+use Rattle.rig.specs.Bench.{Bench, benchOf, At, asked, comes, endOf, benchAfter}
 use Rattle.desk.specs.Text.{answerRoom, benchText, askedWith}
 use Rattle.lines.specs.Split.{cut}
 use Rattle.lines.proofs.Long.{by-cut}
@@ -57,6 +58,10 @@ cuts =
 pub asks : (w : Bench) (line d : List ℕ) → answerRoom ≤ length d → askedWith w line d ≡ ok (asked w line room)
 unfolding askedWith first when outcome
 asks w line d h = rw (le-leb answerRoom (length d) h) refl
+
+-- a bench of two fresh ends
+pub both-fresh : {a b log : List ℕ} {count : ℕ} → a ≡ freshRecord → b ≡ freshRecord → benchOf a b log count ≡ benchOf freshRecord freshRecord log count
+both-fresh e f = rw (e, f) refl
 
 -- THE theorem, of the program: from fresh ends and an empty book to its end after the end of the input, however the input came in pieces, all that was
 -- handed to be written is the text of the input.

@@ -74,7 +74,7 @@ answeredWith p n = record {
   steps = p .steps;
 }
 
--- After a write: no step is left where it failed. No contract says when it does.
+-- After a write: no step is left where it failed. When it does, no contract says.
 pub record Flushed (p q : Place) : Type 0 where
   pub place : q ≡ emptied p (q .steps)
   pub steps : q .steps ≢ 0 → q .steps ≡ p .steps
@@ -90,7 +90,7 @@ pub record AfterRead (n : ℕ) (p q : Place) : Type 0 where
   pub more : n ≢ 0 → (q .lines ≡ 0) × (q .steps ≡ p .steps)
   pub over : n ≡ 0 → (q .lines ≡ ifEq (p .kept) 0 0 1) × (q .steps ≡ 1)
 
--- More is read where a step is left. No contract says how much, and which octets.
+-- More is read where a step is left. How much, and which octets, no contract says.
 pub record Filled (p : Place) (buf′ : List ℕ) (q : Place) : Type 0 where
   pub stopped : p .steps ≡ 0 → q ≡ p
   pub read : p .steps ≢ 0 → AfterRead (q .end) p q

@@ -8,29 +8,30 @@ use Rattle.stream.specs.Answering.{Answering}
 use Rattle.stream.specs.Place.{bufferSize, Starts}
 use Rattle.stream.specs.Step.{Stepped}
 
--- What no contract says of read and write is said by these two.
+-- No contract can say that read and write move octets. These two definitions do, and nothing else of a program rests on anything but its contracts.
 -- A step hands what waits to be written, where the input at hand is used up and where there is no room for an answer.
 unfoldable pub handed : ℕ → List ℕ → Place → List (List ℕ)
 handed room out p = ifEq (p .at) (p .end) (take (p .filled) out ∷ []) (ifLt bufferSize (p .filled + room) (take (p .filled) out ∷ []) [])
 
--- A step reads, where the input at hand is used up and a step is left: the next piece of the input comes to the start of the buffer, and end counts it.
+-- A step reads, where the input at hand is used up and a step is left: the next piece of the input comes to the start of the buffer, and end counts it. At
+-- the end of the input the piece is empty.
 unfoldable pub brought : Place → List ℕ → Place → List (List ℕ)
 brought p buf′ q = ifEq (p .at) (p .end) (ifEq (q .steps) 0 [] (take (q .end) buf′ ∷ [])) []
 
--- The steps so far: from the state s₀, as long as steps are left. A reader of protocols may call it a trace.
+-- A trace: the steps so far, from the state s₀ and a place that starts, each made while steps were left.
 pub data Run (a : Answering) (room : ℕ) (s₀ : a .State) : a .State → List ℕ → List ℕ → List ℕ → Place → List (List ℕ) → List (List ℕ) → Type 0 where
   starts : {buf line out : List ℕ} {p : Place} → Starts p → Run a room s₀ s₀ buf line out p [] []
   steps : {s s′ : a .State} {buf line out buf′ line′ out′ : List ℕ} {p q : Place} {pieces texts : List (List ℕ)}
       → Run a room s₀ s buf line out p pieces texts → 0 < p .steps → Stepped a room s buf line out p s′ buf′ line′ out′ q
       → Run a room s₀ s′ buf′ line′ out′ q (pieces ++ brought p buf′ q) (texts ++ handed room out p)
 
--- the same, whatever was read and handed on
+-- there is such a trace
 pub record Ran (a : Answering) (room : ℕ) (s₀ s : a .State) (buf line out : List ℕ) (p : Place) : Type 0 where
   pub pieces : List (List ℕ)
   pub texts : List (List ℕ)
   pub run : Run a room s₀ s buf line out p pieces texts
 
--- the input has ended: a read brought nothing
+-- the input has ended: a read brought an empty piece
 unfoldable pub Over : List (List ℕ) → Type 0
 Over [] = ⊥
 Over ([] ∷ pieces) = Unit {0}

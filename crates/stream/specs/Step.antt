@@ -1,4 +1,5 @@
 -- One step of a program: the contract of both programs' step, over what answers their lines and the room that an answer needs.
+-- Before the step: the state s, the input in buf, what is held in line, what waits in out, and the place p. After it: s′, buf′, line′, out′ and q.
 use Prim.Native.Nat.{ℕ, _+_, _-_, _≤_, _<_}
 use mathlib.Core.Path.{_≡_}
 use mathlib.Core.Logic.{_≢_}
@@ -15,8 +16,8 @@ pub record Replied (a : Answering) (s : a .State) (line out : List ℕ) (filled 
   pub room : filled + n ≤ length out
   pub told : take (filled + n) out′ ≡ take filled out ++ a .says s line
 
--- Input and room for an answer are left: some of the input is used. The lines that it ends are answered, in order, after what waits already, and what it
--- begins is held.
+-- Input and room for an answer are left: some of the input is used. What it ends of lines is answered, in order, after what waits already; what it begins
+-- is held.
 pub record Went (a : Answering) (s : a .State) (buf line out : List ℕ) (p : Place) (s′ : a .State) (buf′ line′ out′ : List ℕ) (q : Place) : Type 0 where
   pub input : buf′ ≡ buf
   pub on : p .at < q .at
@@ -62,7 +63,7 @@ pub record Stopped (a : Answering) (s : a .State) (line : List ℕ) (p : Place) 
   pub at : q .at ≡ p .at
   pub end : q .end ≡ p .end
 
--- One step, by its cases.
+-- One step, by its cases. The place stays in range, and fewer steps are left, so that every run ends.
 pub record Stepped (a : Answering) (room : ℕ) (s : a .State) (buf line out : List ℕ) (p : Place) (s′ : a .State) (buf′ line′ out′ : List ℕ) (q : Place) : Type 0 where
   pub went : p .at ≢ p .end → p .filled + room ≤ bufferSize → Went a s buf line out p s′ buf′ line′ out′ q
   pub wrote : p .at ≢ p .end → bufferSize < p .filled + room → Wrote a s buf line p s′ buf′ line′ q

@@ -1,4 +1,4 @@
-use mathlib.Core.Path.{refl, _∙_}
+use mathlib.Core.Path.{_∙_}
 use denote.Ref.{now}
 use native.Mathlib.Omega.{arith}
 use Rattle.link.specs.Lent.{freshRecord}
@@ -8,6 +8,7 @@ use Rattle.desk.specs.Text.{answerRoom}
 use Rattle.stream.specs.Program.{Ran}
 use Rattle.stream.proofs.Program.{ran-none, ran-more, ran-fits}
 use Rattle.bench.specs.Ends.{bothEnds}
+use Rattle.bench.proofs.Ends.{both-fresh}
 use borrow.Author.Needs.{needs}
 use Rattle.bench.proofs.run.Statement.{statement}
 use Rattle.bench.proofs.run.Tie as tie
@@ -33,7 +34,7 @@ loop-holds c =
     let a = c .before .before .before .before .before .args in
     let e = c .before .before .before .dock-fresh .ensures .1 ∙ fresh-is _ (omega arith) in
     let f = c .before .dock-fresh2 .ensures .1 ∙ fresh-is _ (omega arith) in
-    ran-none (now (a .buf)) (now (a .line)) (now (a .out)) (rw (e, f) refl) (c .start .ensures)
+    ran-none (now (a .buf)) (now (a .line)) (now (a .out)) (both-fresh e f) (c .start .ensures)
 
 step-requires : tie.Need-step-requires Inv-loop μ-loop
 step-requires c κs = (ran-fits (c .before .before .before .before .before .before .before .before .before .loop .inv), c .before .before .before .before .before .before .before .if1 .taken)
