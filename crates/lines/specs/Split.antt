@@ -3,16 +3,17 @@ use Prim.Native.Nat.{ℕ}
 use mathlib.Core.List.{List, [], _∷_, _++_}
 use lib.ListN.{take}
 use Rattle.octets.specs.Test.{ifEq}
+use Rattle.lines.specs.Lines.{lineFeed}
 
 -- the lines that a line feed ends, where part is what there is already of the first
 unfoldable pub ended : List ℕ → List ℕ → List (List ℕ)
 ended part [] = []
-ended part (c ∷ s) = ifEq c 10 (part ∷ ended [] s) (ended (part ++ (c ∷ [])) s)
+ended part (c ∷ s) = ifEq c lineFeed (part ∷ ended [] s) (ended (part ++ (c ∷ [])) s)
 
 -- and what stands after them
 unfoldable pub begun : List ℕ → List ℕ → List ℕ
 begun part [] = part
-begun part (c ∷ s) = ifEq c 10 (begun [] s) (begun (part ++ (c ∷ [])) s)
+begun part (c ∷ s) = ifEq c lineFeed (begun [] s) (begun (part ++ (c ∷ [])) s)
 
 -- which is a line if it has a character
 unfoldable pub last : List ℕ → List (List ℕ)
