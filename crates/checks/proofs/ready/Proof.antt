@@ -25,15 +25,9 @@ returns-4 : tie.Need-returns-4
 unfolding first when
 returns-4 c = let a = c .before .before .before .before .before .before .before .args in rw (le-leb 538 (length (now (a .a))) (omega (arith, c .before .before .before .if1 .left)), le-leb 538 (length (now (a .b))) (omega (arith, c .before .before .if2 .left)), le-leb 40960 (length (now (a .log))) (omega (arith, c .before .if3 .left)), lt-leb 78 (a .room) (c .if4 .taken)) refl
 
-is-sound-requires : tie.Need-is-sound-requires
-is-sound-requires c κs = search needs
-
 returns-5 : tie.Need-returns-5
 unfolding first when
 returns-5 c = let a = c .before .before .before .before .before .before .before .before .before .args in rw (le-leb 538 (length (now (a .a))) (omega (arith, c .before .before .before .before .before .if1 .left)), le-leb 538 (length (now (a .b))) (omega (arith, c .before .before .before .before .if2 .left)), le-leb 40960 (length (now (a .log))) (omega (arith, c .before .before .before .if3 .left)), le-leb 78 (a .room) (omega (arith, c .before .before .if4 .left)), sym (c .before .is-sound .ensures) ∙ not-true (c .before .is-sound .result) (c .if5 .taken)) refl
-
-is-sound-requires-2 : tie.Need-is-sound-requires-2
-is-sound-requires-2 c κs = search needs
 
 returns-6 : tie.Need-returns-6
 unfolding first when
@@ -55,9 +49,9 @@ ready-spec =
     returns-2
     returns-3
     returns-4
-    is-sound-requires
+    (λ c κs. search needs)
     returns-5
-    is-sound-requires-2
+    (λ c κs. search needs)
     returns-6
     returns-7
     returns-8)

@@ -6,12 +6,6 @@ use borrow.Author.Needs.{needs}
 use Rattle.codec.proofs.block_length.Statement.{statement}
 use Rattle.codec.proofs.block_length.Tie as tie
 
-count-from-requires : tie.Need-count-from-requires
-count-from-requires c κs = search needs
-
-count-from-requires-2 : tie.Need-count-from-requires-2
-count-from-requires-2 c κs = search needs
-
 returns : tie.Need-returns
 unfolding blockAfter
 returns c =
@@ -32,4 +26,4 @@ returns-3 c =
 
 pub block-length-spec : {M : Type 1} → statement M
 block-length-spec =
-    tie.close (tie.spec count-from-requires count-from-requires-2 returns returns-2 returns-3)
+    tie.close (tie.spec (λ c κs. search needs) (λ c κs. search needs) returns returns-2 returns-3)

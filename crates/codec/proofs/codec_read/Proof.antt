@@ -13,18 +13,6 @@ use borrow.Author.Needs.{needs}
 use Rattle.codec.proofs.codec_read.Statement.{statement}
 use Rattle.codec.proofs.codec_read.Tie as tie
 
-read-known-requires : tie.Need-read-known-requires
-read-known-requires c κs = search needs
-
-enum-known-read : tie.Need-enum-known-read
-enum-known-read c = search needs
-
-values-of-requires : tie.Need-values-of-requires
-values-of-requires c κs = search needs
-
-block-length-requires : tie.Need-block-length-requires
-block-length-requires c κs = search needs
-
 returns : tie.Need-returns
 unfolding inputRead numberOf shown valuesOf
 returns c =
@@ -36,15 +24,6 @@ returns c =
     let k = ap (λ (x : Values). length (blockAfter (x .kind) s)) v in
     rw e (refl, (v, tells s _ (now (a .block)) refl (frame-block _ s) (c .block-length .ensures ∙ k)))
 
-enum-known-read-2 : tie.Need-enum-known-read-2
-enum-known-read-2 c = search needs
-
-request-number-requires : tie.Need-request-number-requires
-request-number-requires c κs = search needs
-
-block-length-requires-2 : tie.Need-block-length-requires-2
-block-length-requires-2 c κs = search needs
-
 returns-2 : tie.Need-returns-2
 unfolding inputRead numberOf shown
 returns-2 c =
@@ -54,9 +33,6 @@ returns-2 c =
     let q = c .before .request-number .ensures (drop 2 s) in
     let k = ap (λ (n : ℕ). length (blockAfter n s)) q in
     rw e (refl, ((λ i. record { kind = q i; sender = 0; quoted = 0; number = 0 }), tells s _ (now (a .block)) refl (request-block _ s) (c .block-length2 .ensures ∙ k)))
-
-enum-known-read-3 : tie.Need-enum-known-read-3
-enum-known-read-3 c = search needs
 
 returns-3 : tie.Need-returns-3
 unfolding inputRead numberOf shown
@@ -69,14 +45,14 @@ pub codec-read-spec : {M : Type 1} → statement M
 codec-read-spec =
     tie.close
     (tie.spec
-    read-known-requires
-    enum-known-read
-    values-of-requires
-    block-length-requires
+    (λ c κs. search needs)
+    (λ c. search needs)
+    (λ c κs. search needs)
+    (λ c κs. search needs)
     returns
-    enum-known-read-2
-    request-number-requires
-    block-length-requires-2
+    (λ c. search needs)
+    (λ c κs. search needs)
+    (λ c κs. search needs)
     returns-2
-    enum-known-read-3
+    (λ c. search needs)
     returns-3)

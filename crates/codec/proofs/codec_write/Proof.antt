@@ -44,9 +44,6 @@ returns-3 c =
     let w = writeFrame v b o in
     refuses w o (now (a .length)) (write-3 v b o (omega arith) (above-range 1 9 (a .kind) (omega arith)))
 
-header-of-requires : tie.Need-header-of-requires
-header-of-requires c κs = search needs
-
 returns-4 : tie.Need-returns-4
 unfolding countOk
 returns-4 c =
@@ -67,12 +64,6 @@ returns-5 c =
     let w = writeFrame v b o in
     refuses w o (now (a .length)) (write-5 v b o (omega arith) (frame-kind (a .kind) (omega arith) (omega arith)) (omega arith) (above-range 1 64 (length b) (omega arith)))
 
-write-requires : tie.Need-write-requires
-write-requires c κs = search needs
-
-same-length : tie.Need-same-length
-same-length c = search needs
-
 returns-6 : tie.Need-returns-6
 unfolding countOk
 returns-6 c =
@@ -83,15 +74,6 @@ returns-6 c =
     let w = writeFrame v b o in
     let e = write-data v b o (omega arith) (frame-kind (a .kind) (omega arith) (omega arith)) (omega arith) (in-range 1 64 (length b) (omega arith) (omega arith)) in
     fills w (frameWith v b) (now (a .length)) e (rw (c .before .before .before .before .before .before .before .header-of .ensures b) at (c .before .before .write .ensures))
-
-slice-aggregate-write : tie.Need-slice-aggregate-write
-slice-aggregate-write c = search needs
-
-write-requires-2 : tie.Need-write-requires-2
-write-requires-2 c κs = search needs
-
-same-length-2 : tie.Need-same-length-2
-same-length-2 c = search needs
 
 returns-7 : tie.Need-returns-7
 returns-7 c =
@@ -111,13 +93,13 @@ codec-write-spec =
     returns
     returns-2
     returns-3
-    header-of-requires
+    (λ c κs. search needs)
     returns-4
     returns-5
-    write-requires
-    same-length
+    (λ c κs. search needs)
+    (λ c. search needs)
     returns-6
-    slice-aggregate-write
-    write-requires-2
-    same-length-2
+    (λ c. search needs)
+    (λ c κs. search needs)
+    (λ c. search needs)
     returns-7)

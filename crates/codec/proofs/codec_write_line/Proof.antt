@@ -17,12 +17,6 @@ returns c =
     let a = c .before .before .before .args in
     rw (lt-leb (2 * length (now (a .s))) (length (now (a .out))) (omega arith)) (refl, refl)
 
-write-requires : tie.Need-write-requires
-write-requires c κs = search needs
-
-same-length : tie.Need-same-length
-same-length c = search needs
-
 returns-2 : tie.Need-returns-2
 unfolding writeLine first when outcome numberOf left
 returns-2 c =
@@ -30,4 +24,4 @@ returns-2 c =
     rw (le-leb (2 * length (now (a .s))) (length (now (a .out))) (omega arith)) (refl, c .before .before .write .ensures)
 
 pub codec-write-line-spec : {M : Type 1} → statement M
-codec-write-line-spec = tie.close (tie.spec returns write-requires same-length returns-2)
+codec-write-line-spec = tie.close (tie.spec returns (λ c κs. search needs) (λ c. search needs) returns-2)

@@ -7,9 +7,6 @@ use borrow.Author.Needs.{needs}
 use Rattle.codec.proofs.header_of.Statement.{statement}
 use Rattle.codec.proofs.header_of.Tie as tie
 
-control-header-requires : tie.Need-control-header-requires
-control-header-requires c κs = search needs
-
 returns : tie.Need-returns
 unfolding frameOf frameWith ifEq when
 returns c = λ b. let e : c .before .args .kind ≡ 8 = omega arith in rw e refl
@@ -26,4 +23,4 @@ returns-3 c =
     c .control-header .ensures b ∙ sym (eq-no k 8 _ _ (λ e. omega arith) ∙ eq-no k 9 _ _ (λ e. omega arith))
 
 pub header-of-spec : {M : Type 1} → statement M
-header-of-spec = tie.close (tie.spec control-header-requires returns returns-2 returns-3)
+header-of-spec = tie.close (tie.spec (λ c κs. search needs) returns returns-2 returns-3)

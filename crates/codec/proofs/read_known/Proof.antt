@@ -10,21 +10,6 @@ use borrow.Author.Needs.{needs}
 use Rattle.codec.proofs.read_known.Statement.{statement}
 use Rattle.codec.proofs.read_known.Tie as tie
 
-read-frame-requires : tie.Need-read-frame-requires
-read-frame-requires c κs = search needs
-
-frame-input-requires : tie.Need-frame-input-requires
-frame-input-requires c κs = search needs
-
-read-request-requires : tie.Need-read-request-requires
-read-request-requires c κs = search needs
-
-request-input-requires : tie.Need-request-input-requires
-request-input-requires c κs = search needs
-
-read-input-requires : tie.Need-read-input-requires
-read-input-requires c κs = search needs
-
 returns : tie.Need-returns
 unfolding readKnown ifEq when
 returns c =
@@ -57,11 +42,11 @@ pub read-known-spec : {M : Type 1} → statement M
 read-known-spec =
     tie.close
     (tie.spec
-    read-frame-requires
-    frame-input-requires
-    read-request-requires
-    request-input-requires
-    read-input-requires
+    (λ c κs. search needs)
+    (λ c κs. search needs)
+    (λ c κs. search needs)
+    (λ c κs. search needs)
+    (λ c κs. search needs)
     returns
     returns-2
     returns-3

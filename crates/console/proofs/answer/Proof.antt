@@ -31,15 +31,6 @@ octets c = let p = is-read c in taken (replicate 78 0) (unhex (line c)) (p .octe
 returns : tie.Need-returns
 returns c = let a = c .before .before .before .before .args in no-room (now (a .rec)) (now (a .line)) (now (a .out)) (c .if1 .taken)
 
-slice-aggregate-read : tie.Need-slice-aggregate-read
-slice-aggregate-read c = search needs
-
-read-requires : tie.Need-read-requires
-read-requires c κs = search needs
-
-enum-known-read : tie.Need-enum-known-read
-enum-known-read c = search needs
-
 array-share-prefix-s : tie.Need-array-share-prefix-s
 array-share-prefix-s c = omega (arith, fits c)
 
@@ -49,30 +40,12 @@ slice-aggregate-ask c = sym (length-take-le _ _ (omega (arith, fits (c .before))
 ask-requires : tie.Need-ask-requires
 ask-requires c κs = let d = c .before .before in (omega (arith, fits d, is-read d .count, ap length (octets d)), search needs)
 
-enum-known-read-2 : tie.Need-enum-known-read-2
-enum-known-read-2 c = search needs
-
-refuse-requires : tie.Need-refuse-requires
-refuse-requires c κs = search needs
-
-same-length : tie.Need-same-length
-same-length c = search needs
-
-same-length-2 : tie.Need-same-length-2
-same-length-2 c = search needs
-
 returns-2 : tie.Need-returns-2
 returns-2 c =
     let s = c .before .before .before .before .before .before .before .before .before .before .before .before .before .before .before .before .before .before .args in
     let d = c .before .before .before .before .before .before .before in
     with-text (now (s .rec)) (now (s .line)) (now (s .out)) (omega (arith, c .before .before .before .before .before .before .before .before .before .before .before .before .before .before .if1 .left))
     (rw (line-asks (now (s .rec)) (line d) (is-read d .all-yes)) (rw (octets d) at (c .before .before .before .before .ask .ensures)))
-
-same-length-3 : tie.Need-same-length-3
-same-length-3 c = search needs
-
-same-length-4 : tie.Need-same-length-4
-same-length-4 c = search needs
 
 returns-3 : tie.Need-returns-3
 returns-3 c =
@@ -86,17 +59,17 @@ answer-spec =
     tie.close
     (tie.spec
     returns
-    slice-aggregate-read
-    read-requires
-    enum-known-read
+    (λ c. search needs)
+    (λ c κs. search needs)
+    (λ c. search needs)
     array-share-prefix-s
     slice-aggregate-ask
     ask-requires
-    enum-known-read-2
-    refuse-requires
-    same-length
-    same-length-2
+    (λ c. search needs)
+    (λ c κs. search needs)
+    (λ c. search needs)
+    (λ c. search needs)
     returns-2
-    same-length-3
-    same-length-4
+    (λ c. search needs)
+    (λ c. search needs)
     returns-3)

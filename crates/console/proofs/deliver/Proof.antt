@@ -21,12 +21,6 @@ fits c =
     let l : length (c .before .before .before .receive .last .1 .1 .0) ≡ 78 = search needs in
     (l, sent-fits room (performed format (now (s .args .rec)) (calls.receive (now (s .args .s)) room)) (e .is-out) l (e .is-sent))
 
-slice-aggregate-receive : tie.Need-slice-aggregate-receive
-slice-aggregate-receive c = search needs
-
-receive-requires : tie.Need-receive-requires
-receive-requires c κs = search needs
-
 array-share-prefix-frame : tie.Need-array-share-prefix-frame
 array-share-prefix-frame c = omega (arith, fits c)
 
@@ -38,12 +32,6 @@ write-text-requires c κs =
     let s = c .before .before .before .before .before .before .before .before .before .before .before .before .before .before .before .before .before in
     (search needs, (omega (arith, ap length (c .before .before .before .before .before .receive .ensures .is-block), receive-short (now (s .args .rec)) (now (s .args .s)) room (s .pre .0)), omega (arith, fits (c .before .before), length-take-le (c .before .before .before .before .before .receive .last .1 .1 .1 .1 .1 .1 .1 .1 .0) (c .before .before .before .before .before .receive .last .1 .1 .0) (omega (arith, fits (c .before .before))))))
 
-same-length : tie.Need-same-length
-same-length c = search needs
-
-same-length-2 : tie.Need-same-length-2
-same-length-2 c = search needs
-
 returns : tie.Need-returns
 returns c = let s = c .before .before .before .before .before .before .before .before .before .before .before .before .before .before .before .before .before .before .before .before in gives _ (now (s .args .rec)) (now (s .args .out)) (c .before .before .before .before .before .before .before .before .receive .ensures .lent) (c .before .before .before .before .before .before .before .before .receive .ensures .is-block) (c .before .before .write-text .ensures)
 
@@ -51,11 +39,11 @@ pub deliver-spec : {M : Type 1} → statement M
 deliver-spec =
     tie.close
     (tie.spec
-    slice-aggregate-receive
-    receive-requires
+    (λ c. search needs)
+    (λ c κs. search needs)
     array-share-prefix-frame
     slice-aggregate-write-text
     write-text-requires
-    same-length
-    same-length-2
+    (λ c. search needs)
+    (λ c. search needs)
     returns)

@@ -21,15 +21,6 @@ fits c =
     let l : length (c .before .before .before .dock-request .last .1 .1 .0) ≡ 78 = search needs in
     (l, sent-fits room (performed format (now (s .args .rec)) (calls.request (now (s .args .s)) room)) (e .is-out) l (e .is-sent))
 
-slice-aggregate-dock-request : tie.Need-slice-aggregate-dock-request
-slice-aggregate-dock-request c = search needs
-
-dock-request-requires : tie.Need-dock-request-requires
-dock-request-requires c κs = search needs
-
-slice-aggregate-write-text : tie.Need-slice-aggregate-write-text
-slice-aggregate-write-text c = search needs
-
 array-share-prefix-frame : tie.Need-array-share-prefix-frame
 array-share-prefix-frame c = omega (arith, fits (c .before))
 
@@ -39,12 +30,6 @@ slice-aggregate-write-text-2 c = sym (length-take-le _ _ (omega (arith, fits (c 
 write-text-requires : tie.Need-write-text-requires
 write-text-requires c κs = (search needs, (omega arith, omega (arith, fits (c .before .before .before), length-take-le (c .before .before .before .before .before .before .dock-request .last .1 .1 .1 .1 .1 .1 .1 .0) (c .before .before .before .before .before .before .dock-request .last .1 .1 .0) (omega (arith, fits (c .before .before .before))))))
 
-same-length : tie.Need-same-length
-same-length c = search needs
-
-same-length-2 : tie.Need-same-length-2
-same-length-2 c = search needs
-
 returns : tie.Need-returns
 returns c = let s = c .before .before .before .before .before .before .before .before .before .before .before .before .before .before .before .before .before .before .before .before in gives _ (now (s .args .rec)) (now (s .args .out)) (c .before .before .before .before .before .before .before .before .before .dock-request .ensures) (request-none (now (s .args .rec)) (now (s .args .s)) room) (c .before .before .write-text .ensures)
 
@@ -52,12 +37,12 @@ pub request-spec : {M : Type 1} → statement M
 request-spec =
     tie.close
     (tie.spec
-    slice-aggregate-dock-request
-    dock-request-requires
-    slice-aggregate-write-text
+    (λ c. search needs)
+    (λ c κs. search needs)
+    (λ c. search needs)
     array-share-prefix-frame
     slice-aggregate-write-text-2
     write-text-requires
-    same-length
-    same-length-2
+    (λ c. search needs)
+    (λ c. search needs)
     returns)

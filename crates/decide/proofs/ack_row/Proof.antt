@@ -4,12 +4,6 @@ use borrow.Author.Needs.{needs}
 use Rattle.decide.proofs.ack_row.Statement.{statement}
 use Rattle.decide.proofs.ack_row.Tie as tie
 
-cast-if1 : tie.Need-cast-if1
-cast-if1 c = search needs
-
-sub-if1 : tie.Need-sub-if1
-sub-if1 c = search needs
-
 returns : tie.Need-returns
 unfolding ackRow
 returns c = λ q b h. rw h (search picks)
@@ -23,4 +17,4 @@ unfolding ackRow
 returns-3 c = λ q b h. rw h (search picks)
 
 pub ack-row-spec : {M : Type 1} → statement M
-ack-row-spec = tie.close (tie.spec cast-if1 sub-if1 returns returns-2 returns-3)
+ack-row-spec = tie.close (tie.spec (λ c. search needs) (λ c. search needs) returns returns-2 returns-3)

@@ -10,21 +10,6 @@ use Rattle.desk.proofs.answer.Tie as tie
 returns : tie.Need-returns
 returns c = let a = c .before .before .before .before .before .before .args in no-room (benchOf (now (a .a)) (now (a .b)) (now (a .log)) (now (a .count))) (now (a .line)) (now (a .out)) (c .if1 .taken)
 
-write-requires : tie.Need-write-requires
-write-requires c κs = search needs
-
-same-length : tie.Need-same-length
-same-length c = search needs
-
-same-length-2 : tie.Need-same-length-2
-same-length-2 c = search needs
-
-same-length-3 : tie.Need-same-length-3
-same-length-3 c = search needs
-
-same-length-4 : tie.Need-same-length-4
-same-length-4 c = search needs
-
 returns-2 : tie.Need-returns-2
 returns-2 c = let a = c .before .before .before .before .before .before .before .before .before .before .before .before .before .before .before .before .before .before .before .before .args in with-text (benchOf (now (a .a)) (now (a .b)) (now (a .log)) (now (a .count))) (now (a .line)) (now (a .out)) (omega (arith, c .before .before .before .before .before .before .before .before .before .before .before .before .before .before .if1 .left)) (c .before .before .before .before .before .before .before .before .write .ensures)
 
@@ -33,9 +18,9 @@ answer-spec =
     tie.close
     (tie.spec
     returns
-    write-requires
-    same-length
-    same-length-2
-    same-length-3
-    same-length-4
+    (λ c κs. search needs)
+    (λ c. search needs)
+    (λ c. search needs)
+    (λ c. search needs)
+    (λ c. search needs)
     returns-2)

@@ -11,38 +11,8 @@ use borrow.Author.Needs.{needs}
 use Rattle.desk.proofs.tell.Statement.{statement}
 use Rattle.desk.proofs.tell.Tie as tie
 
-store8-requires : tie.Need-store8-requires
-store8-requires c κs = search needs
-
-add-store8 : tie.Need-add-store8
-add-store8 c = search needs
-
-store8-requires-2 : tie.Need-store8-requires-2
-store8-requires-2 c κs = search needs
-
-add-stop : tie.Need-add-stop
-add-stop c = search needs
-
-sub-write-text : tie.Need-sub-write-text
-sub-write-text c = search needs
-
-part-write-text-start : tie.Need-part-write-text-start
-part-write-text-start c = search needs
-
-part-write-text-end : tie.Need-part-write-text-end
-part-write-text-end c = search needs
-
 slice-aggregate-write-text : tie.Need-slice-aggregate-write-text
 slice-aggregate-write-text c = let s = c .before .before .before .before .before .before .before .before .before .before .before .before .before .before .before in sym (length-take-le (s .args .r .sent) (now (s .args .frame)) (omega (arith, s .pre .1 .1 .1 .1 .1)))
-
-sub-write-text-2 : tie.Need-sub-write-text-2
-sub-write-text-2 c = search needs
-
-part-write-text-start-2 : tie.Need-part-write-text-start-2
-part-write-text-start-2 c = search needs
-
-part-write-text-end-2 : tie.Need-part-write-text-end-2
-part-write-text-end-2 c = search needs
 
 write-text-requires : tie.Need-write-text-requires
 write-text-requires c κs =
@@ -61,9 +31,6 @@ add-result c =
     let m = length-take (r .sent) (now (s .args .frame)) in
     omega (arith, c .before .before .write-text .ensures .count, text-short (toldIn r) block sent (omega (arith, l, s .pre .1 .1 .0)) (omega (arith, m, s .pre .1 .1 .1 .1 .0)))
 
-same-length : tie.Need-same-length
-same-length c = search needs
-
 returns : tie.Need-returns
 returns c =
     let s = c .before .before .before .before .before .before .before .before .before .before .before .before .before .before .before .before .before .before .before in
@@ -75,18 +42,18 @@ pub tell-spec : {M : Type 1} → statement M
 tell-spec =
     tie.close
     (tie.spec
-    store8-requires
-    add-store8
-    store8-requires-2
-    add-stop
-    sub-write-text
-    part-write-text-start
-    part-write-text-end
+    (λ c κs. search needs)
+    (λ c. search needs)
+    (λ c κs. search needs)
+    (λ c. search needs)
+    (λ c. search needs)
+    (λ c. search needs)
+    (λ c. search needs)
     slice-aggregate-write-text
-    sub-write-text-2
-    part-write-text-start-2
-    part-write-text-end-2
+    (λ c. search needs)
+    (λ c. search needs)
+    (λ c. search needs)
     write-text-requires
     add-result
-    same-length
+    (λ c. search needs)
     returns)

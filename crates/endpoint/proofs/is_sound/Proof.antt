@@ -19,19 +19,10 @@ numbers-hold : (c : tie.Else1) → Numbers (asked (c .before .before .before .be
 numbers-hold c =
     rw (c .before .before .wide32 .ensures .0) at (sym (c .before .numbers-ok .ensures)) ∙ not-false (c .before .numbers-ok .result) (c .if1 .left)
 
-wide32-requires : tie.Need-wide32-requires
-wide32-requires c κs = search needs
-
-numbers-ok-requires : tie.Need-numbers-ok-requires
-numbers-ok-requires c κs = search needs
-
 returns : tie.Need-returns
 returns c =
     let n = rw (c .before .before .wide32 .ensures .0) at (sym (c .before .numbers-ok .ensures)) ∙ not-true (c .before .numbers-ok .result) (c .if1 .taken) in
     sym (parts (asked (c .before .before .before .before .before)) ∙ rw n refl)
-
-wide-requires : tie.Need-wide-requires
-wide-requires c κs = search needs
 
 places-ok-requires : tie.Need-places-ok-requires
 places-ok-requires c κs =
@@ -47,9 +38,9 @@ pub is-sound-spec : {M : Type 1} → statement M
 is-sound-spec =
     tie.close
     (tie.spec
-    wide32-requires
-    numbers-ok-requires
+    (λ c κs. search needs)
+    (λ c κs. search needs)
     returns
-    wide-requires
+    (λ c κs. search needs)
     places-ok-requires
     returns-2)

@@ -4,12 +4,9 @@ use borrow.Author.Needs.{needs}
 use Rattle.hexline.proofs.length_ok.Statement.{statement}
 use Rattle.hexline.proofs.length_ok.Tie as tie
 
-mul-result : tie.Need-mul-result
-mul-result c = search needs
-
 returns : tie.Need-returns
 unfolding lengthOk inRange
 returns c = search needs
 
 pub length-ok-spec : {M : Type 1} → statement M
-length-ok-spec = tie.close (tie.spec mul-result returns)
+length-ok-spec = tie.close (tie.spec (λ c. search needs) returns)

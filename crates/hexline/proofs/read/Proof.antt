@@ -20,9 +20,6 @@ returns c =
     let o = now (c .before .before .before .args .out) in
     simp (lt-leb 78 (length o) (omega arith)) (refl, refl)
 
-length-ok-requires : tie.Need-length-ok-requires
-length-ok-requires c κs = search needs
-
 returns-2 : tie.Need-returns-2
 unfolding readInto first when outcome lineOf left
 returns-2 c =
@@ -30,9 +27,6 @@ returns-2 c =
     let o = now (a .out) in
     let n : lengthOk (length (now (a .line))) ≡ false = sym (c .before .length-ok .ensures) ∙ not-true (c .before .length-ok .result) (c .if2 .taken) in
     simp (le-leb 78 (length o) (omega arith), n) (refl, refl)
-
-all-digits-requires : tie.Need-all-digits-requires
-all-digits-requires c κs = search needs
 
 returns-3 : tie.Need-returns-3
 unfolding readInto first when outcome lineOf left
@@ -52,9 +46,6 @@ decode-requires c κs =
     let r = right-length (length (now (a .line))) e in
     (d, (r .even, omega (arith, r .most)))
 
-same-length : tie.Need-same-length
-same-length c = search needs
-
 returns-4 : tie.Need-returns-4
 unfolding readInto first when outcome lineOf left
 returns-4 c =
@@ -71,10 +62,10 @@ read-spec =
     tie.close
     (tie.spec
     returns
-    length-ok-requires
+    (λ c κs. search needs)
     returns-2
-    all-digits-requires
+    (λ c κs. search needs)
     returns-3
     decode-requires
-    same-length
+    (λ c. search needs)
     returns-4)

@@ -13,13 +13,10 @@ returns c =
     let e = value-low (c .before .args .c) (omega arith) in
     (sym e, omega (arith, known (c .before .args .c) (c .before .pre) .small))
 
-sub-result-2 : tie.Need-sub-result-2
-sub-result-2 c = search needs
-
 returns-2 : tie.Need-returns-2
 returns-2 c =
     let e = value-high (c .before .args .c) (omega arith) in
     (sym e, omega (arith, known (c .before .args .c) (c .before .pre) .small))
 
 pub to-value-spec : {M : Type 1} → statement M
-to-value-spec = tie.close (tie.spec sub-result returns sub-result-2 returns-2)
+to-value-spec = tie.close (tie.spec sub-result returns (λ c. search needs) returns-2)

@@ -10,9 +10,6 @@ use borrow.Author.Needs.{needs}
 use Rattle.hostrun.proofs.block_of.Statement.{statement}
 use Rattle.hostrun.proofs.block_of.Tie as tie
 
-slice-aggregate-result : tie.Need-slice-aggregate-result
-slice-aggregate-result c = search needs
-
 returns : tie.Need-returns
 unfolding blockPart
 returns c = rw (c .before .if1 .taken) refl
@@ -22,9 +19,6 @@ sub-up c = omega (arith, c .before .pre (c .if1 .left))
 
 part-up-start : tie.Need-part-up-start
 part-up-start c = omega (arith, c .before .pre (c .if1 .left))
-
-part-up-end : tie.Need-part-up-end
-part-up-end c = search needs
 
 -- what follows octet 14
 after-14 : (s : List ℕ) → take (length s - 14) (drop 14 s) ≡ drop 14 s
@@ -43,10 +37,10 @@ pub block-of-spec : {M : Type 1} → statement M
 block-of-spec =
     tie.close
     (tie.spec
-    slice-aggregate-result
+    (λ c. search needs)
     returns
     sub-up
     part-up-start
-    part-up-end
+    (λ c. search needs)
     slice-aggregate-result-2
     returns-2)

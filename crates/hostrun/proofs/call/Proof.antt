@@ -11,12 +11,6 @@ use borrow.Author.Needs.{needs}
 use Rattle.hostrun.proofs.call.Statement.{statement}
 use Rattle.hostrun.proofs.call.Tie as tie
 
-slice-aggregate-lend : tie.Need-slice-aggregate-lend
-slice-aggregate-lend c = search needs
-
-lend-requires : tie.Need-lend-requires
-lend-requires c κs = search needs
-
 -- the frame sent has room
 fits : (c : tie.After-frame2) → (length (c .before .lend .last .1 .1 .1 .0) ≡ 78) × (c .before .lend .result .sent ≤ 78)
 fits c = let l : length (c .before .lend .last .1 .1 .1 .0) ≡ 78 = search needs in (l, frame-fits _ _ _ (c .before .lend .ensures) l)
@@ -31,9 +25,6 @@ array-share-prefix-frame c = omega (arith, fits (c .before .before))
 
 slice-aggregate-write-text : tie.Need-slice-aggregate-write-text
 slice-aggregate-write-text c = sym (length-take-le _ _ (omega (arith, fits (c .before .before .before))))
-
-slice-aggregate-write-text-2 : tie.Need-slice-aggregate-write-text-2
-slice-aggregate-write-text-2 c = search needs
 
 write-text-requires : tie.Need-write-text-requires
 write-text-requires c κs =
@@ -55,9 +46,6 @@ array-share-prefix-text c = omega (arith, text-fits c)
 slice-aggregate-write-all : tie.Need-slice-aggregate-write-all
 slice-aggregate-write-all c = sym (length-take-le _ _ (omega (arith, text-fits (c .before))))
 
-write-all-requires : tie.Need-write-all-requires
-write-all-requires c κs = search needs
-
 returns : tie.Need-returns
 returns c = ap (λ (r : Answer). r .endpoint) (c .before .before .before .before .before .before .before .before .before .lend .ensures .answer)
 
@@ -65,14 +53,14 @@ pub call-spec : {M : Type 1} → statement M
 call-spec =
     tie.close
     (tie.spec
-    slice-aggregate-lend
-    lend-requires
+    (λ c. search needs)
+    (λ c κs. search needs)
     block-of-requires
     array-share-prefix-frame
     slice-aggregate-write-text
-    slice-aggregate-write-text-2
+    (λ c. search needs)
     write-text-requires
     array-share-prefix-text
     slice-aggregate-write-all
-    write-all-requires
+    (λ c κs. search needs)
     returns)

@@ -9,18 +9,6 @@ use borrow.Author.Needs.{needs}
 use Rattle.lines.proofs.keep.Statement.{statement}
 use Rattle.lines.proofs.keep.Tie as tie
 
-sub-room : tie.Need-sub-room
-sub-room c = search needs
-
-copy-requires : tie.Need-copy-requires
-copy-requires c κs = search needs
-
-add-result : tie.Need-add-result
-add-result c = search needs
-
-same-length : tie.Need-same-length
-same-length c = search needs
-
 returns : tie.Need-returns
 returns c = let a = c .before .before .before .before .before .before .before .args in (keeps-all (now (a .line)) (now (a .piece)) (a .n) (omega arith) (c .before .before .copy .ensures), omega arith)
 
@@ -30,12 +18,6 @@ slice-aggregate-copy c = sym (length-take-le _ _ (omega arith))
 copy-requires-2 : tie.Need-copy-requires-2
 copy-requires-2 c κs = let a = c .before .before .before .before .before .args in omega (arith, length-take-le (length (now (a .line)) - a .n) (now (a .piece)) (omega arith))
 
-add-result-2 : tie.Need-add-result-2
-add-result-2 c = search needs
-
-same-length-2 : tie.Need-same-length-2
-same-length-2 c = search needs
-
 returns-2 : tie.Need-returns-2
 returns-2 c = let a = c .before .before .before .before .before .before .before .before .args in (keeps-some (now (a .line)) (now (a .piece)) (a .n) (omega arith) (c .before .before .copy2 .ensures), omega arith)
 
@@ -43,13 +25,13 @@ pub keep-spec : {M : Type 1} → statement M
 keep-spec =
     tie.close
     (tie.spec
-    sub-room
-    copy-requires
-    add-result
-    same-length
+    (λ c. search needs)
+    (λ c κs. search needs)
+    (λ c. search needs)
+    (λ c. search needs)
     returns
     slice-aggregate-copy
     copy-requires-2
-    add-result-2
-    same-length-2
+    (λ c. search needs)
+    (λ c. search needs)
     returns-2)

@@ -14,41 +14,11 @@ waits : (c : tie.After-wide) → c .wide .result ≡ decode (now (c .before .bef
 unfolding decode
 waits c = c .wide .ensures .0 ∙ sym (field-one 17 (now (c .before .before .before .before .args .rec)) (omega arith))
 
-slice-read-wide : tie.Need-slice-read-wide
-slice-read-wide c = search needs
-
-wide-requires : tie.Need-wide-requires
-wide-requires c κs = search needs
-
-store-numbers-requires : tie.Need-store-numbers-requires
-store-numbers-requires c κs = search needs
-
-sub-change-lengths : tie.Need-sub-change-lengths
-sub-change-lengths c = search needs
-
-part-change-lengths-start : tie.Need-part-change-lengths-start
-part-change-lengths-start c = search needs
-
-part-change-lengths-end : tie.Need-part-change-lengths-end
-part-change-lengths-end c = search needs
-
 change-lengths-requires : tie.Need-change-lengths-requires
 change-lengths-requires c κs = let s = c .before .before .before .before .before .before .before .before .before .before in (search needs, rw (waits (c .before .before .before .before .before .before)) (s .pre .1))
 
-sub-change-blocks : tie.Need-sub-change-blocks
-sub-change-blocks c = search needs
-
-part-change-blocks-start : tie.Need-part-change-blocks-start
-part-change-blocks-start c = search needs
-
-part-change-blocks-end : tie.Need-part-change-blocks-end
-part-change-blocks-end c = search needs
-
 change-blocks-requires : tie.Need-change-blocks-requires
 change-blocks-requires c κs = let s = c .before .before .before .before .before .before .before .before .before .before .before .before .before .before in (search needs, rw (waits (c .before .before .before .before .before .before .before .before .before .before)) (s .pre .1))
-
-same-length : tie.Need-same-length
-same-length c = search needs
 
 returns : tie.Need-returns
 returns c =
@@ -60,16 +30,16 @@ pub carry-out-spec : {M : Type 1} → statement M
 carry-out-spec =
     tie.close
     (tie.spec
-    slice-read-wide
-    wide-requires
-    store-numbers-requires
-    sub-change-lengths
-    part-change-lengths-start
-    part-change-lengths-end
+    (λ c. search needs)
+    (λ c κs. search needs)
+    (λ c κs. search needs)
+    (λ c. search needs)
+    (λ c. search needs)
+    (λ c. search needs)
     change-lengths-requires
-    sub-change-blocks
-    part-change-blocks-start
-    part-change-blocks-end
+    (λ c. search needs)
+    (λ c. search needs)
+    (λ c. search needs)
     change-blocks-requires
-    same-length
+    (λ c. search needs)
     returns)

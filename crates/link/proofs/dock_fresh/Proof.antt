@@ -16,15 +16,6 @@ returns : tie.Need-returns
 unfolding freshIn first when outcome numberOf left
 returns c = rw (lt-leb 538 (length (now (c .before .before .args .rec))) (omega arith)) (refl, refl)
 
-fresh-requires : tie.Need-fresh-requires
-fresh-requires c κs = search needs
-
-encode-requires : tie.Need-encode-requires
-encode-requires c κs = search needs
-
-same-length : tie.Need-same-length
-same-length c = search needs
-
 returns-2 : tie.Need-returns-2
 unfolding freshIn first when outcome numberOf left
 returns-2 c =
@@ -32,4 +23,4 @@ returns-2 c =
     rw (le-leb 538 (length d) (omega arith)) (refl, c .before .before .encode .ensures ∙ ap (λ (e : Endpoint). put d 0 (encode e)) (c .before .before .before .before .fresh .ensures))
 
 pub dock-fresh-spec : {M : Type 1} → statement M
-dock-fresh-spec = tie.close (tie.spec returns fresh-requires encode-requires same-length returns-2)
+dock-fresh-spec = tie.close (tie.spec returns (λ c κs. search needs) (λ c κs. search needs) (λ c. search needs) returns-2)

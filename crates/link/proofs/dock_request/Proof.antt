@@ -22,15 +22,6 @@ octets c i = omega (arith, c .before .before .before .before .before .before .be
 returns : tie.Need-returns
 returns c = let a = c .before .before .before .before .args in lent-short (now (a .rec)) (request (now (a .s)) (now (a .out))) (omega arith)
 
-plan-request-requires : tie.Need-plan-request-requires
-plan-request-requires c κs = search needs
-
-same-length : tie.Need-same-length
-same-length c = search needs
-
-same-length-2 : tie.Need-same-length-2
-same-length-2 c = search needs
-
 returns-2 : tie.Need-returns-2
 unfolding requestOutcome
 returns-2 c =
@@ -45,12 +36,6 @@ carry-out-requires c κs =
     let p = c .before .before .before .before .before .before in
     (long p, fits (now (a .rec)) (long p) (request (now (a .s)) (now (a .out))) (p .plan-request .ensures) (c .before .if2 .left))
 
-same-length-3 : tie.Need-same-length-3
-same-length-3 c = search needs
-
-same-length-4 : tie.Need-same-length-4
-same-length-4 c = search needs
-
 returns-3 : tie.Need-returns-3
 unfolding requestOutcome
 returns-3 c =
@@ -63,11 +48,11 @@ dock-request-spec =
     tie.close
     (tie.spec
     returns
-    plan-request-requires
-    same-length
-    same-length-2
+    (λ c κs. search needs)
+    (λ c. search needs)
+    (λ c. search needs)
     returns-2
     carry-out-requires
-    same-length-3
-    same-length-4
+    (λ c. search needs)
+    (λ c. search needs)
     returns-3)

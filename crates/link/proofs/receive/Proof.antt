@@ -19,26 +19,11 @@ octets : (c : tie.After-plan-receive) → Octets (now (c .before .before .before
 unfolding Octets
 octets c i = omega (arith, c .before .before .before .before .before .before .before .slice-known .given i)
 
-slice-aggregate-result : tie.Need-slice-aggregate-result
-slice-aggregate-result c = search needs
-
 returns : tie.Need-returns
 returns c =
     let a = c .before .before .before .before .before .args in
     let q = receive (now (a .s)) (now (a .out)) in
     record { lent = lent-short (now (a .rec)) q (omega arith); is-block = short-none (now (a .rec)) q (omega arith) }
-
-plan-receive-requires : tie.Need-plan-receive-requires
-plan-receive-requires c κs = search needs
-
-slice-aggregate-result-2 : tie.Need-slice-aggregate-result-2
-slice-aggregate-result-2 c = search needs
-
-same-length : tie.Need-same-length
-same-length c = search needs
-
-same-length-2 : tie.Need-same-length-2
-same-length-2 c = search needs
 
 returns-2 : tie.Need-returns-2
 unfolding receiveOutcome
@@ -63,12 +48,6 @@ handed-up-requires c κs =
     let p = c .before .before .before .before .before .before .before .before .before in
     long-enough (now (a .rec)) (long p) (receive (now (a .s)) (now (a .out))) (p .plan-receive .ensures)
 
-same-length-3 : tie.Need-same-length-3
-same-length-3 c = search needs
-
-same-length-4 : tie.Need-same-length-4
-same-length-4 c = search needs
-
 returns-3 : tie.Need-returns-3
 unfolding receiveOutcome
 returns-3 c =
@@ -86,15 +65,15 @@ pub receive-spec : {M : Type 1} → statement M
 receive-spec =
     tie.close
     (tie.spec
-    slice-aggregate-result
+    (λ c. search needs)
     returns
-    plan-receive-requires
-    slice-aggregate-result-2
-    same-length
-    same-length-2
+    (λ c κs. search needs)
+    (λ c. search needs)
+    (λ c. search needs)
+    (λ c. search needs)
     returns-2
     carry-out-requires
     handed-up-requires
-    same-length-3
-    same-length-4
+    (λ c. search needs)
+    (λ c. search needs)
     returns-3)

@@ -11,21 +11,6 @@ use Rattle.logbook.proofs.holds.Tie as tie
 returns : tie.Need-returns
 returns c = let a = c .before .args in too-high (a .count) (a .n) (now (a .log)) (omega arith)
 
-mul-at : tie.Need-mul-at
-mul-at c = search needs
-
-add-length : tie.Need-add-length
-add-length c = search needs
-
-shared-slice-read-length : tie.Need-shared-slice-read-length
-shared-slice-read-length c = search needs
-
-shared-slice-read-result : tie.Need-shared-slice-read-result
-shared-slice-read-result c = search needs
-
-cast-result : tie.Need-cast-result
-cast-result c = search needs
-
 returns-2 : tie.Need-returns-2
 unfolding holds senderAt lengthAt inRange
 returns-2 c = let a = c .before .before .before .args in rw (lt-ltb (a .n) (a .count) (omega arith)) (cc)
@@ -35,9 +20,9 @@ holds-spec =
     tie.close
     (tie.spec
     returns
-    mul-at
-    add-length
-    shared-slice-read-length
-    shared-slice-read-result
-    cast-result
+    (λ c. search needs)
+    (λ c. search needs)
+    (λ c. search needs)
+    (λ c. search needs)
+    (λ c. search needs)
     returns-2)

@@ -8,17 +8,8 @@ use Rattle.machine.proofs.carry_out.Tie as tie
 lens : (c : tie.Start) → (length (c .args .e .lengths) ≡ 8) × (length (c .args .e .blocks) ≡ 512)
 lens c = (search needs, search needs)
 
-wide-requires : tie.Need-wide-requires
-wide-requires c κs = search needs
-
-slice-aggregate-change-lengths : tie.Need-slice-aggregate-change-lengths
-slice-aggregate-change-lengths c = search needs
-
 change-lengths-requires : tie.Need-change-lengths-requires
 change-lengths-requires c κs = let s = c .before .before .before .before in rw (c .before .before .wide .ensures .0) (lens s .0, (s .pre .0, s .pre .1))
-
-slice-aggregate-change-blocks : tie.Need-slice-aggregate-change-blocks
-slice-aggregate-change-blocks c = search needs
 
 change-blocks-requires : tie.Need-change-blocks-requires
 change-blocks-requires c κs = let s = c .before .before .before .before .before .before .before .before in rw (c .before .before .before .before .before .before .wide .ensures .0) (lens s .1, (s .pre .0, s .pre .1))
@@ -36,9 +27,9 @@ pub carry-out-spec : {M : Type 1} → statement M
 carry-out-spec =
     tie.close
     (tie.spec
-    wide-requires
-    slice-aggregate-change-lengths
+    (λ c κs. search needs)
+    (λ c. search needs)
     change-lengths-requires
-    slice-aggregate-change-blocks
+    (λ c. search needs)
     change-blocks-requires
     returns)

@@ -6,21 +6,12 @@ use borrow.Author.Needs.{needs}
 use Rattle.machine.proofs.receive.Statement.{statement}
 use Rattle.machine.proofs.receive.Tie as tie
 
-numbers-of-requires : tie.Need-numbers-of-requires
-numbers-of-requires c κs = search needs
-
-plan-receive-requires : tie.Need-plan-receive-requires
-plan-receive-requires c κs = search needs
-
 finish-requires : tie.Need-finish-requires
 unfolding receiveOutcome
 finish-requires c κs =
     let s = c .before .before .before .before .before .before .before .before .before .before .before .before .before in
     finishes (s .args .t1) (search needs) (search needs) (calls.receive (now (s .args .s)) (now (s .args .out)))
     (rw (c .before .before .before .before .before .before .before .before .before .before .numbers-of .ensures) at (c .before .before .plan-receive .ensures))
-
-same-length : tie.Need-same-length
-same-length c = search needs
 
 returns : tie.Need-returns
 unfolding receiveOutcome
@@ -32,4 +23,4 @@ returns c =
 pub receive-spec : {M : Type 1} → statement M
 receive-spec =
     tie.close
-    (tie.spec numbers-of-requires plan-receive-requires finish-requires same-length returns)
+    (tie.spec (λ c κs. search needs) (λ c κs. search needs) finish-requires (λ c. search needs) returns)

@@ -6,21 +6,12 @@ use borrow.Author.Needs.{needs}
 use Rattle.machine.proofs.request.Statement.{statement}
 use Rattle.machine.proofs.request.Tie as tie
 
-numbers-of-requires : tie.Need-numbers-of-requires
-numbers-of-requires c κs = search needs
-
-plan-request-requires : tie.Need-plan-request-requires
-plan-request-requires c κs = search needs
-
 finish-requires : tie.Need-finish-requires
 unfolding requestOutcome
 finish-requires c κs =
     let s = c .before .before .before .before .before .before .before .before .before .before .before .before .before in
     finishes (s .args .t1) (search needs) (search needs) (calls.request (now (s .args .s)) (now (s .args .out)))
     (rw (c .before .before .before .before .before .before .before .before .before .before .numbers-of .ensures) at (c .before .before .plan-request .ensures))
-
-same-length : tie.Need-same-length
-same-length c = search needs
 
 returns : tie.Need-returns
 unfolding requestOutcome
@@ -32,4 +23,4 @@ returns c =
 pub request-spec : {M : Type 1} → statement M
 request-spec =
     tie.close
-    (tie.spec numbers-of-requires plan-request-requires finish-requires same-length returns)
+    (tie.spec (λ c κs. search needs) (λ c κs. search needs) finish-requires (λ c. search needs) returns)

@@ -10,15 +10,9 @@ returns : tie.Need-returns
 unfolding blockPlace
 returns c = sym (eq-yes _ _ _ _ (c .if1 .taken))
 
-mul-result : tie.Need-mul-result
-mul-result c = search needs
-
-add-result : tie.Need-add-result
-add-result c = search needs
-
 returns-2 : tie.Need-returns-2
 unfolding blockPlace blockAt
 returns-2 c = sym (eq-no _ _ _ _ (c .if1 .left))
 
 pub block-place-spec : {M : Type 1} → statement M
-block-place-spec = tie.close (tie.spec returns mul-result add-result returns-2)
+block-place-spec = tie.close (tie.spec returns (λ c. search needs) (λ c. search needs) returns-2)

@@ -10,24 +10,9 @@ use borrow.Author.Needs.{needs}
 use Rattle.moves.proofs.deliver_at.Statement.{statement}
 use Rattle.moves.proofs.deliver_at.Tie as tie
 
-frame-of-requires : tie.Need-frame-of-requires
-frame-of-requires c κs = search needs
-
-move-end-requires : tie.Need-move-end-requires
-move-end-requires c κs = search needs
-
 finish-requires : tie.Need-finish-requires
 unfolding callAs when
 finish-requires c κs = let s = c .before .before .before .before .before .before .before .before .before .before .before .before .before .before in let l = loggable (s .args .end) (now (s .args .rec)) (now (s .args .log)) (s .args .count) 0 (calls.receive (frameAt (s .args .n) (now (s .args .log))) (now (s .args .out))) (rw (c .before .before .before .before .before .before .before .before .frame-of .ensures) at (c .before .before .before .before .before .before .move-end .ensures)) (s .pre .0) (search needs) in (search needs, (search needs, l))
-
-same-length : tie.Need-same-length
-same-length c = search needs
-
-same-length-2 : tie.Need-same-length-2
-same-length-2 c = search needs
-
-same-length-3 : tie.Need-same-length-3
-same-length-3 c = search needs
 
 returns : tie.Need-returns
 unfolding callAs when
@@ -43,10 +28,10 @@ pub deliver-at-spec : {M : Type 1} → statement M
 deliver-at-spec =
     tie.close
     (tie.spec
-    frame-of-requires
-    move-end-requires
+    (λ c κs. search needs)
+    (λ c κs. search needs)
     finish-requires
-    same-length
-    same-length-2
-    same-length-3
+    (λ c. search needs)
+    (λ c. search needs)
+    (λ c. search needs)
     returns)

@@ -15,12 +15,6 @@ slice-aggregate-note c = let s = c .before .before .before .before in sym (lengt
 note-requires : tie.Need-note-requires
 note-requires c κs = let s = c .before .before .before .before in let l = length-take-le (s .args .m .sent) (now (s .args .out)) (omega (arith, s .pre .1 .1 .0)) in (s .pre .0, (omega (arith, l, s .pre .1 .1 .1 .0), λ z. s .pre .1 .1 .1 .1 (λ y. z (l ∙ y))))
 
-block-place-requires : tie.Need-block-place-requires
-block-place-requires c κs = search needs
-
-same-length : tie.Need-same-length
-same-length c = search needs
-
 returns : tie.Need-returns
 returns c =
     let s = c .before .before .before .before .before .before .before .before in
@@ -30,4 +24,4 @@ returns c =
 pub finish-spec : {M : Type 1} → statement M
 finish-spec =
     tie.close
-    (tie.spec slice-aggregate-note note-requires block-place-requires same-length returns)
+    (tie.spec slice-aggregate-note note-requires (λ c κs. search needs) (λ c. search needs) returns)

@@ -17,12 +17,9 @@ enter-requires c κs = let s = c .before .before .before .before in (s .pre .0, 
 add-result : tie.Need-add-result
 add-result c = omega (arith, c .before .before .before .before .before .before .before .pre .1 .1 (c .before .before .before .before .if1 .left))
 
-same-length : tie.Need-same-length
-same-length c = search needs
-
 returns-2 : tie.Need-returns-2
 unfolding noted notedCount
 returns-2 c = (sym (eq-no _ _ _ _ (c .before .before .before .before .if1 .left)), c .before .before .enter .ensures ∙ sym (eq-no _ _ _ _ (c .before .before .before .before .if1 .left)))
 
 pub note-spec : {M : Type 1} → statement M
-note-spec = tie.close (tie.spec returns enter-requires add-result same-length returns-2)
+note-spec = tie.close (tie.spec returns enter-requires add-result (λ c. search needs) returns-2)

@@ -10,18 +10,9 @@ use Rattle.moves.proofs.refuse.Tie as tie
 returns : tie.Need-returns
 returns c = let a = c .before .before .args in refused-short (now (a .rec)) (a .number) (c .if1 .taken)
 
-shared-slice-read-t6 : tie.Need-shared-slice-read-t6
-shared-slice-read-t6 c = search needs
-
-load32-requires : tie.Need-load32-requires
-load32-requires c κs = search needs
-
-load32-requires-2 : tie.Need-load32-requires-2
-load32-requires-2 c κs = search needs
-
 returns-2 : tie.Need-returns-2
 returns-2 c = let a = c .before .before .before .before .before .args in refused-moved (now (a .rec)) (a .number) (omega (arith, c .before .before .before .if1 .left)) refl (c .before .load32 .ensures) (c .load322 .ensures)
 
 pub refuse-spec : {M : Type 1} → statement M
 refuse-spec =
-    tie.close (tie.spec returns shared-slice-read-t6 load32-requires load32-requires-2 returns-2)
+    tie.close (tie.spec returns (λ c. search needs) (λ c κs. search needs) (λ c κs. search needs) returns-2)

@@ -8,21 +8,9 @@ use borrow.Author.Needs.{needs}
 use Rattle.moves.proofs.request_at.Statement.{statement}
 use Rattle.moves.proofs.request_at.Tie as tie
 
-move-end-requires : tie.Need-move-end-requires
-move-end-requires c κs = search needs
-
 finish-requires : tie.Need-finish-requires
 unfolding callAs when
 finish-requires c κs = let s = c .before .before .before .before .before .before .before .before .before .before .before .before .before in let l = loggable (s .args .end) (now (s .args .rec)) (now (s .args .log)) (s .args .count) 0 (calls.request (now (s .args .s)) (now (s .args .out))) (c .before .before .before .before .before .before .move-end .ensures) (s .pre .0) (search needs) in (search needs, (search needs, l))
-
-same-length : tie.Need-same-length
-same-length c = search needs
-
-same-length-2 : tie.Need-same-length-2
-same-length-2 c = search needs
-
-same-length-3 : tie.Need-same-length-3
-same-length-3 c = search needs
 
 returns : tie.Need-returns
 unfolding callAs when
@@ -38,4 +26,4 @@ returns c n =
 pub request-at-spec : {M : Type 1} → statement M
 request-at-spec =
     tie.close
-    (tie.spec move-end-requires finish-requires same-length same-length-2 same-length-3 returns)
+    (tie.spec (λ c κs. search needs) finish-requires (λ c. search needs) (λ c. search needs) (λ c. search needs) returns)

@@ -11,18 +11,6 @@ use borrow.Author.Needs.{needs}
 use Rattle.orders.proofs.deliver.Statement.{statement}
 use Rattle.orders.proofs.deliver.Tie as tie
 
-holds-requires : tie.Need-holds-requires
-holds-requires c κs = search needs
-
-refuse-requires : tie.Need-refuse-requires
-refuse-requires c κs = search needs
-
-same-length : tie.Need-same-length
-same-length c = search needs
-
-same-length-2 : tie.Need-same-length-2
-same-length-2 c = search needs
-
 returns : tie.Need-returns
 returns c = let a = c .before .before .before .before .before .before .before .before .before .args in declines (now (a .a)) (now (a .b)) (now (a .log)) (a .count) (a .n) 13 (now (a .out)) (no-frame (now (a .a)) (now (a .b)) (now (a .log)) (a .count) (a .n) (now (a .out)) (sym (c .before .before .before .holds .ensures) ∙ not-true (c .before .before .before .holds .result) (c .before .before .if1 .taken))) (c .refuse .ensures (a .n))
 
@@ -32,29 +20,11 @@ sender-of-requires c κs = let s = c .before .before .before .before .before .be
 deliver-at-requires : tie.Need-deliver-at-requires
 deliver-at-requires c κs = let s = c .before .before .before .before .before .before .before .before .before .before .before .before .before in let a = s .args in let h = held (a .count) (a .n) (now (a .log)) (sym (c .before .before .before .before .before .before .before .holds .ensures) ∙ not-false (c .before .before .before .before .before .before .before .holds .result) (c .before .before .before .before .before .before .if1 .left)) in omega (arith, h .below, h .short, s .pre)
 
-same-length-3 : tie.Need-same-length-3
-same-length-3 c = search needs
-
-same-length-4 : tie.Need-same-length-4
-same-length-4 c = search needs
-
-same-length-5 : tie.Need-same-length-5
-same-length-5 c = search needs
-
 returns-2 : tie.Need-returns-2
 returns-2 c = let a = c .before .before .before .before .before .before .before .before .before .before .before .before .before .before .before .before .before .before .before .before .args in let h = sym (c .before .before .before .before .before .before .before .before .before .before .before .before .before .before .holds .ensures) ∙ not-false (c .before .before .before .before .before .before .before .before .before .before .before .before .before .before .holds .result) (c .before .before .before .before .before .before .before .before .before .before .before .before .before .if1 .left) in at-b (now (a .a)) (now (a .b)) (now (a .log)) (a .count) (a .n) (calls.receive (frameAt (a .n) (now (a .log))) (now (a .out))) (now (a .out)) (to-b (now (a .a)) (now (a .b)) (now (a .log)) (a .count) (a .n) (now (a .out)) h (sym (c .before .before .before .before .before .before .before .before .before .before .before .sender-of .ensures) ∙ c .before .before .before .before .before .before .before .before .before .before .if2 .taken)) (c .before .before .before .before .before .before .deliver-at .ensures)
 
 deliver-at-requires-2 : tie.Need-deliver-at-requires-2
 deliver-at-requires-2 c κs = let s = c .before .before .before .before .before .before .before .before .before .before .before .before .before in let a = s .args in let h = held (a .count) (a .n) (now (a .log)) (sym (c .before .before .before .before .before .before .before .holds .ensures) ∙ not-false (c .before .before .before .before .before .before .before .holds .result) (c .before .before .before .before .before .before .if1 .left)) in omega (arith, h .below, h .short, s .pre)
-
-same-length-6 : tie.Need-same-length-6
-same-length-6 c = search needs
-
-same-length-7 : tie.Need-same-length-7
-same-length-7 c = search needs
-
-same-length-8 : tie.Need-same-length-8
-same-length-8 c = search needs
 
 returns-3 : tie.Need-returns-3
 returns-3 c = let a = c .before .before .before .before .before .before .before .before .before .before .before .before .before .before .before .before .before .before .before .before .args in let h = sym (c .before .before .before .before .before .before .before .before .before .before .before .before .before .before .holds .ensures) ∙ not-false (c .before .before .before .before .before .before .before .before .before .before .before .before .before .before .holds .result) (c .before .before .before .before .before .before .before .before .before .before .before .before .before .if1 .left) in at-a (now (a .a)) (now (a .b)) (now (a .log)) (a .count) (a .n) (calls.receive (frameAt (a .n) (now (a .log))) (now (a .out))) (now (a .out)) (to-a (now (a .a)) (now (a .b)) (now (a .log)) (a .count) (a .n) (now (a .out)) h (λ z. c .before .before .before .before .before .before .before .before .before .before .if2 .left (c .before .before .before .before .before .before .before .before .before .before .before .sender-of .ensures ∙ z))) (c .before .before .before .before .before .before .deliver-at2 .ensures)
@@ -63,19 +33,19 @@ pub deliver-spec : {M : Type 1} → statement M
 deliver-spec =
     tie.close
     (tie.spec
-    holds-requires
-    refuse-requires
-    same-length
-    same-length-2
+    (λ c κs. search needs)
+    (λ c κs. search needs)
+    (λ c. search needs)
+    (λ c. search needs)
     returns
     sender-of-requires
     deliver-at-requires
-    same-length-3
-    same-length-4
-    same-length-5
+    (λ c. search needs)
+    (λ c. search needs)
+    (λ c. search needs)
     returns-2
     deliver-at-requires-2
-    same-length-6
-    same-length-7
-    same-length-8
+    (λ c. search needs)
+    (λ c. search needs)
+    (λ c. search needs)
     returns-3)

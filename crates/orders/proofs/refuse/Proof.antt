@@ -4,11 +4,8 @@ use borrow.Author.Needs.{needs}
 use Rattle.orders.proofs.refuse.Statement.{statement}
 use Rattle.orders.proofs.refuse.Tie as tie
 
-refuse-requires : tie.Need-refuse-requires
-refuse-requires c κs = search needs
-
 returns : tie.Need-returns
 returns c n = let a = c .before .before .args in told (now (a .a)) (a .number) (a .count) n (c .refuse .ensures)
 
 pub refuse-spec : {M : Type 1} → statement M
-refuse-spec = tie.close (tie.spec refuse-requires returns)
+refuse-spec = tie.close (tie.spec (λ c κs. search needs) returns)

@@ -10,9 +10,6 @@ use borrow.Author.Needs.{needs}
 use Rattle.plan.proofs.handed_up.Statement.{statement}
 use Rattle.plan.proofs.handed_up.Tie as tie
 
-slice-aggregate-result : tie.Need-slice-aggregate-result
-slice-aggregate-result c = search needs
-
 returns : tie.Need-returns
 unfolding blockBy
 returns c = sym (eq-no _ _ _ _ (c .before .if1 .taken))
@@ -22,9 +19,6 @@ sub-result c = omega (arith, c .before .pre (c .if1 .left))
 
 part-result-start : tie.Need-part-result-start
 part-result-start c = omega (arith, c .before .pre (c .if1 .left))
-
-part-result-end : tie.Need-part-result-end
-part-result-end c = search needs
 
 returns-2 : tie.Need-returns-2
 unfolding blockBy
@@ -36,9 +30,9 @@ pub handed-up-spec : {M : Type 1} → statement M
 handed-up-spec =
     tie.close
     (tie.spec
-    slice-aggregate-result
+    (λ c. search needs)
     returns
     sub-result
     part-result-start
-    part-result-end
+    (λ c. search needs)
     returns-2)

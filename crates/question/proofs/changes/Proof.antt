@@ -10,9 +10,6 @@ use Rattle.question.proofs.Plans.{valuesOf, enough-accepted, refuses, t
 use Rattle.question.proofs.changes.Statement.{statement}
 use Rattle.question.proofs.changes.Tie as tie
 
-load-numbers-requires : tie.Need-load-numbers-requires
-load-numbers-requires c κs = search needs
-
 receive-requires : tie.Need-receive-requires
 receive-requires c κs =
     let s = c .before .before .before in
@@ -24,17 +21,11 @@ returns c =
     refuses (now (s .args .rec)) (s .pre .0) (s .pre .1) (now (s .args .s)) (s .args .count) (c .before .before .before .load-numbers .ensures) (c .before .before .receive .ensures)
     (c .if1 .taken)
 
-has-place-requires : tie.Need-has-place-requires
-has-place-requires c κs = search needs
-
 returns-2 : tie.Need-returns-2
 returns-2 c =
     let s = c .before .before .before .before .before .before .before .before in
     too-full (now (s .args .rec)) (s .pre .0) (s .pre .1) (now (s .args .s)) (s .args .count) (c .before .before .before .before .before .load-numbers .ensures) (c .before .before .before .before .receive .ensures)
     (sym (c .before .has-place .ensures) ∙ not-true (c .before .has-place .result) (c .if2 .taken))
-
-same-requires : tie.Need-same-requires
-same-requires c κs = search needs
 
 -- the numbers of the plan have their widths
 fits : (c : tie.After-same) → Fit numbersLayout (valuesOf (c .before .before .before .before .before .before .receive .result .numbers))
@@ -62,10 +53,10 @@ pub changes-spec : {M : Type 1} → statement M
 changes-spec =
     tie.close
     (tie.spec
-    load-numbers-requires
+    (λ c κs. search needs)
     receive-requires
     returns
-    has-place-requires
+    (λ c κs. search needs)
     returns-2
-    same-requires
+    (λ c κs. search needs)
     returns-3)

@@ -4,17 +4,8 @@ use Rattle.question.specs.Found.{numberIn, frameIn}
 use Rattle.question.proofs.dock_some_frame.Statement.{statement}
 use Rattle.question.proofs.dock_some_frame.Tie as tie
 
-some-frame-requires : tie.Need-some-frame-requires
-some-frame-requires c κs = search needs
-
-enum-known-found : tie.Need-enum-known-found
-enum-known-found c = search needs
-
 enum-told : tie.Need-enum-told
 enum-told c = search needs
-
-enum-known-found-2 : tie.Need-enum-known-found-2
-enum-known-found-2 c = search needs
 
 returns : tie.Need-returns
 unfolding numberIn frameIn
@@ -41,10 +32,10 @@ pub dock-some-frame-spec : {M : Type 1} → statement M
 dock-some-frame-spec =
     tie.close
     (tie.spec
-    some-frame-requires
-    enum-known-found
+    (λ c κs. search needs)
+    (λ c. search needs)
     enum-told
-    enum-known-found-2
+    (λ c. search needs)
     returns
     returns-2
     returns-3)

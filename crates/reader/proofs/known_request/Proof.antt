@@ -22,9 +22,6 @@ read-send-requires : tie.Need-read-send-requires
 unfolding kindOf
 read-send-requires c κs = omega arith
 
-returns : tie.Need-returns
-returns c = search needs
-
 returns-2 : tie.Need-returns-2
 unfolding requestRead when kindOf
 returns-2 c =
@@ -78,7 +75,7 @@ known-request-spec =
     (tie.spec
     shared-slice-read-kind
     read-send-requires
-    returns
+    (λ c. search needs)
     returns-2
     returns-3
     returns-4

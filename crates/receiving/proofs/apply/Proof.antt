@@ -49,116 +49,14 @@ module _ (c : tie.Start) where
 enum-told : tie.Need-enum-told
 enum-told c = search needs
 
-keep-requires : tie.Need-keep-requires
-keep-requires c κs = search needs
-
-enum-told-2 : tie.Need-enum-told-2
-enum-told-2 c = search needs
-
-keep-requires-2 : tie.Need-keep-requires-2
-keep-requires-2 c κs = search needs
-
-enum-told-3 : tie.Need-enum-told-3
-enum-told-3 c = search needs
-
-keep-requires-3 : tie.Need-keep-requires-3
-keep-requires-3 c κs = search needs
-
-enum-told-4 : tie.Need-enum-told-4
-enum-told-4 c = search needs
-
-turn-requires : tie.Need-turn-requires
-turn-requires c κs = search needs
-
-enum-told-5 : tie.Need-enum-told-5
-enum-told-5 c = search needs
-
-keep-requires-4 : tie.Need-keep-requires-4
-keep-requires-4 c κs = search needs
-
-enum-told-6 : tie.Need-enum-told-6
-enum-told-6 c = search needs
-
-turn-requires-2 : tie.Need-turn-requires-2
-turn-requires-2 c κs = search needs
-
-enum-told-7 : tie.Need-enum-told-7
-enum-told-7 c = search needs
-
-turn-requires-3 : tie.Need-turn-requires-3
-turn-requires-3 c κs = search needs
-
-enum-told-8 : tie.Need-enum-told-8
-enum-told-8 c = search needs
-
-turn-requires-4 : tie.Need-turn-requires-4
-turn-requires-4 c κs = search needs
-
-enum-told-9 : tie.Need-enum-told-9
-enum-told-9 c = search needs
-
-turn-requires-5 : tie.Need-turn-requires-5
-turn-requires-5 c κs = search needs
-
-enum-told-10 : tie.Need-enum-told-10
-enum-told-10 c = search needs
-
-turn-requires-6 : tie.Need-turn-requires-6
-turn-requires-6 c κs = search needs
-
-enum-told-11 : tie.Need-enum-told-11
-enum-told-11 c = search needs
-
-turn-requires-7 : tie.Need-turn-requires-7
-turn-requires-7 c κs = search needs
-
-enum-told-12 : tie.Need-enum-told-12
-enum-told-12 c = search needs
-
-turn-requires-8 : tie.Need-turn-requires-8
-turn-requires-8 c κs = search needs
-
-enum-told-13 : tie.Need-enum-told-13
-enum-told-13 c = search needs
-
-keep-requires-5 : tie.Need-keep-requires-5
-keep-requires-5 c κs = search needs
-
-enum-told-14 : tie.Need-enum-told-14
-enum-told-14 c = search needs
-
 add-count : tie.Need-add-count
 add-count c = omega (arith, found-hand-up (c .before .before .before) (c .before .enum-told14 .given .1))
 
 deliver-requires : tie.Need-deliver-requires
 deliver-requires c κs = omega (arith, found-hand-up (c .before .before .before) (c .before .enum-told14 .given .1))
 
-keep-requires-6 : tie.Need-keep-requires-6
-keep-requires-6 c κs = search needs
-
-enum-told-15 : tie.Need-enum-told-15
-enum-told-15 c = search needs
-
-keep-requires-7 : tie.Need-keep-requires-7
-keep-requires-7 c κs = search needs
-
-enum-told-16 : tie.Need-enum-told-16
-enum-told-16 c = search needs
-
 release-requires : tie.Need-release-requires
 release-requires c κs = let s = c .before .before in (s .pre .0, found-release s (c .enum-told16 .given .1))
-
-enum-told-17 : tie.Need-enum-told-17
-enum-told-17 c = search needs
-
-turn-requires-9 : tie.Need-turn-requires-9
-turn-requires-9 c κs = search needs
-
-enum-told-18 : tie.Need-enum-told-18
-enum-told-18 c = search needs
-
-turn-requires-10 : tie.Need-turn-requires-10
-turn-requires-10 c κs = search needs
 
 returns : tie.Need-returns
 unfolding apply notice sentBy frameOf
@@ -291,43 +189,43 @@ apply-spec =
     tie.close
     (tie.spec
     enum-told
-    keep-requires
-    enum-told-2
-    keep-requires-2
-    enum-told-3
-    keep-requires-3
-    enum-told-4
-    turn-requires
-    enum-told-5
-    keep-requires-4
-    enum-told-6
-    turn-requires-2
-    enum-told-7
-    turn-requires-3
-    enum-told-8
-    turn-requires-4
-    enum-told-9
-    turn-requires-5
-    enum-told-10
-    turn-requires-6
-    enum-told-11
-    turn-requires-7
-    enum-told-12
-    turn-requires-8
-    enum-told-13
-    keep-requires-5
-    enum-told-14
+    (λ c κs. search needs)
+    (λ c. search needs)
+    (λ c κs. search needs)
+    (λ c. search needs)
+    (λ c κs. search needs)
+    (λ c. search needs)
+    (λ c κs. search needs)
+    (λ c. search needs)
+    (λ c κs. search needs)
+    (λ c. search needs)
+    (λ c κs. search needs)
+    (λ c. search needs)
+    (λ c κs. search needs)
+    (λ c. search needs)
+    (λ c κs. search needs)
+    (λ c. search needs)
+    (λ c κs. search needs)
+    (λ c. search needs)
+    (λ c κs. search needs)
+    (λ c. search needs)
+    (λ c κs. search needs)
+    (λ c. search needs)
+    (λ c κs. search needs)
+    (λ c. search needs)
+    (λ c κs. search needs)
+    (λ c. search needs)
     add-count
     deliver-requires
-    keep-requires-6
-    enum-told-15
-    keep-requires-7
-    enum-told-16
+    (λ c κs. search needs)
+    (λ c. search needs)
+    (λ c κs. search needs)
+    (λ c. search needs)
     release-requires
-    enum-told-17
-    turn-requires-9
-    enum-told-18
-    turn-requires-10
+    (λ c. search needs)
+    (λ c κs. search needs)
+    (λ c. search needs)
+    (λ c κs. search needs)
     returns
     returns-2
     returns-3

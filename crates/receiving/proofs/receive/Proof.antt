@@ -13,30 +13,12 @@ use borrow.Author.Needs.{needs}
 use Rattle.receiving.proofs.receive.Statement.{statement}
 use Rattle.receiving.proofs.receive.Tie as tie
 
-read-frame-requires : tie.Need-read-frame-requires
-read-frame-requires c κs = search needs
-
-enum-known-read : tie.Need-enum-known-read
-enum-known-read c = search needs
-
-values-of-requires : tie.Need-values-of-requires
-values-of-requires c κs = search needs
-
-choose-requires : tie.Need-choose-requires
-choose-requires c κs = search needs
-
 apply-requires : tie.Need-apply-requires
 unfolding frameRead valuesOf
 apply-requires c κs =
     let s = now (c .before .before .before .before .before .before .before .args .s) in
     let k = sym (c .before .before .before .before .before .read-frame .ensures) ∙ ap (λ (x : FrameRead). frameRead x s) (c .before .before .before .read .given .1) in
     (c .before .before .before .before .before .before .before .pre, (rw (c .before .values-of .ensures (drop 14 s)) (data-limit s k), c .choose .ensures))
-
-enum-known-read-2 : tie.Need-enum-known-read-2
-enum-known-read-2 c = search needs
-
-refuse-requires : tie.Need-refuse-requires
-refuse-requires c κs = search needs
 
 returns : tie.Need-returns
 unfolding frameRead valuesOf heard andThen mapped perform step
@@ -58,12 +40,12 @@ pub receive-spec : {M : Type 1} → statement M
 receive-spec =
     tie.close
     (tie.spec
-    read-frame-requires
-    enum-known-read
-    values-of-requires
-    choose-requires
+    (λ c κs. search needs)
+    (λ c. search needs)
+    (λ c κs. search needs)
+    (λ c κs. search needs)
     apply-requires
-    enum-known-read-2
-    refuse-requires
+    (λ c. search needs)
+    (λ c κs. search needs)
     returns
     returns-2)

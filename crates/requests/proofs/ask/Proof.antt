@@ -10,39 +10,6 @@ use Rattle.requests.proofs.ask.Tie as tie
 enum-told : tie.Need-enum-told
 enum-told c = search needs
 
-connect-requires : tie.Need-connect-requires
-connect-requires c κs = search needs
-
-enum-told-2 : tie.Need-enum-told-2
-enum-told-2 c = search needs
-
-listen-requires : tie.Need-listen-requires
-listen-requires c κs = search needs
-
-enum-told-3 : tie.Need-enum-told-3
-enum-told-3 c = search needs
-
-end-listening-requires : tie.Need-end-listening-requires
-end-listening-requires c κs = search needs
-
-enum-told-4 : tie.Need-enum-told-4
-enum-told-4 c = search needs
-
-close-requires : tie.Need-close-requires
-close-requires c κs = search needs
-
-enum-told-5 : tie.Need-enum-told-5
-enum-told-5 c = search needs
-
-send-requires : tie.Need-send-requires
-send-requires c κs = search needs
-
-enum-told-6 : tie.Need-enum-told-6
-enum-told-6 c = search needs
-
-timer-requires : tie.Need-timer-requires
-timer-requires c κs = search needs
-
 returns : tie.Need-returns
 unfolding requestOf
 returns c = λ b _. rw (c .before .enum-told .given .1) (c .connect .ensures b)
@@ -72,17 +39,17 @@ ask-spec =
     tie.close
     (tie.spec
     enum-told
-    connect-requires
-    enum-told-2
-    listen-requires
-    enum-told-3
-    end-listening-requires
-    enum-told-4
-    close-requires
-    enum-told-5
-    send-requires
-    enum-told-6
-    timer-requires
+    (λ c κs. search needs)
+    (λ c. search needs)
+    (λ c κs. search needs)
+    (λ c. search needs)
+    (λ c κs. search needs)
+    (λ c. search needs)
+    (λ c κs. search needs)
+    (λ c. search needs)
+    (λ c κs. search needs)
+    (λ c. search needs)
+    (λ c κs. search needs)
     returns
     returns-2
     returns-3

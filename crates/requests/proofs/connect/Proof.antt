@@ -11,23 +11,11 @@ use borrow.Author.Needs.{needs}
 use Rattle.requests.proofs.connect.Statement.{statement}
 use Rattle.requests.proofs.connect.Tie as tie
 
-refuse-requires : tie.Need-refuse-requires
-refuse-requires c κs = search needs
-
 returns : tie.Need-returns
 returns c = λ b q old w _. let a = c .before .before .before .args in refuses (a .n) q b old w 8 (connect-8 (holding (a .n) q) (c .before .if1 .taken)) (c .refuse .ensures)
 
-refuse-requires-2 : tie.Need-refuse-requires-2
-refuse-requires-2 c κs = search needs
-
 returns-2 : tie.Need-returns-2
 returns-2 c = λ b q old w _. let a = c .before .before .before .before .before .args in refuses (a .n) q b old w 9 (connect-9 (holding (a .n) q) (c .before .before .before .if1 .left) (c .before .if2 .taken)) (c .refuse2 .ensures)
-
-add-t3 : tie.Need-add-t3
-add-t3 c = search needs
-
-begin-requires : tie.Need-begin-requires
-begin-requires c κs = search needs
 
 returns-3 : tie.Need-returns-3
 unfolding accept sentBy frameOf
@@ -38,4 +26,4 @@ returns-3 c = λ b q old w _.
 pub connect-spec : {M : Type 1} → statement M
 connect-spec =
     tie.close
-    (tie.spec refuse-requires returns refuse-requires-2 returns-2 add-t3 begin-requires returns-3)
+    (tie.spec (λ c κs. search needs) returns (λ c κs. search needs) returns-2 (λ c. search needs) (λ c κs. search needs) returns-3)

@@ -16,31 +16,16 @@ use borrow.Author.Needs.{needs}
 use Rattle.requests.proofs.send.Statement.{statement}
 use Rattle.requests.proofs.send.Tie as tie
 
-refuse-requires : tie.Need-refuse-requires
-refuse-requires c κs = search needs
-
 returns : tie.Need-returns
 returns c = λ b _ _ q old w _. let a = c .before .before .before .args in refuses (a .n) q b old w 8 (send-8 (holding (a .n) q) b (c .before .if1 .taken)) (c .refuse .ensures)
 
-refuse-requires-2 : tie.Need-refuse-requires-2
-refuse-requires-2 c κs = search needs
-
 returns-2 : tie.Need-returns-2
 returns-2 c = λ b _ _ q old w _. let a = c .before .before .before .before .before .args in refuses (a .n) q b old w 9 (send-9 (holding (a .n) q) b (c .before .before .before .if1 .left) (c .before .if2 .taken)) (c .refuse2 .ensures)
-
-refuse-requires-3 : tie.Need-refuse-requires-3
-refuse-requires-3 c κs = search needs
 
 returns-3 : tie.Need-returns-3
 returns-3 c = λ b _ _ q old w _.
     let a = c .before .before .before .before .before .before .before .args in
     refuses (a .n) q b old w 10 (send-10 (holding (a .n) q) b (c .before .before .before .before .before .if1 .left) (c .before .before .before .if2 .left) (omega arith)) (c .refuse3 .ensures)
-
-add-t3 : tie.Need-add-t3
-add-t3 c = search needs
-
-add-t4 : tie.Need-add-t4
-add-t4 c = search needs
 
 returns-4 : tie.Need-returns-4
 unfolding accept notice numberOf noticeOf sentIn endpointAfter queueAfter sentBy frameOf
@@ -54,12 +39,12 @@ pub send-spec : {M : Type 1} → statement M
 send-spec =
     tie.close
     (tie.spec
-    refuse-requires
+    (λ c κs. search needs)
     returns
-    refuse-requires-2
+    (λ c κs. search needs)
     returns-2
-    refuse-requires-3
+    (λ c κs. search needs)
     returns-3
-    add-t3
-    add-t4
+    (λ c. search needs)
+    (λ c. search needs)
     returns-4)

@@ -15,17 +15,11 @@ use borrow.Author.Needs.{needs}
 use Rattle.requests.proofs.timer.Statement.{statement}
 use Rattle.requests.proofs.timer.Tie as tie
 
-keep-requires : tie.Need-keep-requires
-keep-requires c κs = search needs
-
 returns : tie.Need-returns
 unfolding notice resent sentBy frameOf
 returns c = λ b q old w o.
     let n = c .before .before .before .args .n in
     keeps n q b old w n none (Frame (Crao (n .local) (n .remote))) refl (timer-says (holding n q) _ (search picks)) (c .keep .ensures)
-
-keep-requires-2 : tie.Need-keep-requires-2
-keep-requires-2 c κs = search needs
 
 returns-2 : tie.Need-returns-2
 unfolding notice resent sentBy frameOf
@@ -33,23 +27,11 @@ returns-2 c = λ b q old w o.
     let n = c .before .before .before .before .before .args .n in
     keeps n q b old w n none (Frame (Crpo (n .local) (n .remote))) refl (timer-says (holding n q) _ (search picks)) (c .keep2 .ensures)
 
-keep-requires-3 : tie.Need-keep-requires-3
-keep-requires-3 c κs = search needs
-
 returns-3 : tie.Need-returns-3
 unfolding notice resent sentBy frameOf
 returns-3 c = λ b q old w o.
     let n = c .before .before .before .before .before .before .before .before .before .args .n in
     keeps n q b old w n none Nothing refl (timer-quiet (holding n q) (resent-oldest (holding n q) (c .before .before .before .if3 .taken) ∙ oldest-none (holding n q) q (omega arith))) (c .keep3 .ensures)
-
-cast-number : tie.Need-cast-number
-cast-number c = search needs
-
-sub-number : tie.Need-sub-number
-sub-number c = search needs
-
-keep-requires-4 : tie.Need-keep-requires-4
-keep-requires-4 c κs = search needs
 
 returns-4 : tie.Need-returns-4
 unfolding notice resent sentBy frameOf
@@ -57,17 +39,11 @@ returns-4 c = λ b q old w o.
     let n = c .before .before .before .before .before .before .before .before .before .before .before .args .n in
     keeps n q b old w n none (Frame (Data (n .local) (n .remote) (n .accepted - n .waiting))) refl (timer-says (holding n q) _ (resent-oldest (holding n q) (c .before .before .before .before .before .if3 .taken) ∙ oldest-is (holding n q) q old o (omega arith) ∙ rw w refl)) (c .keep4 .ensures)
 
-keep-requires-5 : tie.Need-keep-requires-5
-keep-requires-5 c κs = search needs
-
 returns-5 : tie.Need-returns-5
 unfolding notice resent sentBy frameOf
 returns-5 c = λ b q old w o.
     let n = c .before .before .before .before .before .before .before .before .before .args .n in
     keeps n q b old w n none (Frame (Dr (n .local) (n .remote))) refl (timer-says (holding n q) _ (search picks)) (c .keep5 .ensures)
-
-keep-requires-6 : tie.Need-keep-requires-6
-keep-requires-6 c κs = search needs
 
 returns-6 : tie.Need-returns-6
 unfolding notice resent sentBy frameOf
@@ -79,17 +55,17 @@ pub timer-spec : {M : Type 1} → statement M
 timer-spec =
     tie.close
     (tie.spec
-    keep-requires
+    (λ c κs. search needs)
     returns
-    keep-requires-2
+    (λ c κs. search needs)
     returns-2
-    keep-requires-3
+    (λ c κs. search needs)
     returns-3
-    cast-number
-    sub-number
-    keep-requires-4
+    (λ c. search needs)
+    (λ c. search needs)
+    (λ c κs. search needs)
     returns-4
-    keep-requires-5
+    (λ c κs. search needs)
     returns-5
-    keep-requires-6
+    (λ c κs. search needs)
     returns-6)

@@ -5,9 +5,6 @@ use borrow.Author.Needs.{needs}
 use Rattle.stream.proofs.after_read.Statement.{statement}
 use Rattle.stream.proofs.after_read.Tie as tie
 
-returns : tie.Need-returns
-returns c = search needs
-
 returns-2 : tie.Need-returns-2
 returns-2 c = record { at = refl; end = refl; kept = refl; filled = refl; begins = refl; stops = refl; more = λ h. absurd (h (omega arith)); over = λ _. (c .before .before .before .pre ∙ sym (eq-yes _ _ _ _ (omega arith)), refl) }
 
@@ -15,4 +12,4 @@ returns-3 : tie.Need-returns-3
 returns-3 c = record { at = refl; end = refl; kept = refl; filled = refl; begins = refl; stops = refl; more = λ h. absurd (h (omega arith)); over = λ _. (sym (eq-no _ _ _ _ (λ z. omega (arith, z, c .if2 .left))), refl) }
 
 pub after-read-spec : {M : Type 1} → statement M
-after-read-spec = tie.close (tie.spec returns returns-2 returns-3)
+after-read-spec = tie.close (tie.spec (λ c. search needs) returns-2 returns-3)

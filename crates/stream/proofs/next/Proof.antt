@@ -5,29 +5,14 @@ use borrow.Author.Needs.{needs}
 use Rattle.stream.proofs.next.Statement.{statement}
 use Rattle.stream.proofs.next.Tie as tie
 
-sub-q : tie.Need-sub-q
-sub-q c = search needs
-
-flush-requires : tie.Need-flush-requires
-flush-requires c κs = search needs
-
 fill-requires : tie.Need-fill-requires
 fill-requires c κs = ap (λ (q : Place). q .lines) (c .flush .ensures .place)
 
 returns : tie.Need-returns
 returns c = let e = c .before .before .before .if1 .taken in record { refilled = λ _. record { written = c .before .flush .result; flushed = c .before .flush .ensures; filled = c .fill .ensures; held = refl }; flushed = λ h. absurd (h e); taken = λ h. absurd (h e) }
 
-sub-if2 : tie.Need-sub-if2
-sub-if2 c = search needs
-
-flush-requires-2 : tie.Need-flush-requires-2
-flush-requires-2 c κs = search needs
-
 returns-2 : tie.Need-returns-2
 returns-2 c = record { refilled = λ h. absurd (c .before .before .before .if1 .left h); flushed = λ _ _. (c .flush2 .ensures, (refl, refl)); taken = λ _ h. absurd (omega (arith, h, c .before .if2 .taken)) }
-
-take-requires : tie.Need-take-requires
-take-requires c κs = search needs
 
 returns-3 : tie.Need-returns-3
 returns-3 c = record { refilled = λ h. absurd (c .before .before .before .before .before .before .if1 .left h); flushed = λ _ h. absurd (omega (arith, h, c .before .before .before .before .if2 .left)); taken = λ _ _. (c .take .ensures, refl) }
@@ -36,12 +21,12 @@ pub next-spec : {M : Type 1} → statement M
 next-spec =
     tie.close
     (tie.spec
-    sub-q
-    flush-requires
+    (λ c. search needs)
+    (λ c κs. search needs)
     fill-requires
     returns
-    sub-if2
-    flush-requires-2
+    (λ c. search needs)
+    (λ c κs. search needs)
     returns-2
-    take-requires
+    (λ c κs. search needs)
     returns-3)

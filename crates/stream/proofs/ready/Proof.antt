@@ -15,15 +15,6 @@ returns : tie.Need-returns
 unfolding readyLine
 returns c = sym (eq-no _ _ _ _ (λ z. omega (arith, z, c .before .if1 .taken)))
 
-sub-result : tie.Need-sub-result
-sub-result c = search needs
-
-part-result-start : tie.Need-part-result-start
-part-result-start c = search needs
-
-part-result-end : tie.Need-part-result-end
-part-result-end c = search needs
-
 returns-2 : tie.Need-returns-2
 unfolding readyLine
 returns-2 c = sym (eq-yes _ _ _ _ (omega (arith, c .before .if1 .left)))
@@ -34,7 +25,7 @@ ready-spec =
     (tie.spec
     slice-aggregate-result
     returns
-    sub-result
-    part-result-start
-    part-result-end
+    (λ c. search needs)
+    (λ c. search needs)
+    (λ c. search needs)
     returns-2)

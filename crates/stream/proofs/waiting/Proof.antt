@@ -8,8 +8,5 @@ use Rattle.stream.proofs.waiting.Tie as tie
 slice-aggregate-result : tie.Need-slice-aggregate-result
 slice-aggregate-result c = let s = c .before in sym (length-take-le (s .args .p .filled) (now (s .args .out)) (s .pre))
 
-returns : tie.Need-returns
-returns c = search needs
-
 pub waiting-spec : {M : Type 1} → statement M
-waiting-spec = tie.close (tie.spec slice-aggregate-result returns)
+waiting-spec = tie.close (tie.spec slice-aggregate-result (λ c. search needs))

@@ -44,32 +44,8 @@ nonzero : (n : ℕ) → n ≢ 0 → (k : ℕ) × (n ≡ suc k)
 nonzero zero h = absurd (h refl)
 nonzero (suc n) h = (n, refl)
 
-ready-requires : tie.Need-ready-requires
-ready-requires c κs = search needs
-
-refuse-requires : tie.Need-refuse-requires
-refuse-requires c κs = search needs
-
-same-length : tie.Need-same-length
-same-length c = search needs
-
-same-length-2 : tie.Need-same-length-2
-same-length-2 c = search needs
-
-same-length-3 : tie.Need-same-length-3
-same-length-3 c = search needs
-
 returns : tie.Need-returns
 returns c = let a = c .before .before .before .before .before .before .before .before .before .before .before .before .args in let r = c .before .before .before .ready in let q = nonzero (r .result) (c .before .before .if1 .taken) in declines (now (a .a)) (now (a .b)) (now (a .log)) (a .count) (field 2 1 (unhex (now (a .line)))) (r .result) (now (a .out)) (rw (q .1) (unready (now (a .a)) (now (a .b)) (now (a .log)) (a .count) (now (a .line)) (now (a .out)) (q .0) (sym (r .ensures) ∙ q .1))) (c .refuse .ensures (field 2 1 (unhex (now (a .line)))))
-
-slice-aggregate-read : tie.Need-slice-aggregate-read
-slice-aggregate-read c = search needs
-
-read-requires : tie.Need-read-requires
-read-requires c κs = search needs
-
-enum-known-read : tie.Need-enum-known-read
-enum-known-read c = search needs
 
 array-share-prefix-s : tie.Need-array-share-prefix-s
 array-share-prefix-s c = omega (arith, fits c)
@@ -80,35 +56,8 @@ slice-aggregate-ask c = sym (length-take-le _ _ (omega (arith, fits (c .before))
 ask-requires : tie.Need-ask-requires
 ask-requires c κs = let a = c .before .before .before .before .before .before .before .before .before .before .before .before .before .before .before .before .before .before .before .before .before .args in let y = is-ready (c .before .before) in (omega (arith, ap length (octets (c .before .before)), some-octet (now (a .line)) (is-read (c .before .before) .all-yes)), sizes (now (a .a)) (now (a .b)) (now (a .log)) (a .count) (now (a .line)) (now (a .out)) y)
 
-enum-known-read-2 : tie.Need-enum-known-read-2
-enum-known-read-2 c = search needs
-
-refuse-requires-2 : tie.Need-refuse-requires-2
-refuse-requires-2 c κs = search needs
-
-same-length-4 : tie.Need-same-length-4
-same-length-4 c = search needs
-
-same-length-5 : tie.Need-same-length-5
-same-length-5 c = search needs
-
-same-length-6 : tie.Need-same-length-6
-same-length-6 c = search needs
-
-same-length-7 : tie.Need-same-length-7
-same-length-7 c = search needs
-
 returns-2 : tie.Need-returns-2
 returns-2 c = let a = c .before .before .before .before .before .before .before .before .before .before .before .before .before .before .before .before .before .before .before .before .before .before .before .before .before .before .before .before .before .before .args in let k = c .before .before .before .before .before .before .before .before .before .before .before in rw (passes (now (a .a)) (now (a .b)) (now (a .log)) (a .count) (now (a .line)) (now (a .out)) (is-ready k) (is-read k .all-yes)) (rw (octets k) at (c .before .before .before .before .before .before .before .before .ask .ensures))
-
-same-length-8 : tie.Need-same-length-8
-same-length-8 c = search needs
-
-same-length-9 : tie.Need-same-length-9
-same-length-9 c = search needs
-
-same-length-10 : tie.Need-same-length-10
-same-length-10 c = search needs
 
 returns-3 : tie.Need-returns-3
 returns-3 c =
@@ -122,26 +71,26 @@ pub play-spec : {M : Type 1} → statement M
 play-spec =
     tie.close
     (tie.spec
-    ready-requires
-    refuse-requires
-    same-length
-    same-length-2
-    same-length-3
+    (λ c κs. search needs)
+    (λ c κs. search needs)
+    (λ c. search needs)
+    (λ c. search needs)
+    (λ c. search needs)
     returns
-    slice-aggregate-read
-    read-requires
-    enum-known-read
+    (λ c. search needs)
+    (λ c κs. search needs)
+    (λ c. search needs)
     array-share-prefix-s
     slice-aggregate-ask
     ask-requires
-    enum-known-read-2
-    refuse-requires-2
-    same-length-4
-    same-length-5
-    same-length-6
-    same-length-7
+    (λ c. search needs)
+    (λ c κs. search needs)
+    (λ c. search needs)
+    (λ c. search needs)
+    (λ c. search needs)
+    (λ c. search needs)
     returns-2
-    same-length-8
-    same-length-9
-    same-length-10
+    (λ c. search needs)
+    (λ c. search needs)
+    (λ c. search needs)
     returns-3)

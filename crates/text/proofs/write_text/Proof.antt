@@ -27,12 +27,6 @@ line-fits c =
     let a = answerOctets (s .args .t) (now (s .args .block)) in
     omega (arith, line c .count, length-line a, told-short (s .args .t) (now (s .args .block)) (s .pre .1 .0))
 
-slice-aggregate-tell : tie.Need-slice-aggregate-tell
-slice-aggregate-tell c = search needs
-
-tell-requires : tie.Need-tell-requires
-tell-requires c κs = search needs
-
 array-share-prefix-octets : tie.Need-array-share-prefix-octets
 array-share-prefix-octets c = omega (arith, fits c)
 
@@ -41,9 +35,6 @@ slice-aggregate-write-line c = sym (length-take-le _ _ (omega (arith, fits (c .b
 
 write-line-requires : tie.Need-write-line-requires
 write-line-requires c κs = let s = c .before .before .before .before .before .before .before .before in omega (arith, ap length (octets (c .before .before)), told-short (s .args .t) (now (s .args .block)) (s .pre .1 .0))
-
-same-length : tie.Need-same-length
-same-length c = search needs
 
 returns : tie.Need-returns
 returns c = let s = c .before .before .before .before .before .before .before .before .before .before .before .before in text-none (s .args .t) (now (s .args .block)) (now (s .args .sent)) (now (s .args .out)) (c .if1 .taken) (line (c .before .before .before))
@@ -54,9 +45,6 @@ sub-write-line c = omega (arith, line-fits (c .before .before .before))
 part-write-line-start : tie.Need-part-write-line-start
 part-write-line-start c = omega (arith, line-fits (c .before .before .before))
 
-part-write-line-end : tie.Need-part-write-line-end
-part-write-line-end c = search needs
-
 write-line-requires-2 : tie.Need-write-line-requires-2
 write-line-requires-2 c κs =
     let w = c .before .before .before .before in
@@ -65,9 +53,6 @@ write-line-requires-2 c κs =
 add-result : tie.Need-add-result
 add-result c = omega (arith, line-fits (c .before .before .before .before .before .before .before), c .before .before .write-line2 .ensures .count, length-line (now (c .before .before .before .before .before .before .before .before .before .before .before .before .before .before .before .before .args .sent)))
 
-same-length-2 : tie.Need-same-length-2
-same-length-2 c = search needs
-
 returns-2 : tie.Need-returns-2
 returns-2 c = let s = c .before .before .before .before .before .before .before .before .before .before .before .before .before .before .before .before in text-some (s .args .t) (now (s .args .block)) (now (s .args .sent)) (now (s .args .out)) (c .before .before .before .before .if1 .left) (line (c .before .before .before .before .before .before .before)) (omega (arith, line-fits (c .before .before .before .before .before .before .before))) (c .before .before .write-line2 .ensures)
 
@@ -75,17 +60,17 @@ pub write-text-spec : {M : Type 1} → statement M
 write-text-spec =
     tie.close
     (tie.spec
-    slice-aggregate-tell
-    tell-requires
+    (λ c. search needs)
+    (λ c κs. search needs)
     array-share-prefix-octets
     slice-aggregate-write-line
     write-line-requires
-    same-length
+    (λ c. search needs)
     returns
     sub-write-line
     part-write-line-start
-    part-write-line-end
+    (λ c. search needs)
     write-line-requires-2
     add-result
-    same-length-2
+    (λ c. search needs)
     returns-2)
