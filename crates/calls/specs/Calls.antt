@@ -12,31 +12,37 @@ use Rattle.frame.specs.Read.{readFrame, readRequest}
 use Rattle.protocol.specs.Endpoint.{Endpoint}
 use Rattle.protocol.specs.Table.{Sent, nothing, frame, Step}
 use Rattle.protocol.specs.Network as protocol
+use Rattle.calls.specs.declared.Call.{Call}
+use Rattle.calls.specs.declared.Call.the-variants.{Request, Receive}
 
--- A call, with its arguments besides the record: the octets of a request or of a frame received, and the buffer for a frame out.
-pub data Call : Type 0 where
-  request receive : List ℕ → List ℕ → Call
+-- A call with its arguments besides the record: which call it is, the octets of a request or of a frame received, and the length of the
+-- buffer for a frame out.
+pub record Arguments : Type 0 where
+  pub call : Call
+  pub octets : List ℕ
+  pub room : ℕ
 
-abbrev pub input : Call → List ℕ
-input (request s out) = s
-input (receive s out) = s
+abbrev pub given : Call → List ℕ → ℕ → Arguments
+given c s room = record { call = c; octets = s; room = room }
 
-abbrev pub buffer : Call → List ℕ
-buffer (request s out) = out
-buffer (receive s out) = out
+-- the call of the protocol that the octets say, by questions 3 to 7
+unfoldable pub reads : Call → List ℕ → Outcome protocol.Call
+reads Request s = mapped protocol.ask (readRequest s)
+reads Receive s = mapped protocol.deliver (readFrame s)
 
--- the call that the octets say, by questions 3 to 7
-unfoldable pub said : Call → Outcome protocol.Call
-said (request s out) = mapped protocol.ask (readRequest s)
-said (receive s out) = mapped protocol.deliver (readFrame s)
+abbrev pub said : Arguments → Outcome protocol.Call
+said c = reads (c .call) (c .octets)
 
--- What a call of an endpoint comes to, whose record is sound or not: 11 of the buffer for a frame, 12, then 3 to 7, then 8 to 10
--- and the step table.
-abbrev pub ownQuestions : Bool → Call → List Question
-ownQuestions sound c = (11, leb longestFrame (length (buffer c))) ∷ (12, sound) ∷ []
+-- what it comes to: 3 to 7, then 8 to 10 and the step table
+unfoldable pub does : Call → List ℕ → Endpoint → Outcome Step
+does c s e = andThen (reads c s) (λ (x : protocol.Call). protocol.perform x e)
 
-unfoldable pub asked : Bool → Endpoint → Call → Outcome Step
-asked sound e c = refusing (first (ownQuestions sound c)) (andThen (said c) (λ (x : protocol.Call). protocol.perform x e))
+-- What a call of an endpoint comes to, whose record is sound or not: 11 of the buffer for a frame and 12 come first.
+abbrev pub ownQuestions : Bool → ℕ → List Question
+ownQuestions sound room = (11, leb longestFrame room) ∷ (12, sound) ∷ []
+
+unfoldable pub asked : Bool → Endpoint → Arguments → Outcome Step
+asked sound e c = refusing (first (ownQuestions sound (c .room))) (does (c .call) (c .octets) e)
 
 -- the octets of what is sent
 unfoldable pub wire : Sent → List ℕ
@@ -52,7 +58,7 @@ pub record Format : Type 0 where
   pub octets : Endpoint → List ℕ
 
 -- What a call of a lent record comes to: 11 of the record first.
-unfoldable pub performed : Format → List ℕ → Call → Outcome Step
+unfoldable pub performed : Format → List ℕ → Arguments → Outcome Step
 performed format rec c = refusing (first ((11, leb (format .size) (length rec)) ∷ [])) (asked (format .sound rec) (format .holds rec) c)
 
 -- what a call leaves in the record and in the buffer for a frame out: a success writes at their start, a refusal nothing

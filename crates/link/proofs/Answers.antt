@@ -1,5 +1,5 @@
--- What a call on a lent record answers, from its plan. Assumes nothing.
-use Prim.Native.Nat.{ℕ, zero, suc, _≤_, _<_}
+-- What a call on a lent record answers, from its plan.
+use Prim.Native.Nat.{ℕ, _≤_, _<_}
 use mathlib.Core.Path.{_≡_, refl, sym, ap, _∙_}
 use mathlib.Core.Logic.{_≢_}
 use mathlib.Core.List.{List, []}
@@ -7,30 +7,33 @@ use native.Mathlib.Omega.{arith}
 use borrow.Author.Tests.{le-leb, lt-leb}
 use lib.ListN.{length, take, drop, length-drop, take-append-drop}
 use lib.Seq.{length-take-le}
+use Rattle.octets.specs.Sizes.{queueSize}
 use Rattle.octets.specs.Test.{when, first, Outcome, refused, ok, refusing, mapped, numberOf}
 use Rattle.octets.specs.Octets.{put, left, Octets}
+use Rattle.octets.proofs.Outcomes.{after-question, is-refused}
 use Rattle.frame.specs.Frame.{Block}
 use Rattle.protocol.specs.Endpoint as abstract
 use Rattle.protocol.specs.Endpoint.{fresh}
 use Rattle.protocol.specs.Table.{Step}
-use Rattle.endpoint.specs.declared.Endpoint.{Endpoint}
+use Rattle.calls.specs.declared.Call.the-variants.{Request}
+use Rattle.calls.specs.Calls.{Arguments, given, wire, asked, performed, recordAfter, bufferAfter}
 use Rattle.plan.specs.declared.Plan.{Plan}
-use Rattle.plan.specs.Plan.{noticeOf, sentIn, blockOf, blockPart, blockBy, endpointAfter, Room}
-use Rattle.plan.proofs.Up.{right}
+use Rattle.plan.specs.Plan.{noticeOf, sentIn, blockOf, blockPart, blockBy, endpointAfter, joinedBy, blockOut, sentBy, Sends}
+use Rattle.plan.proofs.Up.{Right, right, Silent, refusing-silent, request-silent}
 use Rattle.plan.proofs.Up as up
-use Rattle.endpoint.specs.View.{pack, view}
-use Rattle.endpoint.specs.Sound.{sound}
-use Rattle.endpoint.specs.Record.{encode, decode}
-use Rattle.machine.specs.Calls.{answerOf}
-use Rattle.machine.specs.Carried.{carried, Prepared}
-use Rattle.machine.proofs.Carries.{buffer-is, ready-to, leaves}
+use Rattle.endpoint.specs.declared.Endpoint.{Endpoint}
+use Rattle.endpoint.specs.View.{placesSize, blockAt, pack, view}
+use Rattle.endpoint.specs.Record.{recordSize, encode, decode}
 use Rattle.endpoint.proofs.Record.{encode-decode}
-use Rattle.calls.specs.Calls.{Call, input, buffer, wire, asked, performed, recordAfter, bufferAfter}
+use Rattle.machine.specs.Calls.{outcomeOf, stepAnswerOf}
+use Rattle.machine.specs.Carried.{Plans, carried}
+use Rattle.machine.proofs.Carries.{leaves, hands-up, sends, sends-is}
+use Rattle.link.specs.declared.Answer.{Answer}
 use Rattle.link.specs.Record.{format}
-use Rattle.link.specs.Lent.{sentOf, toldOf, Lent}
+use Rattle.link.specs.Lent.{toldOf, statusOf, sentOf, answerOf, Called}
 
 -- the numbers of an endpoint that are told
-record Told (a : abstract.Endpoint) (e : Endpoint) : Type 0 where
+record SameNumbers (a : abstract.Endpoint) (e : Endpoint) : Type 0 where
   state : a .state ≡ e .state
   local : a .local ≡ e .local
   remote : a .remote ≡ e .remote
@@ -41,124 +44,100 @@ sent-is (refused n) = refl
 sent-is (ok x) = refl
 
 -- a record written over itself
-pub rewritten : (rec : List ℕ) → 538 ≤ length rec → Octets rec → put rec 0 (encode (decode rec)) ≡ rec
+pub rewritten : (rec : List ℕ) → recordSize ≤ length rec → Octets rec → put rec 0 (encode (decode rec)) ≡ rec
 unfolding put
 rewritten rec long o =
-    let l : length (take 538 rec) ≡ 538 = length-take-le 538 rec long in
-    rw (encode-decode rec o long, l) (take-append-drop 538 rec)
+    let l : length (take recordSize rec) ≡ recordSize = length-take-le recordSize rec long in
+    rw (encode-decode rec o long, l) (take-append-drop recordSize rec)
 
--- a buffer that is too short for a record
-too-short : (rec : List ℕ) (c : Call) → length rec < 538 → performed format rec c ≡ refused 11
+-- a refusal leaves all, and tells how the record stands
+pub turned-down : {o : Outcome Step} {n : ℕ} → o ≡ refused n → (rec s out : List ℕ) {r : Answer} → r ≡ answerOf rec (refused n) → Called o rec s out rec out r
+unfolding answerOf blockOf blockPart recordAfter bufferAfter mapped left
+turned-down e rec s out h = rw (e, h) (record { answer = refl; end = refl; buffer = refl; block = refl })
+
+-- what a refusal tells: of a buffer that is too short for a record nothing, else its numbers
+pub tells-short : (rec : List ℕ) (n : ℕ) → length rec < recordSize
+    → record { status = record { number = n; state = 0; notice = 0; local = 0; remote = 0 }; sent = 0; block = 0 } ≡ answerOf rec (refused n)
+unfolding answerOf statusOf toldOf sentOf blockOf noticeOf numberOf pack when
+tells-short rec n h = rw (lt-leb recordSize (length rec) h) refl
+
+pub tells : (rec : List ℕ) (n : ℕ) → recordSize ≤ length rec
+    → record { status = record { number = n; state = decode rec .state; notice = 0; local = decode rec .local; remote = decode rec .remote }; sent = 0; block = 0 }
+    ≡ answerOf rec (refused n)
+unfolding answerOf statusOf toldOf sentOf blockOf noticeOf numberOf when
+tells rec n h = rw (le-leb recordSize (length rec) h) refl
+
+pub too-short : (rec : List ℕ) (c : Arguments) → length rec < recordSize → performed format rec c ≡ refused 11
 unfolding performed refusing first when
-too-short rec c h = rw (lt-leb 538 (length rec) h) refl
+too-short rec c h = rw (lt-leb recordSize (length rec) h) refl
 
-pub short-none : (rec : List ℕ) (c : Call) → length rec < 538 → [] ≡ blockOf (performed format rec c)
-unfolding blockOf
-short-none rec c h = rw (too-short rec c h) refl
+module _ (rec : List ℕ) (long : recordSize ≤ length rec) where
+  pub enough : (c : Arguments) → performed format rec c ≡ outcomeOf (decode rec) c
+  unfolding performed outcomeOf refusing first when
+  enough c = rw (le-leb recordSize (length rec) long) refl
 
-none-told : (rec : List ℕ) → length rec < 538 → pack fresh ≡ toldOf rec (refused 11)
-unfolding toldOf when
-none-told rec h = rw (lt-leb 538 (length rec) h) refl
-
-pub lent-short : (rec : List ℕ) (c : Call) → length rec < 538 → Lent (performed format rec c) rec (buffer c) rec (buffer c) 11 0 0 0 0 0
-unfolding numberOf noticeOf sentOf recordAfter bufferAfter mapped left pack
-lent-short rec c h =
-    rw (too-short rec c h)
-    (record {
-      is-number = refl;
-      is-state = ap (λ (x : Endpoint). x .state) (none-told rec h);
-      is-notice = refl;
-      is-local = ap (λ (x : Endpoint). x .local) (none-told rec h);
-      is-remote = ap (λ (x : Endpoint). x .remote) (none-told rec h);
-      is-sent = refl;
-      is-rec = refl;
-      is-out = refl;
-    })
-
-module _ (rec : List ℕ) (long : 538 ≤ length rec) where
-  pub enough : (c : Call) → performed format rec c ≡ asked (sound (decode rec)) (view (decode rec)) c
-  unfolding performed refusing first when
-  enough c = rw (le-leb 538 (length rec) long) refl
-
-  told : (o : Outcome Step) → Told (endpointAfter (view (decode rec)) o) (toldOf rec o)
+  told : (o : Outcome Step) → SameNumbers (endpointAfter (view (decode rec)) o) (toldOf rec o)
   unfolding endpointAfter toldOf view pack when
-  told (refused n) = rw (le-leb 538 (length rec) long) (record { state = refl; local = refl; remote = refl })
+  told (refused n) = rw (le-leb recordSize (length rec) long) (record { state = refl; local = refl; remote = refl })
   told (ok x) = record { state = refl; local = refl; remote = refl }
 
-  kept : (o : Outcome Step) → numberOf o ≢ 0 → rec ≡ recordAfter format rec o
-  unfolding numberOf recordAfter mapped left
-  kept (refused n) h = refl
-  kept (ok x) h = absurd (h refl)
-
-  stored : Octets rec → (o : Outcome Step) → put rec 0 (encode (answerOf (decode rec) o .endpoint)) ≡ recordAfter format rec o
-  unfolding answerOf recordAfter mapped left
+  stored : Octets rec → (o : Outcome Step) → put rec 0 (encode (stepAnswerOf (decode rec) o .endpoint)) ≡ recordAfter format rec o
+  unfolding stepAnswerOf recordAfter mapped left
   stored oc (refused n) = rewritten rec long oc
   stored oc (ok x) = refl
 
-  none-refused : (o : Outcome Step) → numberOf o ≢ 0 → [] ≡ blockOf o
-  unfolding numberOf blockOf
-  none-refused (refused n) h = refl
-  none-refused (ok x) h = absurd (h refl)
-
-  pub lengths-8 : length (decode rec .lengths) ≡ 8
+  pub lengths-long : length (decode rec .lengths) ≡ queueSize
   unfolding decode
-  lengths-8 = length-take-le 8 (drop 18 rec) (rw length-drop (omega arith))
+  lengths-long = length-take-le queueSize (drop 18 rec) (rw length-drop (omega arith))
 
-  pub blocks-512 : length (decode rec .blocks) ≡ 512
+  pub blocks-long : length (decode rec .blocks) ≡ placesSize
   unfolding decode
-  blocks-512 = length-take-le 512 (drop 26 rec) (rw length-drop (omega arith))
+  blocks-long = length-take-le placesSize (drop 26 rec) (rw length-drop (omega arith))
 
-  module _ (c : Call) {b : Block} {out′ : List ℕ} {sent : ℕ} {p : Plan}
-      (w : Prepared (decode rec) b (asked (sound (decode rec)) (view (decode rec)) c) (buffer c) out′ sent p) where
+  module _ (c : Arguments) {p : Plan} (w : Plans (decode rec) c p) where
     abbrev o : Outcome Step
-    o = asked (sound (decode rec)) (view (decode rec)) c
+    o = outcomeOf (decode rec) c
 
-    abbrev Answers : List ℕ → ℕ → Type 0
-    Answers rec′ r = Lent (performed format rec c) rec (buffer c) rec′ out′ r (p .numbers .state) (p .notice) (p .numbers .local) (p .numbers .remote) sent
+    abbrev joins : Block
+    joins = joinedBy (p .queue) (c .octets)
 
-    gives : (rec′ : List ℕ) (r : ℕ) → r ≡ p .number → rec′ ≡ recordAfter format rec o → Answers rec′ r
-    unfolding view
-    gives rec′ r e er =
-        let k = w .comes .endpoint in
+    pub refuses : p .number ≢ 0 → (out : List ℕ) {r : Answer} → r ≡ answerOf rec (refused (p .number)) → Called (performed format rec c) rec (c .octets) out rec out r
+    refuses z out h = turned-down (enough c ∙ is-refused o (λ y. z (w .number ∙ y)) ∙ ap (λ (n : ℕ). refused n) (sym (w .number))) rec (c .octets) out h
+
+    pub accepts : Octets rec → p .number ≡ 0 → {out out′ : List ℕ} {n : ℕ}
+        → Sends (sentBy (p .reply) (blockOut (p .queue) joins (blockAt (decode rec .lengths) (decode rec .blocks) 0))) out out′ n
+        → {rec′ : List ℕ} → rec′ ≡ put rec 0 (encode (carried p joins (decode rec))) → {b : Block} → b ≡ blockBy (p .notice) (c .octets)
+        → Called (performed format rec c) rec (c .octets) out rec′ out′
+        (record { status = record { number = 0; state = p .numbers .state; notice = p .notice; local = p .numbers .local; remote = p .numbers .remote }; sent = n; block = length b })
+    unfolding answerOf statusOf view outcomeOf
+    accepts oc z {out} s {rec′} er {b} eb =
+        let k = w .endpoint in
+        let t = sends (decode rec) lengths-long blocks-long c w s in
+        let hb : b ≡ blockOf o = eb ∙ hands-up (decode rec) lengths-long blocks-long c w in
+        let st : p .numbers .state ≡ toldOf rec o .state = ap (λ (x : abstract.Endpoint). x .state) k ∙ told o .state in
+        let lo : p .numbers .local ≡ toldOf rec o .local = ap (λ (x : abstract.Endpoint). x .local) k ∙ told o .local in
+        let re : p .numbers .remote ≡ toldOf rec o .remote = ap (λ (x : abstract.Endpoint). x .remote) k ∙ told o .remote in
+        let nu : 0 ≡ numberOf o = sym z ∙ w .number in
         rw (enough c)
         (record {
-          is-number = e ∙ w .comes .number;
-          is-state = ap (λ (x : abstract.Endpoint). x .state) k ∙ told o .state;
-          is-notice = w .comes .notice;
-          is-local = ap (λ (x : abstract.Endpoint). x .local) k ∙ told o .local;
-          is-remote = ap (λ (x : abstract.Endpoint). x .remote) k ∙ told o .remote;
-          is-sent = w .sends .count ∙ sent-is o;
-          is-rec = er;
-          is-out = w .sends .octets ∙ buffer-is (buffer c) o;
+          answer = λ i. record { status = record { number = nu i; state = st i; notice = w .notice i; local = lo i; remote = re i }; sent = (t .count ∙ sent-is o) i; block = length (hb i) };
+          end = er ∙ ap (λ (x : Endpoint). put rec 0 (encode x)) (leaves (decode rec) lengths-long blocks-long c w z) ∙ stored oc o;
+          buffer = sends-is out o t;
+          block = ap (λ (x : Block). blockPart (c .octets) (length x)) hb ∙ up.part (right (format .sound rec) (format .holds rec) c);
         })
 
-    pub lent-refused : p .number ≢ 0 → Answers rec (p .number)
-    lent-refused h = gives rec (p .number) refl (kept o (λ z. h (w .comes .number ∙ z)))
-
-    pub lent-stored : Octets rec → p .number ≡ 0 → {rec′ : List ℕ} → rec′ ≡ put rec 0 (encode (carried p b (decode rec))) → {r : ℕ} → r ≡ 0 → Answers rec′ r
-    lent-stored oc h {rec′} e {r} z =
-        gives rec′ r (z ∙ sym h) (e ∙ ap (λ (x : Endpoint). put rec 0 (encode x)) (leaves (decode rec) lengths-8 blocks-512 c w h) ∙ stored oc o)
-
-    -- the plan can be carried out
-    pub fits : p .number ≡ 0 → (decode rec .waiting ≤ 8) × Room (p .queue) b (decode rec .waiting)
-    fits h = ready-to (decode rec) lengths-8 blocks-512 c w h
-
-    pub refused-none : p .number ≢ 0 → [] ≡ blockOf (performed format rec c)
-    refused-none h = rw (enough c) (none-refused o (λ z. h (w .comes .number ∙ z)))
-
-    -- the block that the notice tells of
-    pub long-enough : p .notice ≡ 5 → 14 ≤ length (input c)
-    long-enough h = right (sound (decode rec)) (view (decode rec)) c .some (sym (w .comes .notice) ∙ h) .1
-
-    pub hands-up : blockBy (p .notice) (input c) ≡ blockOf (performed format rec c)
-    hands-up = rw (enough c, w .comes .notice) (up.told (right (sound (decode rec)) (view (decode rec)) c))
-
--- it stands in what the call was given, where its length tells
-refusing-part : (s : List ℕ) (n : ℕ) (o : Outcome Step) → blockPart s (length (blockOf o)) ≡ blockOf o → blockPart s (length (blockOf (refusing n o))) ≡ blockOf (refusing n o)
-unfolding refusing blockOf blockPart
-refusing-part s zero o h = h
-refusing-part s (suc n) o h = refl
-
-pub stands : (rec : List ℕ) (c : Call) → blockPart (input c) (length (blockOf (performed format rec c))) ≡ blockOf (performed format rec c)
+-- the block that is handed up is told by the notice; a request hands nothing up
+shown : (rec : List ℕ) (c : Arguments) → Right (c .octets) (blockOf (performed format rec c)) (noticeOf (performed format rec c))
 unfolding performed
-stands rec c = refusing-part (input c) _ _ (up.part (right (format .sound rec) (format .holds rec) c))
+shown rec c =
+    after-question (λ (o : Outcome Step). Right (c .octets) (blockOf o) (noticeOf o)) (up.none-right (c .octets)) _ _ (right (format .sound rec) (format .holds rec) c)
+
+pub long-enough : (rec : List ℕ) (c : Arguments) → noticeOf (performed format rec c) ≡ 5 → 14 ≤ length (c .octets)
+long-enough rec c h = shown rec c .some h .1
+
+pub hands-it-up : (rec : List ℕ) (c : Arguments) → blockBy (noticeOf (performed format rec c)) (c .octets) ≡ blockOf (performed format rec c)
+hands-it-up rec c = up.told (shown rec c)
+
+pub none-up : (rec s : List ℕ) (room : ℕ) → blockOf (performed format rec (given Request s room)) ≡ []
+unfolding performed asked
+none-up rec s room = refusing-silent _ _ (refusing-silent _ _ (request-silent s (format .holds rec))) .block

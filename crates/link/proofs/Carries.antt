@@ -1,4 +1,4 @@
--- A plan that is carried out where the record lies leaves the octets of the record after it. Assumes nothing.
+-- A plan that is carried out where the record lies leaves the octets of the record after it.
 use Prim.Native.Nat.{ℕ, _+_, _≤_}
 use mathlib.Core.Path.{_≡_, refl, sym, ap, _∙_}
 use mathlib.Core.List.{List, _++_, append-assoc}

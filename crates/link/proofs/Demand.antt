@@ -1,4 +1,4 @@
--- The record's format is lawful, so demand 3 holds of the calls in octets, and each does what the protocol says. Assumes nothing.
+-- The record's format is lawful, so demand 3 holds of the calls in octets, and each does what the protocol says.
 use Prim.Native.Nat.{ℕ, _≤_}
 use mathlib.Core.Path.{_≡_, refl, ap, _∙_}
 use mathlib.Core.Bool.{true}
@@ -6,23 +6,25 @@ use mathlib.Core.List.{List, _++_}
 use native.Mathlib.Omega.{arith}
 use borrow.Author.Tests.{le-leb}
 use lib.ListN.{length, length-append}
+use Rattle.octets.specs.Sizes.{longestFrame, queueSize}
 use Rattle.octets.specs.Test.{when, first, ok, refusing, andThen}
 use Rattle.octets.specs.Octets.{bytes, lay}
 use Rattle.protocol.specs.Endpoint as abstract
 use Rattle.protocol.specs.Network as protocol
+use Rattle.protocol.specs.Claim.{NoEndAlone}
 use Rattle.protocol.specs.Limits.{Bounded}
 use Rattle.protocol.proofs.Sound.{sound-so}
-use Rattle.endpoint.specs.View.{places, lengthsOf, pack, view}
+use Rattle.endpoint.specs.View.{placesSize, places, lengthsOf, pack, view}
 use Rattle.endpoint.specs.Sound.{sound}
-use Rattle.endpoint.specs.Record.{encode, Fits}
+use Rattle.endpoint.specs.Record.{recordSize, encode, Fits}
 use Rattle.endpoint.proofs.Pad.{length-padded}
 use Rattle.endpoint.proofs.Packs.{length-lengths, length-places}
 use Rattle.endpoint.proofs.Held.{small-of, held, pack-sound}
 use Rattle.endpoint.proofs.Record.{decode-encode}
-use Rattle.calls.specs.Calls.{Call, buffer, said, asked, performed}
-use Rattle.calls.specs.Claim.{Entry, bothNew, AllDue, Demand, Lawful}
+use Rattle.calls.specs.Calls.{Arguments, said, does, asked, performed}
+use Rattle.calls.specs.Claim.{Lawful}
 use Rattle.calls.proofs.Lift.{demand-3}
-use Rattle.link.specs.Record.{format}
+use Rattle.link.specs.Record.{format, ends}
 
 -- the struct that holds an endpoint whose numbers have 32 bits
 packed-fits : (e : abstract.Endpoint) → abstract.sound e ≡ true → Bounded e → Fits (pack e)
@@ -37,11 +39,11 @@ packed-fits e s b =
       accepted = omega (arith, b .accepted≤);
       delivered = omega (arith, b .delivered≤);
       waiting = omega (arith, f .laden .places);
-      lengths = length-padded 8 (lengthsOf q) (omega (arith, length-lengths q, f .laden .places));
-      blocks = length-padded 512 (places q) (omega (arith, length-places q (small-of q (f .blocks)), f .laden .places));
+      lengths = length-padded queueSize (lengthsOf q) (omega (arith, length-lengths q, f .laden .places));
+      blocks = length-padded placesSize (places q) (omega (arith, length-places q (small-of q (f .blocks)), f .laden .places));
     }
 
-length-encode : (e : abstract.Endpoint) → Fits (pack e) → length (encode (pack e)) ≡ 538
+length-encode : (e : abstract.Endpoint) → Fits (pack e) → length (encode (pack e)) ≡ recordSize
 unfolding encode lay bytes
 length-encode e f = let l = length-append (pack e .lengths) (pack e .blocks) in omega (arith, l, f .lengths, f .blocks)
 
@@ -54,15 +56,15 @@ lawful =
     }
 
 -- no end opens without its partner: any octets, any frame buffers, refused calls included
-pub no-end-alone : (p q : List ℕ) (calls : List Entry) → AllDue format (bothNew format p q) calls → Demand format (bothNew format p q) calls
-no-end-alone p q calls d = demand-3 format lawful p q calls d
+pub no-end-alone : NoEndAlone ends
+no-end-alone = demand-3 format lawful
 
 -- A call on the record of a sound endpoint does what the protocol's call does that its octets say: so what holds of the one, the cases
 -- at the edges among it, holds of the other.
-pub does : (e : abstract.Endpoint) (rest : List ℕ) → abstract.sound e ≡ true → Bounded e → (c : Call) {x : protocol.Call}
-    → said c ≡ ok x → 78 ≤ length (buffer c) → performed format (format .octets e ++ rest) c ≡ protocol.perform x e
-unfolding performed asked refusing andThen first when
-does e rest s b c h room =
+pub performs : (e : abstract.Endpoint) (rest : List ℕ) → abstract.sound e ≡ true → Bounded e → (c : Arguments) {x : protocol.Call}
+    → said c ≡ ok x → longestFrame ≤ c .room → performed format (format .octets e ++ rest) c ≡ protocol.perform x e
+unfolding performed asked does refusing andThen first when
+performs e rest s b c h room =
     let l = length-append (format .octets e) rest in
     let n = lawful .long e s b in
-    rw (le-leb 538 (length (format .octets e ++ rest)) (omega (arith, l, n)), le-leb 78 (length (buffer c)) room, lawful .passes e rest s b, lawful .keeps e rest s b, h) refl
+    rw (le-leb recordSize (length (format .octets e ++ rest)) (omega (arith, l, n)), le-leb longestFrame (c .room) room, lawful .passes e rest s b, lawful .keeps e rest s b, h) refl

@@ -1,4 +1,4 @@
--- Every accepted call of a sound record leaves a sound record, in octets too. Assumes nothing.
+-- Every accepted call of a sound record leaves a sound record, in octets too.
 use Prim.Native.Nat.{ℕ, _≤_}
 use mathlib.Core.Path.{_≡_}
 use mathlib.Core.Bool.{true}
@@ -12,15 +12,16 @@ use Rattle.octets.proofs.Test.{passing, all-yes}
 use Rattle.protocol.specs.Table.{Step}
 use Rattle.protocol.specs.Limits.{Bounded}
 use Rattle.endpoint.specs.View.{view}
-use Rattle.endpoint.specs.Record.{decode}
+use Rattle.endpoint.specs.Record.{recordSize, decode}
+use Rattle.machine.specs.Calls.{outcomeOf}
 use Rattle.machine.proofs.Laws.{field-32, InOctets, leaves}
-use Rattle.calls.specs.Calls.{Call, performed, recordAfter}
+use Rattle.calls.specs.Calls.{Arguments, performed, recordAfter}
 use Rattle.link.specs.Record.{format}
 use Rattle.link.proofs.Demand.{lawful}
-use Rattle.link.proofs.Answers.{lengths-8, blocks-512}
+use Rattle.link.proofs.Answers.{lengths-long, blocks-long}
 
 -- the numbers of a record in octets have 32 bits
-bounded : (rec : List ℕ) → Octets rec → 538 ≤ length rec → Bounded (view (decode rec))
+bounded : (rec : List ℕ) → Octets rec → recordSize ≤ length rec → Bounded (view (decode rec))
 unfolding view decode
 bounded rec o l =
     record {
@@ -30,11 +31,11 @@ bounded rec o l =
       delivered≤ = field-32 13 rec o (omega arith);
     }
 
-pub stays-sound : (rec : List ℕ) → Octets rec → (c : Call) → InOctets c → {x : Step} → performed format rec c ≡ ok x
+pub stays-sound : (rec : List ℕ) → Octets rec → (c : Arguments) → InOctets (c .call) (c .octets) → {x : Step} → performed format rec c ≡ ok x
     → format .sound (recordAfter format rec (performed format rec c)) ≡ true
-unfolding performed recordAfter mapped left put
+unfolding performed outcomeOf recordAfter mapped left put
 stays-sound rec o c i {x} h =
     let r = passing (first ((11, _) ∷ [])) h in
-    let l = leb-true 538 (length rec) (all-yes 11 _ _ (r .0) tt .0) in
-    let k = leaves (decode rec) (lengths-8 rec l) (blocks-512 rec l) c i (r .1) in
+    let l = leb-true recordSize (length rec) (all-yes 11 _ _ (r .0) tt .0) in
+    let k = leaves (decode rec) (lengths-long rec l) (blocks-long rec l) c i (r .1) in
     rw h (lawful .passes (x .endpoint) _ (k .is-sound) (k .bounded (bounded rec o l)))

@@ -1,23 +1,34 @@
-// The calls of an end on lent buffers: its record of 538 octets, a request or a frame, and room for a frame out.
+// The calls of an end on lent buffers: its record of 538 octets, a request or a frame, and room for a frame out. A call is planned
+// first; then come its stores, in this order: the frame out, the record, the numbers told.
+use calls::Call;
+use calls::Status;
 use endpoint::Endpoint;
 use plan::Plan;
 ghost use mathlib.Core.Path.{_≡_};
+ghost use mathlib.Core.List.{[], _∷_};
 ghost use Prim.Native.Nat.{_≤_};
-ghost use lib.ListN.{length, drop};
-ghost use Rattle.octets.specs.Sizes.{queueSize};
-ghost use Rattle.octets.specs.Test.{numberOf};
+ghost use lib.ListN.{length};
+ghost use Rattle.octets.specs.Sizes.{longestBlock, queueSize};
+ghost use Rattle.octets.specs.Test.{first, refused, numberOf};
 ghost use Rattle.octets.specs.Octets.{put, left};
-ghost use Rattle.calls.specs.Calls.{performed};
-ghost use Rattle.calls.specs.Calls as calls;
-ghost use Rattle.plan.specs.Plan.{Room};
+ghost use Rattle.calls.specs.declared.Call.the-variants.{Request, Receive};
+ghost use Rattle.calls.specs.Calls.{given, performed};
+ghost use Rattle.plan.specs.Plan.{blockOf, Room};
 ghost use Rattle.endpoint.specs.Record.{recordSize, encode, decode};
-ghost use Rattle.machine.specs.Calls.{requestOutcome, receiveOutcome};
-ghost use Rattle.machine.specs.Carried.{carried, Prepared};
-ghost use Rattle.link.specs.Record.{format};
-ghost use Rattle.link.specs.Lent.{Lent, Received, Called, freshIn};
+ghost use Rattle.machine.specs.Carried.{Plans, carried};
+ghost use Rattle.link.specs.Record.{format, recordQuestions};
+ghost use Rattle.link.specs.Lent.{answerOf, Called, answerIn, freshIn};
+ghost use Rattle.link.specs.Planned.{PlannedCall, Finished};
 
 // The octets of a record.
 pub const RECORD_SIZE: usize = 538;
+
+// What a call on a lent record answers; sent is the length of the frame sent, block that of the block handed up.
+pub struct Answer {
+    pub status: Status,
+    pub sent: usize,
+    pub block: usize,
+}
 
 // Writes a fresh record to the start of rec. Answers 0, or 11 where rec is too short.
 #[no_mangle]
@@ -31,34 +42,125 @@ pub extern "C" fn dock_fresh(rec: &mut [u8]) -> u8
     0
 }
 
-// Plans a request, or the receiving of a frame, on the record's own octets.
-fn plan_request(rec: &[u8], s: &[u8], out: &mut [u8], sent: &mut usize) -> Plan
+// Question 12 of a record.
+pub fn is_sound(rec: &[u8]) -> bool
     requires { ⌜ recordSize ≤ length (now rec) ⌝ }
-    ensures { λ r. ⌜ Prepared (decode (now (rec .entry))) (drop 2 (now (s .entry))) (requestOutcome (decode (now (rec .entry))) (now (s .entry)) (now (out .entry))) (now (out .entry)) (now (out .exit)) (now (sent .exit)) r ⌝ }
+    ensures { λ r. ⌜ r ≡ format .sound (now (rec .entry)) ⌝ }
 {
     let n = endpoint::load_numbers(rec);
-    machine::plan_request(n, &rec[18..26], &rec[26..538], s, out, sent)
+    endpoint::is_sound(n, &rec[18..26], &rec[26..538])
 }
 
-fn plan_receive(rec: &[u8], s: &[u8], out: &mut [u8], sent: &mut usize) -> Plan
+// Questions 11 and 12 of a record: 0 where both are passed.
+pub fn ready(rec: &[u8]) -> u8
+    ensures { λ r. ⌜ r ≡ first (recordQuestions (now (rec .entry))) ⌝ }
+{
+    if rec.len() < RECORD_SIZE {
+        return 11;
+    }
+    if !is_sound(rec) {
+        return 12;
+    }
+    0
+}
+
+// A refusal tells how the record stands; all is 0 where the buffer is too short for one.
+pub fn refuse(rec: &[u8], number: u8) -> Answer
+    ensures { λ r. ⌜ r ≡ answerOf (now (rec .entry)) (refused number) ⌝ }
+{
+    if rec.len() < RECORD_SIZE {
+        return Answer {
+            status: Status {
+                number,
+                state: 0,
+                notice: plan::NONE,
+                local: 0,
+                remote: 0,
+            },
+            sent: 0,
+            block: 0,
+        };
+    }
+    let n = endpoint::load_numbers(rec);
+    Answer {
+        status: Status {
+            number,
+            state: n.state,
+            notice: plan::NONE,
+            local: n.local,
+            remote: n.remote,
+        },
+        sent: 0,
+        block: 0,
+    }
+}
+
+// The plan of a call, from the record's own octets: s has those of a request or of a frame, room is the length of the buffer for a
+// frame out. Nothing is stored.
+pub fn plan_call(call: Call, rec: &[u8], s: &[u8], room: usize) -> Plan
     requires { ⌜ recordSize ≤ length (now rec) ⌝ }
-    ensures { λ r. ⌜ Prepared (decode (now (rec .entry))) (drop 2 (now (s .entry))) (receiveOutcome (decode (now (rec .entry))) (now (s .entry)) (now (out .entry))) (now (out .entry)) (now (out .exit)) (now (sent .exit)) r ⌝ }
+    ensures { λ r. ⌜ Plans (decode (now (rec .entry))) (given call (now (s .entry)) room) r ⌝ }
 {
     let n = endpoint::load_numbers(rec);
-    machine::plan_receive(n, &rec[18..26], &rec[26..538], s, out, sent)
+    machine::plan_call(call, n, &rec[18..26], &rec[26..538], s, room)
 }
 
-// Carries a plan out where the record lies: its numbers, and of the lengths and blocks what changes.
-fn carry_out(rec: &mut [u8], p: Plan, s: &[u8])
-    requires { ⌜ (recordSize ≤ length (now rec)) × ((decode (now rec) .waiting ≤ queueSize) × Room (p .queue) (drop 2 (now s)) (decode (now rec) .waiting)) ⌝ }
-    ensures { λ _. ⌜ now (rec .exit) ≡ put (now (rec .entry)) 0 (encode (carried p (drop 2 (now (s .entry))) (decode (now (rec .entry))))) ⌝ }
+// Changes the record where it lies: its numbers, and of the lengths and blocks what the plan says; joined is the block that joins.
+fn store(p: Plan, joined: &[u8], rec: &mut [u8])
+    requires { ⌜ (recordSize ≤ length (now rec)) × ((decode (now rec) .waiting ≤ queueSize) × ((length (now joined) ≤ longestBlock) × Room (p .queue) (now joined) (decode (now rec) .waiting))) ⌝ }
+    ensures { λ _. ⌜ now (rec .exit) ≡ put (now (rec .entry)) 0 (encode (carried p (now (joined .entry)) (decode (now (rec .entry))))) ⌝ }
 {
     let waiting = endpoint::wide(rec[17]);
     let queue = p.queue;
     let n = p.numbers;
     endpoint::store_numbers(n, rec);
-    machine::change_lengths(queue, waiting, s, &mut rec[18..26]);
-    machine::change_blocks(queue, waiting, s, &mut rec[26..538]);
+    let count = [joined.len() as u8];
+    machine::change_places(queue, 1, waiting, &count, &mut rec[18..26]);
+    machine::change_places(
+        queue,
+        Endpoint::LONGEST_BLOCK,
+        waiting,
+        joined,
+        &mut rec[26..538],
+    );
+}
+
+// The stores of a planned call, and its answer: the frame out, then the record. A plan that refuses stores nothing.
+pub fn finish(p: Plan, rec: &mut [u8], s: &[u8], out: &mut [u8]) -> Answer
+    requires { ⌜ (recordSize ≤ length (now rec)) × PlannedCall (now rec) (now s) (length (now out)) p ⌝ }
+    ensures { λ r. ⌜ Finished p (now (rec .entry)) (now (s .entry)) (now (out .entry)) (now (rec .exit)) (now (out .exit)) r ⌝ }
+{
+    if p.number != plan::ACCEPTED {
+        return refuse(rec, p.number);
+    }
+    let queue = p.queue;
+    let joined = plan::joined(queue, s);
+    let sent = machine::send(p, joined, &rec[18..26], &rec[26..538], out);
+    store(p, joined, rec);
+    let block = plan::handed_up(p.notice, s);
+    let n = p.numbers;
+    Answer {
+        status: Status {
+            number: plan::ACCEPTED,
+            state: n.state,
+            notice: p.notice,
+            local: n.local,
+            remote: n.remote,
+        },
+        sent,
+        block: block.len(),
+    }
+}
+
+// A call of an end: a request, the timer call among them, or a frame received.
+pub fn perform(call: Call, rec: &mut [u8], s: &[u8], out: &mut [u8]) -> Answer
+    ensures { λ r. ⌜ Called (performed format (now (rec .entry)) (given call (now (s .entry)) (length (now (out .entry))))) (now (rec .entry)) (now (s .entry)) (now (out .entry)) (now (rec .exit)) (now (out .exit)) r ⌝ }
+{
+    if rec.len() < RECORD_SIZE {
+        return refuse(rec, 11);
+    }
+    let p = plan_call(call, rec, s, out.len());
+    finish(p, rec, s, out)
 }
 
 // A request, the timer call among them: s has its octets. Answers the number; state, notice, L, D and the length of the frame
@@ -74,27 +176,16 @@ pub extern "C" fn dock_request(
     remote: &mut u32,
     sent: &mut usize,
 ) -> u8
-    ensures { λ r. ⌜ Lent (performed format (now (rec .entry)) (calls.request (now (s .entry)) (now (out .entry)))) (now (rec .entry)) (now (out .entry)) (now (rec .exit)) (now (out .exit)) r (now (state .exit)) (now (notice .exit)) (now (local .exit)) (now (remote .exit)) (now (sent .exit)) ⌝ }
+    ensures { λ r. ⌜ Called (performed format (now (rec .entry)) (given Request (now (s .entry)) (length (now (out .entry))))) (now (rec .entry)) (now (s .entry)) (now (out .entry)) (now (rec .exit)) (now (out .exit)) (answerIn r (now (state .exit)) (now (notice .exit)) (now (local .exit)) (now (remote .exit)) (now (sent .exit)) 0) ⌝ }
 {
-    if rec.len() < RECORD_SIZE {
-        *state = 0;
-        *notice = 0;
-        *local = 0;
-        *remote = 0;
-        *sent = 0;
-        return 11;
-    }
-    let asked = plan_request(rec, s, out, sent);
-    let after = asked.numbers;
-    *state = after.state;
-    *notice = asked.notice;
-    *local = after.local;
-    *remote = after.remote;
-    if asked.number != 0 {
-        return asked.number;
-    }
-    carry_out(rec, asked, s);
-    0
+    let a = perform(Call::Request, rec, s, out);
+    let told = a.status;
+    *state = told.state;
+    *notice = told.notice;
+    *local = told.local;
+    *remote = told.remote;
+    *sent = a.sent;
+    told.number
 }
 
 // Receives the frame s. Gives the block handed up, a part of s, empty where there is none; the number, state, notice, L, D and
@@ -110,29 +201,17 @@ pub fn receive<'a>(
     remote: &mut u32,
     sent: &mut usize,
 ) -> &'a [u8]
-    ensures { λ r. ⌜ Received (performed format (now (rec .entry)) (calls.receive (now (s .entry)) (now (out .entry)))) (now (rec .entry)) (now (out .entry)) (now (rec .exit)) (now (out .exit)) (now (number .exit)) (now (state .exit)) (now (notice .exit)) (now (local .exit)) (now (remote .exit)) (now (sent .exit)) (now r) ⌝ }
+    ensures { λ r. ⌜ Called (performed format (now (rec .entry)) (given Receive (now (s .entry)) (length (now (out .entry))))) (now (rec .entry)) (now (s .entry)) (now (out .entry)) (now (rec .exit)) (now (out .exit)) (answerIn (now (number .exit)) (now (state .exit)) (now (notice .exit)) (now (local .exit)) (now (remote .exit)) (now (sent .exit)) (length (now r))) × (now r ≡ blockOf (performed format (now (rec .entry)) (given Receive (now (s .entry)) (length (now (out .entry)))))) ⌝ }
 {
-    if rec.len() < RECORD_SIZE {
-        *number = 11;
-        *state = 0;
-        *notice = 0;
-        *local = 0;
-        *remote = 0;
-        *sent = 0;
-        return &s[..0];
-    }
-    let heard = plan_receive(rec, s, out, sent);
-    let n = heard.numbers;
-    *number = heard.number;
-    *state = n.state;
-    *notice = heard.notice;
-    *local = n.local;
-    *remote = n.remote;
-    if heard.number != 0 {
-        return &s[..0];
-    }
-    carry_out(rec, heard, s);
-    plan::handed_up(heard.notice, s)
+    let a = perform(Call::Receive, rec, s, out);
+    let told = a.status;
+    *number = told.number;
+    *state = told.state;
+    *notice = told.notice;
+    *local = told.local;
+    *remote = told.remote;
+    *sent = a.sent;
+    plan::handed_up(told.notice, s)
 }
 
 // Receives the frame s for programs in C. Answers the number; the block handed up is octets 14 on of s, and its length, 0 where
@@ -149,7 +228,7 @@ pub extern "C" fn dock_receive(
     sent: &mut usize,
     block: &mut usize,
 ) -> u8
-    ensures { λ r. ⌜ Called (performed format (now (rec .entry)) (calls.receive (now (s .entry)) (now (out .entry)))) (now (rec .entry)) (now (s .entry)) (now (out .entry)) (now (rec .exit)) (now (out .exit)) r (now (state .exit)) (now (notice .exit)) (now (local .exit)) (now (remote .exit)) (now (sent .exit)) (now (block .exit)) ⌝ }
+    ensures { λ r. ⌜ Called (performed format (now (rec .entry)) (given Receive (now (s .entry)) (length (now (out .entry))))) (now (rec .entry)) (now (s .entry)) (now (out .entry)) (now (rec .exit)) (now (out .exit)) (answerIn r (now (state .exit)) (now (notice .exit)) (now (local .exit)) (now (remote .exit)) (now (sent .exit)) (now (block .exit))) ⌝ }
 {
     let mut number: u8 = 0;
     let up = receive(rec, s, out, &mut number, state, notice, local, remote, sent);

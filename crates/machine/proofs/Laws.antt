@@ -1,5 +1,5 @@
 -- What the calls keep: an accepted call of a sound struct leaves a sound struct, which holds the endpoint that the step table
--- gives. Assumes nothing.
+-- gives.
 use Prim.Native.Nat.{ℕ, _+_, _≤_}
 use mathlib.Core.Path.{_≡_, refl, sym, subst, ap, _∙_}
 use mathlib.Core.Bool.{Bool, true}
@@ -8,7 +8,7 @@ use native.Mathlib.Omega.{arith}
 use borrow.Author.Tests.{leb-true, eqb-true}
 use lib.Dec.{leb, eqb}
 use lib.ListN.{length, getD, length-drop}
-use Rattle.octets.specs.Sizes.{lastNumber}
+use Rattle.octets.specs.Sizes.{queueSize, lastNumber}
 use Rattle.octets.specs.Test.{first, Outcome, refused, ok, mapped, andThen}
 use Rattle.octets.specs.Octets.{field, Octets}
 use Rattle.octets.proofs.Octets.{field-one, field-more}
@@ -25,13 +25,15 @@ use Rattle.protocol.specs.Endpoint as abstract
 use Rattle.protocol.specs.Limits.{Bounded, Readable, LeavesSound, LeavesBounded}
 use Rattle.protocol.proofs.Limits.{call-sound, call-bounded}
 use Rattle.endpoint.specs.declared.Endpoint.{Endpoint}
-use Rattle.endpoint.specs.View.{pack, view}
+use Rattle.endpoint.specs.View.{placesSize, pack, view}
 use Rattle.endpoint.specs.Sound.{sound}
-use Rattle.calls.specs.Calls.{Call, ownQuestions, said, asked}
-use Rattle.calls.specs.Calls as calls
+use Rattle.calls.specs.declared.Call.{Call}
+use Rattle.calls.specs.declared.Call.the-variants as call
+use Rattle.calls.specs.Calls.{Arguments, reads, does, ownQuestions, asked}
 use Rattle.calls.proofs.Lift.{read-sized}
 use Rattle.endpoint.proofs.Sounds.{view-sound}
 use Rattle.endpoint.proofs.Held.{held, pack-sound}
+use Rattle.machine.specs.Calls.{outcomeOf}
 use Rattle.receiving.proofs.Reading.{good, passed, sender-is, quoted-is, number-is}
 
 -- four octets make a number of 32 bits
@@ -94,9 +96,6 @@ unfolding andThen mapped
 mapped-ok f (refused n) next h = absurd (let z : _≡_ {A = ℕ} 0 1 = ap good h in omega arith)
 mapped-ok f (ok x) next h = (x, refl, h)
 
-ready-sound : (t : Bool) (c : Call) → first (ownQuestions t c) ≡ 0 → t ≡ true
-ready-sound t c h = all-yes 12 t _ (all-yes 11 _ _ h tt .1) tt .0
-
 -- an accepted call of a sound endpoint performs what its octets say, which was read
 pub record Accepted (fine : Bool) (a : abstract.Endpoint) (x : Step) : Type 0 where
   pub is-sound : fine ≡ true
@@ -105,20 +104,23 @@ pub record Accepted (fine : Bool) (a : abstract.Endpoint) (x : Step) : Type 0 wh
   pub performs : perform call a ≡ ok x
 
 -- what a call is given: the octets of a frame are octets
-abbrev pub InOctets : Call → Type 0
-InOctets (calls.request s out) = Unit {0}
-InOctets (calls.receive s out) = Octets s
+abbrev pub InOctets : Call → List ℕ → Type 0
+InOctets call.Request s = Unit {0}
+InOctets call.Receive s = Octets s
 
-pub accepts : (fine : Bool) (a : abstract.Endpoint) (c : Call) → InOctets c → {x : Step} → asked fine a c ≡ ok x → Accepted fine a x
-unfolding asked said
-accepts fine a (calls.request s out) o h =
-    let r = passing (first (ownQuestions fine (calls.request s out))) h in
-    let q = mapped-ok ask (readRequest s) _ (r .1) in
-    record { is-sound = ready-sound fine (calls.request s out) (r .0); call = ask (q .0); readable = read-sized s (q .0) (q .1); performs = q .2 }
-accepts fine a (calls.receive s out) o h =
-    let r = passing (first (ownQuestions fine (calls.receive s out))) h in
-    let f = mapped-ok deliver (readFrame s) _ (r .1) in
-    record { is-sound = ready-sound fine (calls.receive s out) (r .0); call = deliver (f .0); readable = read-fits s o (f .1); performs = f .2 }
+-- what an accepted call performs was read
+performs : (c : Call) (s : List ℕ) (a : abstract.Endpoint) → InOctets c s → {x : Step} → does c s a ≡ ok x
+    → (q : protocol.Call) × Readable q × (perform q a ≡ ok x)
+unfolding does reads
+performs call.Request s a o h = let q = mapped-ok ask (readRequest s) _ h in (ask (q .0), read-sized s (q .0) (q .1), q .2)
+performs call.Receive s a o h = let f = mapped-ok deliver (readFrame s) _ h in (deliver (f .0), read-fits s o (f .1), f .2)
+
+pub accepts : (fine : Bool) (a : abstract.Endpoint) (c : Arguments) → InOctets (c .call) (c .octets) → {x : Step} → asked fine a c ≡ ok x → Accepted fine a x
+unfolding asked
+accepts fine a c o h =
+    let r = passing (first (ownQuestions fine (c .room))) h in
+    let q = performs (c .call) (c .octets) a o (r .1) in
+    record { is-sound = all-yes 12 fine _ (all-yes 11 _ _ (r .0) tt .1) tt .0; call = q .0; readable = q .1; performs = q .2 }
 
 -- What an accepted call leaves: a sound endpoint, whose struct is sound and holds it, and where the numbers had 32 bits they have.
 pub record Leaves (a : abstract.Endpoint) (x : Step) : Type 0 where
@@ -127,7 +129,9 @@ pub record Leaves (a : abstract.Endpoint) (x : Step) : Type 0 where
   pub holds : view (pack (x .endpoint)) ≡ x .endpoint
   pub bounded : Bounded a → Bounded (x .endpoint)
 
-pub leaves : (e : Endpoint) → length (e .lengths) ≡ 8 → length (e .blocks) ≡ 512 → (c : Call) → InOctets c → {x : Step} → asked (sound e) (view e) c ≡ ok x → Leaves (view e) x
+pub leaves : (e : Endpoint) → length (e .lengths) ≡ queueSize → length (e .blocks) ≡ placesSize → (c : Arguments) → InOctets (c .call) (c .octets) → {x : Step}
+    → outcomeOf e c ≡ ok x → Leaves (view e) x
+unfolding outcomeOf
 leaves e l8 l512 c o h =
     let a = accepts (sound e) (view e) c o h in
     let v = view-sound e (a .is-sound) l8 l512 in

@@ -1,3 +1,4 @@
 pub mod Ready
 pub mod Carries
 pub mod Laws
+pub mod Places

@@ -1,10 +1,11 @@
--- What the plans that many rows share come to. Assumes nothing.
+-- What the plans that many rows share come to.
 use Prim.Native.Nat.{ℕ, _+_, _-_, _≤_}
 use mathlib.Core.Path.{_≡_, refl, sym, ap, _∙_}
 use mathlib.Core.List.{List, []}
 use native.Mathlib.Omega.{arith}
 use lib.ListN.{length, drop, length-drop, drop-of-length-le}
 use Rattle.octets.specs.Test.{Outcome, refused, ok, numberOf}
+use Rattle.octets.specs.Sizes.{longestBlock}
 use Rattle.frame.specs.Frame.{Block}
 use Rattle.protocol.specs.Endpoint.{Endpoint}
 use Rattle.protocol.specs.Table.{Indication, none, notice, Step, quiet, turned}
@@ -14,7 +15,9 @@ use Rattle.decide.specs.declared.Numbers.{Numbers}
 use Rattle.decide.specs.Rows.{holding}
 use Rattle.plan.specs.declared.Reply.{Reply}
 use Rattle.plan.specs.declared.Plan.{Plan}
-use Rattle.plan.specs.Plan.{noticeOf, sentIn, endpointAfter, queueAfter, sentBy, Comes}
+use Rattle.plan.specs.declared.Queue.{Queue}
+use Rattle.plan.specs.declared.Queue.the-variants.{Keep, Join, Release}
+use Rattle.plan.specs.Plan.{noticeOf, sentIn, endpointAfter, joinedBy, queueAfter, Room, blockOut, sentBy, Comes}
 use Rattle.plan.specs.Parts.{refusing, keeping, turning, beginning, releasing}
 
 -- an accepted call
@@ -77,3 +80,40 @@ module _ (n : Numbers) (q : List Block) (b old : Block) (w : length q ≡ n .wai
         room = omega arith;
         sent = refl;
       })
+
+-- the block that joins is the request's
+after-joined : (k : Queue) (s : List ℕ) (q : List Block) → queueAfter k (drop 2 s) q ≡ queueAfter k (joinedBy k s) q
+unfolding queueAfter joinedBy
+after-joined Keep s q = refl
+after-joined Join s q = refl
+after-joined (Release k) s q = refl
+
+out-joined : (k : Queue) (s : List ℕ) (old : Block) → blockOut k (drop 2 s) old ≡ blockOut k (joinedBy k s) old
+unfolding joinedBy
+out-joined Keep s old = refl
+out-joined Join s old = refl
+out-joined (Release k) s old = refl
+
+room-joined : (k : Queue) (s : List ℕ) (w : ℕ) → Room k (drop 2 s) w → Room k (joinedBy k s) w
+unfolding joinedBy
+room-joined Keep s w r = r
+room-joined Join s w r = r
+room-joined (Release k) s w r = r
+
+pub by-joined : {n : Numbers} {q : List Block} (s : List ℕ) {old : Block} {o : Outcome Step} {p : Plan} → Comes n q (drop 2 s) old o p
+    → Comes n q (joinedBy (p .queue) s) old o p
+by-joined {q = q} s {old} {p = p} c =
+    record {
+      number = c .number;
+      notice = c .notice;
+      endpoint = rw (after-joined (p .queue) s q) at (c .endpoint);
+      counted = rw (after-joined (p .queue) s q) at (c .counted);
+      room = room-joined (p .queue) s (length q) (c .room);
+      sent = rw (out-joined (p .queue) s old) at (c .sent);
+    }
+
+pub joined-short : (k : Queue) (s : List ℕ) (w : ℕ) → Room k (joinedBy k s) w → length (joinedBy k s) ≤ longestBlock
+unfolding joinedBy
+joined-short Keep s w r = omega arith
+joined-short Join s w r = r .1 .1
+joined-short (Release k) s w r = omega arith

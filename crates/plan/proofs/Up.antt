@@ -1,5 +1,5 @@
--- The block handed up is what follows octet 14 of the frame received; a request hands nothing up. Assumes nothing.
-use Prim.Native.Nat.{ℕ, zero, suc, _≤_}
+-- The block handed up is what follows octet 14 of the frame received; a request hands nothing up.
+use Prim.Native.Nat.{ℕ, _≤_}
 use mathlib.Core.Path.{_≡_, refl, sym, subst, _∙_}
 use mathlib.Core.Logic.{_≢_}
 use mathlib.Core.Bool.{Bool}
@@ -7,8 +7,9 @@ use mathlib.Core.List.{List, []}
 use native.Mathlib.Omega.{arith}
 use lib.ListN.{length, drop}
 use lib.Seq.{take-all}
-use Rattle.octets.specs.Test.{first, Outcome, refused, ok, outcome, refusing, mapped, andThen}
+use Rattle.octets.specs.Test.{Outcome, refused, ok, refusing, mapped, andThen}
 use Rattle.octets.proofs.Test.{by-eq, eq-yes, eq-no}
+use Rattle.octets.proofs.Outcomes.{after-question, of-value}
 use Rattle.frame.specs.Frame.{Frame, Request, connect, listen, endListening, close, timer, send}
 use Rattle.frame.specs.Read.{readFrame, readRequest}
 use Rattle.frame.proofs.Blocks.{data-block}
@@ -23,7 +24,9 @@ use Rattle.protocol.specs.Requests as protocol
 use Rattle.protocol.specs.Network.{ask, deliver, perform}
 use Rattle.protocol.specs.Network as network
 use Rattle.protocol.proofs.Facts.{Found, hand-up, found}
-use Rattle.calls.specs.Calls.{Call, request, receive, input, said, asked, ownQuestions}
+use Rattle.calls.specs.declared.Call.{Call}
+use Rattle.calls.specs.declared.Call.the-variants as call
+use Rattle.calls.specs.Calls.{Arguments, reads, does, asked}
 use Rattle.plan.specs.Plan.{noticeOf, blockIn, blockOf, blockPart, blockBy}
 
 -- a notice 5 comes with the octets from 14 on, any other with none
@@ -76,10 +79,9 @@ unfolding andThen mapped perform noticeOf blockOf
 hearing-right s e (refused m) d = none s 0 (λ z. omega arith)
 hearing-right s e (ok f) d = right-step s e f (d f refl)
 
-refusing-right : (s : List ℕ) (n : ℕ) (o : Outcome Step) → RightOf s o → RightOf s (refusing n o)
-unfolding refusing noticeOf blockOf
-refusing-right s zero o h = h
-refusing-right s (suc n) o h = none s 0 (λ z. omega arith)
+pub none-right : (s : List ℕ) (n : ℕ) → RightOf s (refused n)
+unfolding noticeOf blockOf
+none-right s n = none s 0 (λ z. omega arith)
 
 -- a request hands nothing up
 pub record Silent (o : Outcome Step) : Type 0 where
@@ -95,32 +97,30 @@ accepts-silent close e = record { notice = refl; block = refl }
 accepts-silent (send b) e = record { notice = refl; block = refl }
 accepts-silent timer e = record { notice = refl; block = refl }
 
-outcome-silent : (n : ℕ) (x : Step) → Silent (ok x) → Silent (outcome n x)
-unfolding outcome noticeOf blockOf
-outcome-silent zero x h = h
-outcome-silent (suc n) x h = record { notice = refl; block = refl }
+pub refused-silent : (n : ℕ) → Silent (refused n)
+unfolding noticeOf blockOf
+refused-silent n = record { notice = refl; block = refl }
 
 asking-silent : (e : Endpoint) (r : Outcome Request) → Silent (andThen (mapped ask r) (λ (x : network.Call). perform x e))
 unfolding andThen mapped perform noticeOf blockOf protocol.request
 asking-silent e (refused n) = record { notice = refl; block = refl }
-asking-silent e (ok q) = outcome-silent (refusal q e) (accept q e) (accepts-silent q e)
+asking-silent e (ok q) = of-value Silent refused-silent (refusal q e) (accept q e) (accepts-silent q e)
 
 pub refusing-silent : (n : ℕ) (o : Outcome Step) → Silent o → Silent (refusing n o)
-unfolding refusing noticeOf blockOf
-refusing-silent zero o h = h
-refusing-silent (suc n) o h = record { notice = refl; block = refl }
+refusing-silent = after-question Silent refused-silent
 
-pub request-silent : (sound : Bool) (e : Endpoint) (s out : List ℕ) → Silent (asked sound e (request s out))
-unfolding asked said
-request-silent sound e s out = refusing-silent (first (ownQuestions sound (request s out))) _ (asking-silent e (readRequest s))
+pub request-silent : (s : List ℕ) (e : Endpoint) → Silent (does call.Request s e)
+unfolding does reads
+request-silent s e = asking-silent e (readRequest s)
 
-silent-right : (s : List ℕ) {o : Outcome Step} → Silent o → RightOf s o
-silent-right s h = record { some = λ z. absurd (omega (arith, z, h .notice)); nothing = λ _. h .block }
+does-right : (c : Call) (s : List ℕ) (e : Endpoint) → RightOf s (does c s e)
+unfolding does reads
+does-right call.Request s e = let h = asking-silent e (readRequest s) in record { some = λ z. absurd (omega (arith, z, h .notice)); nothing = λ _. h .block }
+does-right call.Receive s e = hearing-right s e (readFrame s) (λ f h. data-block s h)
 
-pub right : (sound : Bool) (e : Endpoint) (c : Call) → RightOf (input c) (asked sound e c)
-unfolding asked said
-right sound e (request s out) = silent-right s (request-silent sound e s out)
-right sound e (receive s out) = refusing-right s (first (ownQuestions sound (receive s out))) _ (hearing-right s e (readFrame s) (λ f h. data-block s h))
+pub right : (sound : Bool) (e : Endpoint) (c : Arguments) → RightOf (c .octets) (asked sound e c)
+unfolding asked
+right sound e c = after-question (RightOf (c .octets)) (none-right (c .octets)) _ _ (does-right (c .call) (c .octets) e)
 
 -- so it is the part of the frame received that its length tells
 pub part : {s block : List ℕ} {n : ℕ} → Right s block n → blockPart s (length block) ≡ block

@@ -4,14 +4,12 @@ use mathlib.Core.Path.{_≡_}
 use mathlib.Core.List.{List, [], _∷_, _++_}
 use lib.ListN.{length, take, drop}
 use Rattle.octets.specs.Sizes.{longestBlock, queueSize}
-use Rattle.octets.specs.Test.{ifEq, Outcome, refused, ok, mapped, andThen, numberOf}
+use Rattle.octets.specs.Test.{ifEq, Outcome, refused, ok, numberOf}
 use Rattle.octets.specs.Octets.{put}
 use Rattle.frame.specs.Frame.{Block}
-use Rattle.frame.specs.Read.{readFrame, readRequest}
 use Rattle.frame.specs.Answer.{frameOf}
 use Rattle.protocol.specs.Endpoint.{Endpoint}
 use Rattle.protocol.specs.Table.{Sent, nothing, frame, Step, notice, Indication, none, connected, rejected, closedByPartner, closeFinished, handedUp}
-use Rattle.protocol.specs.Network.{Call, ask, deliver, perform}
 use Rattle.calls.specs.Calls.{wire}
 use Rattle.decide.specs.declared.Numbers.{Numbers}
 use Rattle.decide.specs.Rows.{holding}
@@ -20,13 +18,6 @@ use Rattle.plan.specs.declared.Queue.the-variants.{Keep, Join, Release}
 use Rattle.plan.specs.declared.Reply.{Reply}
 use Rattle.plan.specs.declared.Reply.the-variants as reply
 use Rattle.plan.specs.declared.Plan.{Plan}
-
--- what a request and what receiving come to, of octets and an endpoint that questions 11 and 12 have passed
-unfoldable pub requested : List ℕ → Endpoint → Outcome Step
-requested s e = andThen (mapped ask (readRequest s)) (λ (x : Call). perform x e)
-
-unfoldable pub heard : List ℕ → Endpoint → Outcome Step
-heard s e = andThen (mapped deliver (readFrame s)) (λ (x : Call). perform x e)
 
 -- what a call answers besides: a refusal has no notice, sends nothing and leaves the endpoint
 unfoldable pub noticeOf : Outcome Step → ℕ
@@ -62,7 +53,13 @@ blockPart s n = take n (drop 14 s)
 unfoldable pub blockBy : ℕ → List ℕ → Block
 blockBy n s = ifEq n 5 (drop 14 s) []
 
--- the waiting blocks q after the plan; b is the request's block
+-- the block that joins: octets 2 on of a send request; none where none joins
+unfoldable pub joinedBy : Queue → List ℕ → Block
+joinedBy Keep s = []
+joinedBy Join s = drop 2 s
+joinedBy (Release k) s = []
+
+-- the waiting blocks q after the plan; b is the block that joins
 unfoldable pub queueAfter : Queue → Block → List Block → List Block
 queueAfter Keep b q = q
 queueAfter Join b q = q ++ (b ∷ [])
@@ -98,7 +95,7 @@ pub record Comes (n : Numbers) (q : List Block) (b old : Block) (o : Outcome Ste
   pub room : Room (p .queue) b (length q)
   pub sent : sentBy (p .reply) (blockOut (p .queue) b old) ≡ sentIn o
 
--- of every endpoint of these numbers, where b is the request's block
+-- of every endpoint of these numbers, where b is the block that joins
 abbrev pub Planned : Numbers → Block → (Endpoint → Outcome Step) → Plan → Type 0
 Planned n b does p = (q : List Block) (old : Block) → length q ≡ n .waiting → Oldest q old → Comes n q b old (does (holding n q)) p
 

@@ -2,11 +2,10 @@
 use decide::Numbers;
 use frame::Header;
 ghost use mathlib.Core.Path.{_≡_};
-ghost use Prim.Native.Nat.{ℕ, _-_, _≤_};
-ghost use lib.ListN.{length, drop};
+ghost use Prim.Native.Nat.{ℕ, _≤_};
+ghost use lib.ListN.{length};
 ghost use Rattle.octets.specs.Sizes.{longestFrame, longestBlock};
-ghost use Rattle.protocol.specs.Requests.{request};
-ghost use Rattle.plan.specs.Plan.{blockBy, Room, blockOut, sentBy, Sends};
+ghost use Rattle.plan.specs.Plan.{blockBy, joinedBy, Room, blockOut, sentBy, Sends};
 ghost use Rattle.plan.specs.Parts.{refusing, keeping, turning};
 
 // The number of an answer that refuses nothing.
@@ -104,16 +103,28 @@ fn write(reply: Reply, block: &[u8], out: &mut [u8]) -> usize
     }
 }
 
-// s has the request's octets, whose block may be the one that joins; oldest is the first of the waiting blocks.
-pub fn send_reply(p: Plan, s: &[u8], oldest: &[u8], out: &mut [u8]) -> usize
-    requires { ⌜ (longestFrame ≤ length (now out)) × ((length (now oldest) ≤ longestBlock) × (w : ℕ) × Room (p .queue) (drop 2 (now s)) w) ⌝ }
-    ensures { λ r. ⌜ Sends (sentBy (p .reply) (blockOut (p .queue) (drop 2 (now (s .entry))) (now (oldest .entry)))) (now (out .entry)) (now (out .exit)) r ⌝ }
+// The block that joins the waiting ones, a part of the request s; empty where none joins.
+pub fn joined<'a>(queue: Queue, s: &'a [u8]) -> &'a [u8]
+    requires { ⌜ ((w : ℕ) × Room queue (joinedBy queue (now s)) w) ⌝ }
+    ensures { λ r. ⌜ now r ≡ joinedBy queue (now (s .entry)) ⌝ }
+{
+    match queue {
+        Queue::Keep => &s[..0],
+        Queue::Join => &s[2..],
+        Queue::Release(_) => &s[..0],
+    }
+}
+
+// Sends what the plan says. joined is the block that joins, oldest the first of the waiting blocks.
+pub fn send_reply(p: Plan, joined: &[u8], oldest: &[u8], out: &mut [u8]) -> usize
+    requires { ⌜ (longestFrame ≤ length (now out)) × ((length (now oldest) ≤ longestBlock) × (length (now joined) ≤ longestBlock)) ⌝ }
+    ensures { λ r. ⌜ Sends (sentBy (p .reply) (blockOut (p .queue) (now (joined .entry)) (now (oldest .entry)))) (now (out .entry)) (now (out .exit)) r ⌝ }
 {
     let queue = p.queue;
     let reply = p.reply;
     match queue {
         Queue::Keep => write(reply, oldest, out),
-        Queue::Join => write(reply, &s[2..], out),
+        Queue::Join => write(reply, joined, out),
         Queue::Release(_) => write(reply, oldest, out),
     }
 }

@@ -132,5 +132,5 @@ module _ {a b : History} (s : Sane (now a)) (l : Laden (now a)) where
 
   pub deed : (c : Call) → Due b c → Deed a b c (after c a)
   unfolding after recorded perform
-  deed (ask q) d = requested (λ (o : Outcome Step). Deed a b (ask q) (recorded (ask q) o a)) q (now a) (λ n. refuses) (λ y. allowed q y)
+  deed (ask q) d = requested (λ (o : Outcome Step). Deed a b (ask q) (recorded (ok (ask q)) o a)) q (now a) (λ n. refuses) (λ y. allowed q y)
   deed (deliver f) d = goes (from d) (heard (now a) f)

@@ -5,9 +5,10 @@ use Rattle.octets.specs.Test.{when, ifEq, ifLt, first, outcome}
 use Rattle.frame.specs.Frame.{Frame}
 use Rattle.protocol.specs.Table.{whenListening, whenActive, whenPassive, dataRow, openRows, whenEstablished, rule, apply, step}
 use Rattle.protocol.specs.Requests.{questions, refusal, accept, request}
-use Rattle.protocol.specs.Network.{perform, now, sent, recorded, after}
+use Rattle.protocol.specs.Network.{perform, now, sent, recorded}
+use Rattle.protocol.specs.World.{called, ends}
 use Rattle.protocol.specs.Claim.{handedUpIn, Demand}
-use Rattle.protocol.specs.Examples.{callOne, callBoth, ping, pong, talk, BothOpen, HandsUp}
+use Rattle.protocol.specs.Examples.{start, callOne, callBoth, ping, pong, talk, BothOpen, HandsUp}
 use Rattle.protocol.proofs.Theorem.{demand-3}
 
 -- the frame delivered is the last one sent
@@ -15,17 +16,17 @@ last : {f : Frame} {l : List Frame} → List·Memᴰ f (f ∷ l)
 last = List·Memᴰ·head refl
 
 pub one-calls : BothOpen callOne
-unfolding after recorded perform now sent step rule apply whenListening whenActive whenPassive
+unfolding called recorded perform now sent step rule apply whenListening whenActive whenPassive
     request refusal questions accept first outcome ifEq ifLt when
 one-calls = record { due = (tt, (tt, (last, (last, (last, tt))))); a-open = refl; b-open = refl }
 
 pub both-call : BothOpen callBoth
-unfolding after recorded perform now sent step rule apply whenActive
+unfolding called recorded perform now sent step rule apply whenActive
     request refusal questions accept first outcome ifEq ifLt when
 both-call = record { due = (tt, (tt, (last, (last, (last, tt))))); a-open = refl; b-open = refl }
 
 pub they-talk : BothOpen talk
-unfolding after recorded perform now sent step rule apply whenListening whenActive whenPassive whenEstablished openRows dataRow
+unfolding called recorded perform now sent step rule apply whenListening whenActive whenPassive whenEstablished openRows dataRow
     request refusal questions accept first outcome ifEq ifLt when
 they-talk = record {
   due = (tt, (tt, (last, (last, (last, (tt, (tt, (last, (tt, (last, (List·Memᴰ·tail last, (tt, (last, tt)))))))))))));
@@ -34,9 +35,9 @@ they-talk = record {
 }
 
 pub they-hear : HandsUp talk (pong ∷ []) (ping ∷ pong ∷ [])
-unfolding handedUpIn after recorded perform now sent step rule apply whenListening whenActive whenPassive whenEstablished openRows dataRow
+unfolding handedUpIn called recorded perform now sent step rule apply whenListening whenActive whenPassive whenEstablished openRows dataRow
     request refusal questions accept first outcome ifEq ifLt when
 they-hear = record { by-a = refl; by-b = refl }
 
-pub so-they-talk : Demand talk
-so-they-talk = demand-3 talk (they-talk .due)
+pub so-they-talk : Demand ends start talk
+so-they-talk = demand-3 start ((refl, refl), (refl, refl)) talk (they-talk .due)

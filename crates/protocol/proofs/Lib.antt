@@ -6,6 +6,7 @@ pub mod Opening
 pub mod Blocks
 pub mod Order
 pub mod Limits
+pub mod World
 pub mod Theorem
 pub mod Told
 pub mod Edges

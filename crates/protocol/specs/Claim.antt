@@ -9,7 +9,8 @@ use Rattle.protocol.specs.Endpoint.{closed, activeOpening, established, 
 use Rattle.protocol.specs.Table.{Indication, none, connected, rejected, closedByPartner, closeFinished, handedUp}
 use Rattle.protocol.specs.Table.{frame, quiet, says, turned, step}
 use Rattle.protocol.specs.Requests.{request}
-use Rattle.protocol.specs.Network.{Call, ask, deliver, Event, History, now, Network, start, Entry, made, run}
+use Rattle.protocol.specs.Network.{Call, ask, deliver, Event, History, now}
+use Rattle.protocol.specs.World.{Ends, Entry, Two, made, run, AllDue, BothNew}
 
 -- An incarnation is one L of one end. It is begun by connect where the connect request raised L to it.
 abbrev pub BegunByConnect : History → ℕ → Type 0
@@ -31,15 +32,15 @@ pub record Met (this other : History) : Type 0 where
   -- at least one of the two incarnations was begun by connect
   pub called : BegunByConnect this (now this .local) ⊎ BegunByConnect other (now other .local)
 
--- (a) of one call, which turns the network n into n′
-pub record Meets (n n′ : Network) : Type 0 where
-  pub at-a : Opens (now (n .a)) (now (n′ .a)) → Met (n′ .a) (n′ .b)
-  pub at-b : Opens (now (n .b)) (now (n′ .b)) → Met (n′ .b) (n′ .a)
+-- (a) of one call, which turns the ends w into w′
+pub record Meets (E : Ends) (w w′ : Two E) : Type 0 where
+  pub at-a : Opens (now (w .a .history)) (now (w′ .a .history)) → Met (w′ .a .history) (w′ .b .history)
+  pub at-b : Opens (now (w .b .history)) (now (w′ .b .history)) → Met (w′ .b .history) (w′ .a .history)
 
--- each call of the list
-abbrev pub EachCall : (Network → Network → Type 0) → Network → List Entry → Type 0
-EachCall P n [] = Unit {0}
-EachCall P n (c ∷ cs) = P n (made c n) × EachCall P (made c n) cs
+-- (a) of each call of the list
+abbrev pub EachMeets : (E : Ends) → Two E → List (Entry (E .Call)) → Type 0
+EachMeets E w [] = Unit {0}
+EachMeets E w (c ∷ cs) = Meets E w (made E c w) × EachMeets E (made E c w) cs
 
 -- the block of a call answered with notice 5
 abbrev pub blockUp : Indication → List Block
@@ -90,11 +91,15 @@ pub record InOrder (this other : History) : Type 0 where
   pub opened : (l d : ℕ) → OpenedWith this l d → Prefix (handedUpIn l this) (acceptedFor d l other)
   pub never : (l : ℕ) → ((d : ℕ) → OpenedWith this l d → ⊥) → handedUpIn l this ≡ []
 
--- Demand 3, of a list of calls at two fresh ends.
-pub record Demand (calls : List Entry) : Type 0 where
-  pub meets : EachCall Meets start calls
-  pub to-a : InOrder (run start calls .a) (run start calls .b)
-  pub to-b : InOrder (run start calls .b) (run start calls .a)
+-- Demand 3, of a list of calls.
+pub record Demand (E : Ends) (start : Two E) (calls : List (Entry (E .Call))) : Type 0 where
+  pub meets : EachMeets E start calls
+  pub to-a : InOrder (run E start calls .a .history) (run E start calls .b .history)
+  pub to-b : InOrder (run E start calls .b .history) (run E start calls .a .history)
+
+-- It is a single claim about every list at two fresh ends: no end opens without its partner.
+abbrev pub NoEndAlone : Ends → Type 0
+NoEndAlone E = (start : Two E) → BothNew E start → (calls : List (Entry (E .Call))) → AllDue E start calls → Demand E start calls
 
 -- Demand 3 says nothing of an end that is never told. So it is claimed too that a call to a closed end is turned away: the
 -- caller's timer call sends a frame, the partner answers it, and that answer, delivered, closes the caller with notice 2.
@@ -106,6 +111,6 @@ pub record TurnedAway (caller partner : Endpoint) : Type 0 where
   pub told : step caller reply ≡ quiet (turned closed 0 caller) rejected
 
 -- of two ends, whichever of them calls
-pub record Told (n : Network) : Type 0 where
-  pub a-calls : now (n .a) .state ≡ activeOpening → now (n .b) .state ≡ closed → TurnedAway (now (n .a)) (now (n .b))
-  pub b-calls : now (n .b) .state ≡ activeOpening → now (n .a) .state ≡ closed → TurnedAway (now (n .b)) (now (n .a))
+pub record Told (a b : Endpoint) : Type 0 where
+  pub a-calls : a .state ≡ activeOpening → b .state ≡ closed → TurnedAway a b
+  pub b-calls : b .state ≡ activeOpening → a .state ≡ closed → TurnedAway b a

@@ -2,6 +2,7 @@ pub mod Endpoint
 pub mod Table
 pub mod Requests
 pub mod Network
+pub mod World
 pub mod Claim
 pub mod Limits
 pub mod Edges

@@ -26,7 +26,9 @@ ghost use Rattle.octets.specs.Test.{ok};
 ghost use Rattle.frame.specs.Frame.{Block};
 ghost use Rattle.protocol.specs.Table.{rule, apply};
 ghost use Rattle.decide.specs.Rows.{carrying, Chosen};
-ghost use Rattle.plan.specs.Plan.{heard, Planned};
+ghost use Rattle.calls.specs.declared.Call.the-variants.{Receive};
+ghost use Rattle.calls.specs.Calls.{does};
+ghost use Rattle.plan.specs.Plan.{Planned};
 ghost use Rattle.plan.specs.Parts.{delivering, releasing};
 
 // One block more is handed up.
@@ -168,7 +170,7 @@ fn apply(row: Rule, n: Numbers, f: Values) -> Plan
 // Receiving: s has the frame's octets. The block of notice 5 is octets 14 on of s.
 pub fn receive(n: Numbers, s: &[u8]) -> Plan
     requires { ⌜ n .waiting ≤ n .accepted ⌝ }
-    ensures { λ r. ⌜ ((b : Block) → Planned n b (heard (now (s .entry))) r) ⌝ }
+    ensures { λ r. ⌜ ((b : Block) → Planned n b (does Receive (now (s .entry))) r) ⌝ }
 {
     let read = reader::read_frame(s);
     match read {

@@ -23,7 +23,9 @@ ghost use Rattle.frame.specs.Answer.{requestOf};
 ghost use Rattle.protocol.specs.Requests.{request};
 ghost use Rattle.protocol.specs.Network.{ask};
 ghost use Rattle.protocol.specs.Limits.{Readable};
-ghost use Rattle.plan.specs.Plan.{requested, heard, Planned};
+ghost use Rattle.calls.specs.declared.Call.the-variants.{Request};
+ghost use Rattle.calls.specs.Calls.{does};
+ghost use Rattle.plan.specs.Plan.{Planned};
 ghost use Rattle.plan.specs.Parts.{beginning};
 
 // The largest number of 32 bits: after it none is left.
@@ -190,7 +192,7 @@ fn ask(kind: RequestKind, n: Numbers) -> Plan
 // A request of the endpoint's user, or the timer call: s has the request's octets.
 pub fn request(n: Numbers, s: &[u8]) -> Plan
     requires { ⌜ n .waiting ≤ n .accepted ⌝ }
-    ensures { λ r. ⌜ Planned n (drop 2 (now (s .entry))) (requested (now (s .entry))) r ⌝ }
+    ensures { λ r. ⌜ Planned n (drop 2 (now (s .entry))) (does Request (now (s .entry))) r ⌝ }
 {
     let read = reader::read_request(s);
     match read {

@@ -11,28 +11,29 @@ use Rattle.octets.specs.Octets.{field}
 use Rattle.octets.proofs.Test.{if-eq, accepted, all-yes, passing}
 use Rattle.hexline.specs.Line.{unhex}
 use Rattle.frame.specs.Read.{kindOf}
-use Rattle.calls.specs.Calls.{request, receive}
-use Rattle.calls.specs.Claim.{Entry, Ends, DueAt}
+use Rattle.protocol.specs.World.{Entry, Two, DueAt}
+use Rattle.calls.specs.Calls.{Call, request, receive}
+use Rattle.link.specs.Record.{ends}
 use Rattle.logbook.proofs.Log.{held}
 use Rattle.rig.specs.Bench.{Bench, At, delivery, asks, asked}
 use Rattle.rig.specs.Run.{entry}
 use Rattle.rig.proofs.Logged.{SentBy, Logged}
 
 -- a call at A or B that is due
-abbrev pub Fair : Ends → At → Type 0
-Fair e x = (x .0 ≤ 1) × DueAt (entry x) e
+abbrev pub Fair : Two ends → At → Type 0
+Fair e x = (x .0 ≤ 1) × DueAt ends (entry x) e
 
 -- a request, at an end
-asks-fair : (e : Ends) (i : ℕ) (s out : List ℕ) → i ≤ 1 → Fair e (i, request s out)
+asks-fair : (e : Two ends) (i : ℕ) (s out : List ℕ) → i ≤ 1 → Fair e (i, request s out)
 unfolding entry
-asks-fair e i s out h = (h, if-eq (λ (x : Entry). DueAt x e) i 0 (λ _. tt) (λ _. tt))
+asks-fair e i s out h = (h, if-eq (λ (x : Entry Call). DueAt ends x e) i 0 (λ _. tt) (λ _. tt))
 
 -- a delivery to an end, of a frame that the other has sent
-gives-fair : (e : Ends) (j : ℕ) (s out : List ℕ) {i n : ℕ} → SentBy e i n s → j ≤ 1 → (j ≡ 0 → i ≡ 1) → (j ≢ 0 → i ≡ 0) → Fair e (j, receive s out)
+gives-fair : (e : Two ends) (j : ℕ) (s out : List ℕ) {i n : ℕ} → SentBy e i n s → j ≤ 1 → (j ≡ 0 → i ≡ 1) → (j ≢ 0 → i ≡ 0) → Fair e (j, receive s out)
 unfolding entry
-gives-fair e j s out x l h g = (l, if-eq (λ (y : Entry). DueAt y e) j 0 (λ k. x .by-b (h k)) (λ k. x .by-a (g k)))
+gives-fair e j s out x l h g = (l, if-eq (λ (y : Entry Call). DueAt ends y e) j 0 (λ k. x .by-b (h k)) (λ k. x .by-a (g k)))
 
-module _ (w : Bench) (e : Ends) (h : Logged e (w .count) (w .log)) where
+module _ (w : Bench) (e : Two ends) (h : Logged e (w .count) (w .log)) where
   abbrev IfOk : Outcome At → Type 0
   IfOk o = (x : At) → o ≡ ok x → Fair e x
 

@@ -12,36 +12,37 @@ use Rattle.frame.specs.Fits.{Fits, control-fits, data-fits, ack-fits}
 use Rattle.frame.specs.Layout.{encode}
 use Rattle.frame.proofs.Writing.{head-length, encode-control, encode-ack, encode-data}
 use Rattle.protocol.specs.Table.{Sent, nothing, frame, Step}
-use Rattle.protocol.specs.Network.{also, sent}
+use Rattle.protocol.specs.Network.{also, sent, recorded}
 use Rattle.protocol.specs.Network as protocol
-use Rattle.calls.specs.Calls.{Format, Call, said, asked, performed}
-use Rattle.calls.specs.Claim.{End, recorded, after}
+use Rattle.protocol.specs.World.{End, called}
+use Rattle.calls.specs.Calls.{Call, said, asked, performed}
+use Rattle.link.specs.Record.{format, ends}
 
 -- only a call whose octets say one is accepted
-says : (format : Format) (rec : List ℕ) (c : Call) {y : Step} → performed format rec c ≡ ok y → (x : protocol.Call) × (said c ≡ ok x)
+says : (rec : List ℕ) (c : Call) {y : Step} → performed format rec c ≡ ok y → (x : protocol.Call) × (said c ≡ ok x)
 unfolding performed asked
-says format rec c h =
+says rec c h =
     let r = then-of (said c) _ (passing _ (passing _ h .1) .1) in
     (r .0, r .1)
 
 -- what the end has sent after it
-gains : (format : Format) (c : Call) (e : End) {y : Step} → performed format (e .rec) c ≡ ok y
-    → sent (after format c e .history) ≡ also (y .sent) (sent (e .history))
-unfolding after recorded protocol.recorded sent
-gains format c e h = rw (says format (e .rec) c h .1, h) refl
+gains : (c : Call) (e : End (List ℕ)) {y : Step} → performed format (e .rec) c ≡ ok y
+    → sent (called ends c e .history) ≡ also (y .sent) (sent (e .history))
+unfolding called recorded sent
+gains c e h = rw (says (e .rec) c h .1, h) refl
 
 -- so it has sent what it had, and the frame of this call
 also-keeps : (t : Sent) (fs : List Frame) (s : List ℕ) → List·Memᴰ s (map encode fs) → List·Memᴰ s (map encode (also t fs))
 also-keeps nothing fs s m = m
 also-keeps (frame f) fs s m = List·Memᴰ·tail m
 
-pub grows : (format : Format) (c : Call) (e : End) {y : Step} → performed format (e .rec) c ≡ ok y
-    → (s : List ℕ) → List·Memᴰ s (map encode (sent (e .history))) → List·Memᴰ s (map encode (sent (after format c e .history)))
-grows format c e {y} h s m = rw (gains format c e h) (also-keeps (y .sent) (sent (e .history)) s m)
+pub grows : (c : Call) (e : End (List ℕ)) {y : Step} → performed format (e .rec) c ≡ ok y
+    → (s : List ℕ) → List·Memᴰ s (map encode (sent (e .history))) → List·Memᴰ s (map encode (sent (called ends c e .history)))
+grows c e {y} h s m = rw (gains c e h) (also-keeps (y .sent) (sent (e .history)) s m)
 
-pub has-sent : (format : Format) (c : Call) (e : End) {y : Step} → performed format (e .rec) c ≡ ok y
-    → (f : Frame) → y .sent ≡ frame f → List·Memᴰ f (sent (after format c e .history)) × List·Memᴰ (encode f) (map encode (sent (after format c e .history)))
-has-sent format c e {y} h f t = rw (gains format c e h, t) (List·Memᴰ·head refl, List·Memᴰ·head refl)
+pub has-sent : (c : Call) (e : End (List ℕ)) {y : Step} → performed format (e .rec) c ≡ ok y
+    → (f : Frame) → y .sent ≡ frame f → List·Memᴰ f (sent (called ends c e .history)) × List·Memᴰ (encode f) (map encode (sent (called ends c e .history)))
+has-sent c e {y} h f t = rw (gains c e h, t) (List·Memᴰ·head refl, List·Memᴰ·head refl)
 
 -- a frame has at most 78 octets
 pub encode-short : {f : Frame} → Fits f → length (encode f) ≤ 78

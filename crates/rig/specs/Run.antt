@@ -5,8 +5,10 @@ use mathlib.Core.List.{List, [], _∷_, _++_}
 use Rattle.octets.specs.Test.{ifEq, Outcome, refused, ok}
 use Rattle.protocol.specs.Endpoint.{fresh}
 use Rattle.protocol.specs.Table.{Step}
-use Rattle.calls.specs.Claim.{Entry, atA, atB, bothNew, run, AllDue, Demand}
-use Rattle.link.specs.Record.{format}
+use Rattle.protocol.specs.World.{Entry, atA, atB, Two, run, AllDue}
+use Rattle.protocol.specs.Claim.{Demand}
+use Rattle.calls.specs.Calls.{Call}
+use Rattle.link.specs.Record.{format, ends}
 use Rattle.rig.specs.Bench.{Bench, At, asked, comes, endOf, benchAfter}
 
 -- a line's text, and the buffer for a frame that is lent with it
@@ -22,27 +24,31 @@ playedAll w [] = w
 playedAll w (l ∷ ls) = playedAll (played w l) ls
 
 -- a call at an end, as an entry of a list of calls
-unfoldable pub entry : At → Entry
+unfoldable pub entry : At → Entry Call
 entry x = ifEq (x .0) 0 (atA (x .1)) (atB (x .1))
 
 -- the call that a line makes; a refused line makes none
-unfoldable pub callIn : Outcome At → Outcome Step → List Entry
+unfoldable pub callIn : Outcome At → Outcome Step → List (Entry Call)
 callIn (refused n) o = []
 callIn (ok x) (refused n) = []
 callIn (ok x) (ok y) = entry x ∷ []
 
 -- the calls that the lines of a run make
-unfoldable pub callsOf : Bench → List Line → List Entry
+unfoldable pub callsOf : Bench → List Line → List (Entry Call)
 callsOf w [] = []
 callsOf w (l ∷ ls) = let q = asked w (l .0) (l .1) in callIn q (comes w q) ++ callsOf (played w l) ls
 
--- Two fresh ends and an empty log, whatever follows the records in their buffers and whatever stands in the log's places.
+-- Two fresh ends, whatever follows the records in their buffers.
+abbrev pub newEnds : List ℕ → List ℕ → Two ends
+newEnds p q = record { a = record { rec = format .octets fresh ++ p; history = [] }; b = record { rec = format .octets fresh ++ q; history = [] } }
+
+-- They and an empty log, whatever stands in the log's places.
 unfoldable pub newBench : List ℕ → List ℕ → List ℕ → Bench
-newBench p q log = record { a = format .octets fresh ++ p; b = format .octets fresh ++ q; log = log; count = 0 }
+newBench p q log = record { a = newEnds p q .a .rec; b = newEnds p q .b .rec; log = log; count = 0 }
 
 -- A run is such a list of calls, it leaves the records that the list leaves, and demand 3 holds of it.
 pub record Holds (p q log : List ℕ) (lines : List Line) : Type 0 where
-  pub due : AllDue format (bothNew format p q) (callsOf (newBench p q log) lines)
-  pub end-a : playedAll (newBench p q log) lines .a ≡ run format (bothNew format p q) (callsOf (newBench p q log) lines) .a .rec
-  pub end-b : playedAll (newBench p q log) lines .b ≡ run format (bothNew format p q) (callsOf (newBench p q log) lines) .b .rec
-  pub demand : Demand format (bothNew format p q) (callsOf (newBench p q log) lines)
+  pub due : AllDue ends (newEnds p q) (callsOf (newBench p q log) lines)
+  pub end-a : playedAll (newBench p q log) lines .a ≡ run ends (newEnds p q) (callsOf (newBench p q log) lines) .a .rec
+  pub end-b : playedAll (newBench p q log) lines .b ≡ run ends (newEnds p q) (callsOf (newBench p q log) lines) .b .rec
+  pub demand : Demand ends (newEnds p q) (callsOf (newBench p q log) lines)

@@ -1,79 +1,51 @@
-use mathlib.Core.Path.{_∙_}
-use Prim.Native.Nat.{_≤_}
-use lib.ListN.{length}
+use mathlib.Core.Path.{_≡_, ap, sym, _∙_}
+use mathlib.Core.List.{List}
+use Prim.Native.Nat.{ℕ}
 use denote.Ref.{now}
-use Rattle.octets.specs.Octets.{Octets}
-use Rattle.machine.specs.Calls.{receiveOutcome}
-use Rattle.calls.specs.Calls.{receive}
-use Rattle.link.proofs.Answers.{lent-short, lent-refused, lent-stored, fits, short-none, refused-none, long-enough, hands-up}
+use lib.ListN.{length}
+use Rattle.octets.specs.Test.{Outcome}
+use Rattle.protocol.specs.Table.{Step}
+use Rattle.calls.specs.declared.Call.the-variants.{Receive}
+use Rattle.calls.specs.Calls.{Arguments, given, performed}
+use Rattle.plan.specs.Plan.{noticeOf, blockOf, blockBy, blockPart}
+use Rattle.link.specs.declared.Answer.{Answer}
+use Rattle.link.specs.Record.{format}
+use Rattle.link.specs.Lent.{statusOf, answerOf}
+use Rattle.link.proofs.Answers.{long-enough, hands-it-up}
 use native.Mathlib.Omega.{arith}
 use borrow.Author.Needs.{needs}
 use Rattle.link.proofs.receive.Statement.{statement}
 use Rattle.link.proofs.receive.Tie as tie
 
--- 11 has been passed
-long : (c : tie.After-plan-receive) → 538 ≤ length (now (c .before .before .before .before .before .before .before .before .args .rec))
-long c = omega (arith, c .before .before .before .before .if1 .left)
+abbrev call-of : tie.Start → Arguments
+call-of c = given Receive (now (c .args .s)) (length (now (c .args .out)))
 
-octets : (c : tie.After-plan-receive) → Octets (now (c .before .before .before .before .before .before .before .before .args .rec))
-unfolding Octets
-octets c i = omega (arith, c .before .before .before .before .before .before .before .slice-known .given i)
+-- what the call comes to, and the notice that it tells
+abbrev comes : tie.Start → Outcome Step
+comes c = performed format (now (c .args .rec)) (call-of c)
 
-returns : tie.Need-returns
-returns c =
-    let a = c .before .before .before .before .before .args in
-    let q = receive (now (a .s)) (now (a .out)) in
-    record { lent = lent-short (now (a .rec)) q (omega arith); is-block = short-none (now (a .rec)) q (omega arith) }
-
-returns-2 : tie.Need-returns-2
-unfolding receiveOutcome
-returns-2 c =
-    let a = c .before .before .before .before .before .before .before .before .before .before .before .before .before .before .args in
-    let p = c .before .before .before .before .before .before in
-    let r = now (a .rec) in
-    let q = receive (now (a .s)) (now (a .out)) in
-    record { lent = lent-refused r (long p) q (p .plan-receive .ensures) (c .before .if2 .taken); is-block = refused-none r (long p) q (p .plan-receive .ensures) (c .before .if2 .taken) }
-
-carry-out-requires : tie.Need-carry-out-requires
-unfolding receiveOutcome
-carry-out-requires c κs =
-    let a = c .before .before .before .before .before .before .before .before .before .before .before .before .before .before .args in
-    let p = c .before .before .before .before .before .before in
-    (long p, fits (now (a .rec)) (long p) (receive (now (a .s)) (now (a .out))) (p .plan-receive .ensures) (c .before .if2 .left))
+notice-is : (c : tie.After-perform) → c .perform .result .status .notice ≡ noticeOf (comes (c .before .before .before .before .before .before))
+unfolding answerOf statusOf
+notice-is c = ap (λ (x : Answer). x .status .notice) (c .perform .ensures .answer)
 
 handed-up-requires : tie.Need-handed-up-requires
-unfolding receiveOutcome
-handed-up-requires c κs =
-    let a = c .before .before .before .before .before .before .before .before .before .before .before .before .before .before .before .before .before .args in
-    let p = c .before .before .before .before .before .before .before .before .before in
-    long-enough (now (a .rec)) (long p) (receive (now (a .s)) (now (a .out))) (p .plan-receive .ensures)
+handed-up-requires c κs = let s = c .before .before .before .before .before .before .before .before .before .before .before in rw (notice-is (c .before .before .before .before .before)) (long-enough (now (s .args .rec)) (call-of s))
 
-returns-3 : tie.Need-returns-3
-unfolding receiveOutcome
-returns-3 c =
-    let a = c .before .before .before .before .before .before .before .before .before .before .before .before .before .before .before .before .before .before .args in
-    let p = c .before .before .before .before .before .before .before .before .before .before in
-    let r = now (a .rec) in
-    let q = receive (now (a .s)) (now (a .out)) in
-    let z = c .before .before .before .before .before .if2 .left in
-    record {
-      lent = lent-stored r (long p) q (p .plan-receive .ensures) (octets p) z (c .before .before .before .carry-out .ensures) z;
-      is-block = c .handed-up .ensures ∙ hands-up r (long p) q (p .plan-receive .ensures);
-    }
+returns : tie.Need-returns
+unfolding answerOf
+returns c =
+    let s = c .before .before .before .before .before .before .before .before .before .before .before .before in
+    let r = c .before .before .before .before .before .before .perform .ensures in
+    let b = c .handed-up .ensures ∙ ap (λ (n : ℕ). blockBy n (now (s .args .s))) (notice-is (c .before .before .before .before .before .before)) ∙ hands-it-up (now (s .args .rec)) (call-of s) in
+    let k = ap (λ (x : Answer). x .block) (r .answer) ∙ sym (ap length b) in (
+      record {
+        answer = (λ i. record { status = c .before .before .before .before .before .before .perform .result .status; sent = c .before .before .before .before .before .before .perform .result .sent; block = sym k i }) ∙ r .answer;
+        end = r .end;
+        buffer = r .buffer;
+        block = ap (blockPart (now (s .args .s))) (sym k) ∙ r .block;
+      },
+      b,
+    )
 
 pub receive-spec : {M : Type 1} → statement M
-receive-spec =
-    tie.close
-    (tie.spec
-    (λ c. search needs)
-    returns
-    (λ c κs. search needs)
-    (λ c. search needs)
-    (λ c. search needs)
-    (λ c. search needs)
-    returns-2
-    carry-out-requires
-    handed-up-requires
-    (λ c. search needs)
-    (λ c. search needs)
-    returns-3)
+receive-spec = tie.close (tie.spec (λ c κs. search needs) handed-up-requires (λ c. search needs) (λ c. search needs) returns)

@@ -6,7 +6,7 @@ use Rattle.frame.specs.declared.FrameRead.{FrameRead}
 use Rattle.frame.specs.Answer.{frameOf, valuesOf, frameRead}
 use Rattle.protocol.specs.Table.{step}
 use Rattle.protocol.specs.Network.{perform}
-use Rattle.plan.specs.Plan.{heard}
+use Rattle.calls.specs.Calls.{reads, does}
 use Rattle.plan.proofs.Comes.{refuses}
 use Rattle.receiving.proofs.Reading.{data-limit}
 use borrow.Author.Needs.{needs}
@@ -21,7 +21,7 @@ apply-requires c κs =
     (c .before .before .before .before .before .before .before .pre, (rw (c .before .values-of .ensures (drop 14 s)) (data-limit s k), c .choose .ensures))
 
 returns : tie.Need-returns
-unfolding frameRead valuesOf heard andThen mapped perform step
+unfolding frameRead valuesOf reads does andThen mapped perform step
 returns c = λ b q old w o.
     let s = now (c .before .before .before .before .before .before .before .before .args .s) in
     let f = frameOf (c .before .before .before .before .read .given .0 .0) (drop 14 s) in
@@ -29,7 +29,7 @@ returns c = λ b q old w o.
     rw k (rw (c .before .before .values-of .ensures (drop 14 s)) at (rw (c .before .choose .ensures q (f .block) w) at (c .apply .ensures (f .block) b q old w o)))
 
 returns-2 : tie.Need-returns-2
-unfolding frameRead heard andThen mapped
+unfolding frameRead reads does andThen mapped
 returns-2 c = λ b q old w _.
     let a = c .before .before .before .before .before .before .args in
     let s = now (a .s) in

@@ -7,14 +7,14 @@ use Rattle.frame.specs.Read.{readRequest}
 use Rattle.frame.specs.Answer.{requestOf, requestRead}
 use Rattle.protocol.specs.Network.{perform}
 use Rattle.calls.proofs.Lift.{read-sized}
-use Rattle.plan.specs.Plan.{requested}
+use Rattle.calls.specs.Calls.{reads, does}
 use Rattle.plan.proofs.Comes.{refuses}
 use borrow.Author.Needs.{needs}
 use Rattle.requests.proofs.request.Statement.{statement}
 use Rattle.requests.proofs.request.Tie as tie
 
 returns : tie.Need-returns
-unfolding requestRead requested andThen mapped perform
+unfolding requestRead reads does andThen mapped perform
 returns c =
     let s = now (c .before .before .before .before .before .before .args .s) in
     let k : readRequest s ≡ ok (requestOf (c .before .before .read .given .0 .0) (drop 2 s)) =
@@ -22,7 +22,7 @@ returns c =
     rw k (c .ask .ensures (drop 2 s) (read-sized s _ k))
 
 returns-2 : tie.Need-returns-2
-unfolding requestRead requested andThen mapped
+unfolding requestRead reads does andThen mapped
 returns-2 c = λ q old w _.
     let a = c .before .before .before .before .before .before .args in
     let s = now (a .s) in

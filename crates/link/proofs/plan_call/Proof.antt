@@ -1,14 +1,14 @@
 use Rattle.endpoint.specs.Record.{decode}
 use borrow.Author.Needs.{needs}
-use Rattle.link.proofs.plan_receive.Statement.{statement}
-use Rattle.link.proofs.plan_receive.Tie as tie
+use Rattle.link.proofs.plan_call.Statement.{statement}
+use Rattle.link.proofs.plan_call.Tie as tie
 
 returns : tie.Need-returns
 unfolding decode
-returns c = rw (c .before .before .before .before .before .before .before .load-numbers .ensures) at (c .before .before .plan-receive .ensures)
+returns c = rw (c .before .before .before .load-numbers .ensures) at (c .plan-call .ensures)
 
-pub plan-receive-spec : {M : Type 1} → statement M
-plan-receive-spec =
+pub plan-call-spec : {M : Type 1} → statement M
+plan-call-spec =
     tie.close
     (tie.spec
     (λ c κs. search needs)
@@ -19,5 +19,4 @@ plan-receive-spec =
     (λ c. search needs)
     (λ c. search needs)
     (λ c κs. search needs)
-    (λ c. search needs)
     returns)

@@ -1,14 +1,14 @@
 use Rattle.endpoint.specs.Record.{decode}
 use borrow.Author.Needs.{needs}
-use Rattle.link.proofs.plan_request.Statement.{statement}
-use Rattle.link.proofs.plan_request.Tie as tie
+use Rattle.link.proofs.is_sound.Statement.{statement}
+use Rattle.link.proofs.is_sound.Tie as tie
 
 returns : tie.Need-returns
 unfolding decode
-returns c = rw (c .before .before .before .before .before .before .before .load-numbers .ensures) at (c .before .before .plan-request .ensures)
+returns c = rw (c .before .before .before .load-numbers .ensures) at (c .is-sound .ensures)
 
-pub plan-request-spec : {M : Type 1} → statement M
-plan-request-spec =
+pub is-sound-spec : {M : Type 1} → statement M
+is-sound-spec =
     tie.close
     (tie.spec
     (λ c κs. search needs)
@@ -19,5 +19,4 @@ plan-request-spec =
     (λ c. search needs)
     (λ c. search needs)
     (λ c κs. search needs)
-    (λ c. search needs)
     returns)

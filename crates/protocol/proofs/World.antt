@@ -1,0 +1,130 @@
+-- Demand 3 along a list of calls, in whatever form the records are. Assumes nothing.
+use Prim.Native.Nat.{ℕ, zero, suc}
+use mathlib.Core.Path.{_≡_, refl, sym, subst}
+use mathlib.Core.List.{List, [], _∷_, _++_}
+use Rattle.octets.specs.Test.{Outcome, refused, ok, refusing, andThen}
+use Rattle.protocol.specs.Endpoint.{Endpoint, fresh}
+use Rattle.protocol.specs.Table.{Step}
+use Rattle.protocol.specs.Network.{Call, perform, History, now, recorded, after}
+use Rattle.protocol.specs.World.{Ends, End, Entry, atA, atB, Two, called, made, run, DueAt, AllDue, BothNew, endsWhere}
+use Rattle.protocol.specs.Claim.{Opens, Met, Meets, EachMeets, InOrder, NoEndAlone}
+
+-- What holds of two ends' histories wherever fair calls of the protocol have come, and why demand 3 follows from it.
+pub record Invariant (I : History → History → Type 0) (Fair : History → Call → Type 0) : Type 0 where
+  pub starts : I [] []
+  pub turns : (a b : History) → I a b → I b a
+  pub goes-on : (a b : History) → I a b → (c : Call) → Fair b c → I (after c a) b
+  pub meets : (a b : History) → I a b → (c : Call) → Fair b c → Opens (now a) (now (after c a)) → Met (after c a) b
+  pub in-order : (a b : History) → I a b → InOrder a b
+
+-- what a call comes to at an endpoint: the number of a question, or what the call of the protocol comes to that it says
+abbrev pub asking : ℕ → Outcome Call → Endpoint → Outcome Step
+asking n q e = refusing n (andThen q (λ (x : Call). perform x e))
+
+-- The records of E hold endpoints, and its calls do as fair calls of the protocol do, wherever I holds of the histories.
+pub record Simulates (E : Ends) (I : History → History → Type 0) (Fair : History → Call → Type 0) (Holds : E .Record → Endpoint → Type 0) : Type 0 where
+  pub starts : (r : E .Record) → E .Fresh r → Holds r fresh
+  pub fair : (a b : History) → I a b → (r : E .Record) → Holds r (now a) → (c : E .Call) → E .Due a b c → (q : Call) → E .said r c ≡ ok q → Fair b q
+  pub comes : (a b : History) → I a b → (r : E .Record) → Holds r (now a) → (c : E .Call) → (n : ℕ) × (E .comes r c ≡ asking n (E .said r c) (now a))
+  pub refuses : (r : E .Record) (e : Endpoint) → Holds r e → (c : E .Call) (n : ℕ) → Holds (E .leaves r c (refused n)) e
+  pub accepts : (a b g : History) → I a b → I g b → (r : E .Record) → Holds r (now a) → (c : E .Call) (x : Step) → now g ≡ x .endpoint → Holds (E .leaves r c (ok x)) (now g)
+
+-- two ends whose records hold what their calls have answered
+pub record Held (E : Ends) (I : History → History → Type 0) (Holds : E .Record → Endpoint → Type 0) (x y : End (E .Record)) : Type 0 where
+  pub both : I (x .history) (y .history)
+  pub this : Holds (x .rec) (now (x .history))
+  pub other : Holds (y .rec) (now (y .history))
+
+module _ (E : Ends) {I : History → History → Type 0} {Fair : History → Call → Type 0} {Holds : E .Record → Endpoint → Type 0}
+    (h : Invariant I Fair) (s : Simulates E I Fair Holds) where
+  -- what a call leaves of an end: the history g and the record r
+  record Goes (a b g : History) (r : E .Record) : Type 0 where
+    pub both : I g b
+    pub this : Holds r (now g)
+    pub meets : Opens (now a) (now g) → Met g b
+
+  -- one call does nothing, or what a call of the protocol does
+  module _ (a b : History) (i : I a b) (r : E .Record) (k : Holds r (now a)) (e : E .Call) where
+    stays : (n : ℕ) → Goes a b a (E .leaves r e (refused n))
+    stays n = record { both = i; this = s .refuses r (now a) k e n; meets = λ o. absurd (o .0 (o .1)) }
+
+    goes : (n : ℕ) (q : Outcome Call) → ((c : Call) → q ≡ ok c → Fair b c)
+        → Goes a b (recorded q (asking n q (now a)) a) (E .leaves r e (asking n q (now a)))
+    unfolding recorded refusing andThen after now
+    goes (suc n) (refused m) fair = stays (suc n)
+    goes (suc n) (ok c) fair = stays (suc n)
+    goes zero (refused m) fair = stays m
+    goes zero (ok c) fair =
+        let j = h .goes-on a b i c (fair c refl) in
+        record { both = j; this = by-answer (perform c (now a)) j; meets = h .meets a b i c (fair c refl) }
+      where
+        by-answer : (o : Outcome Step) → I (recorded (ok c) o a) b → Holds (E .leaves r e o) (now (recorded (ok c) o a))
+        by-answer (refused m) j = s .refuses r (now a) k e m
+        by-answer (ok x) j = s .accepts a b _ i j r k e x refl
+
+  abbrev Kept : End (E .Record) → End (E .Record) → Type 0
+  Kept = Held E I Holds
+
+  -- at the first end, and at either
+  call-at : {x y : End (E .Record)} → Kept x y → (c : E .Call) → E .Due (x .history) (y .history) c
+      → Goes (x .history) (y .history) (called E c x .history) (called E c x .rec)
+  unfolding called
+  call-at {x} {y} k c d =
+      let o = s .comes _ _ (k .both) (x .rec) (k .this) c in
+      rw (o .1) (goes _ _ (k .both) (x .rec) (k .this) c (o .0) (E .said (x .rec) c) (s .fair _ _ (k .both) (x .rec) (k .this) c d))
+
+  held-at : {x y : End (E .Record)} → Kept x y → (c : E .Call) → E .Due (x .history) (y .history) c → Kept (called E c x) y
+  held-at k c d = let g = call-at k c d in record { both = g .both; this = g .this; other = k .other }
+
+  pub turned : {x y : End (E .Record)} → Kept x y → Kept y x
+  turned k = record { both = h .turns _ _ (k .both); this = k .other; other = k .this }
+
+  pub entry-at : (c : Entry (E .Call)) (w : Two E) → Kept (w .a) (w .b) → DueAt E c w → Kept (made E c w .a) (made E c w .b)
+  entry-at (atA c) w k d = held-at k c d
+  entry-at (atB c) w k d = turned (held-at (turned k) c d)
+
+  meets-at : (c : Entry (E .Call)) (w : Two E) → Kept (w .a) (w .b) → DueAt E c w → Meets E w (made E c w)
+  meets-at (atA c) w k d = record { at-a = call-at k c d .meets; at-b = λ o. absurd (o .0 (o .1)) }
+  meets-at (atB c) w k d = record { at-a = λ o. absurd (o .0 (o .1)); at-b = call-at (turned k) c d .meets }
+
+  -- a list of calls
+  along : (w : Two E) → Kept (w .a) (w .b) → (cs : List (Entry (E .Call))) → AllDue E w cs → EachMeets E w cs × Kept (run E w cs .a) (run E w cs .b)
+  along w k [] d = (tt, k)
+  along w k (c ∷ cs) d =
+      let r = along (made E c w) (entry-at c w k (d .0)) cs (d .1) in
+      ((meets-at c w k (d .0), r .0), r .1)
+
+  pub new-held : (w : Two E) → BothNew E w → Kept (w .a) (w .b)
+  unfolding now
+  new-held w f = rw (f .0 .1, f .1 .1) (record { both = h .starts; this = s .starts _ (f .0 .0); other = s .starts _ (f .1 .0) })
+
+  pub reached : (w : Two E) → BothNew E w → (cs : List (Entry (E .Call))) → AllDue E w cs → I (run E w cs .a .history) (run E w cs .b .history)
+  reached w f cs d = along w (new-held w f) cs d .1 .both
+
+  -- the one law: no end of E opens without its partner
+  pub no-end-alone : NoEndAlone E
+  no-end-alone w f cs d =
+      let i = reached w f cs d in
+      record { meets = along w (new-held w f) cs d .0; to-a = h .in-order _ _ i; to-b = h .in-order _ _ (h .turns _ _ i) }
+
+-- the ends of the protocol are such ends
+pub itself : (I : History → History → Type 0) (Fair : History → Call → Type 0) → Simulates (endsWhere Fair) I Fair (λ r e. r ≡ e)
+unfolding refusing andThen
+itself I Fair =
+    record {
+      starts = λ r f. f;
+      fair = λ a b i r k c d q e. let z : c ≡ q = cc in subst (Fair b) z d;
+      comes = λ a b i r k c. (0, rw k refl);
+      refuses = λ r e k c n. k;
+      accepts = λ a b g i j r k c x e. sym e;
+    }
+
+-- one list of calls after another
+module _ (E : Ends) where
+  pub run-append : (w : Two E) (cs ds : List (Entry (E .Call))) → run E w (cs ++ ds) ≡ run E (run E w cs) ds
+  run-append w [] ds = refl
+  run-append w (c ∷ cs) ds = run-append (made E c w) cs ds
+
+  pub due-append : (w : Two E) (cs ds : List (Entry (E .Call))) → AllDue E w cs → AllDue E (run E w cs) ds → AllDue E w (cs ++ ds)
+  due-append w [] ds h g = g
+  due-append w (c ∷ cs) ds h g = (h .0, due-append (made E c w) cs ds (h .1) g)

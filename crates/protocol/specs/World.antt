@@ -1,0 +1,91 @@
+-- Two ends and a list of calls at them, whatever form their records have (document 01, "Demand 3, over a list of calls").
+use mathlib.Core.Path.{_≡_}
+use mathlib.Core.List.{List, [], _∷_}
+use Rattle.octets.specs.Test.{Outcome, refused, ok}
+use Rattle.protocol.specs.Endpoint.{Endpoint, fresh}
+use Rattle.protocol.specs.Table.{Step}
+use Rattle.protocol.specs.Network.{perform, History, recorded, Due}
+use Rattle.protocol.specs.Network as protocol
+
+-- What an end is.
+pub record Ends : Type 1 where
+  -- its record, in whatever form, and which records are fresh
+  pub Record : Type 0
+  pub Fresh : Record → Type 0
+  -- its own calls, with any arguments besides the record, and the call of the protocol that one says
+  pub Call : Type 0
+  pub said : Record → Call → Outcome protocol.Call
+  -- what a call comes to that finds a record, and the record that this leaves
+  pub comes : Record → Call → Outcome Step
+  pub leaves : Record → Call → Outcome Step → Record
+  -- whether a call may stand in the list beside the answers of the other end: a delivery is of a frame that an earlier call there sent
+  pub Due : History → History → Call → Type 0
+
+-- An end at a moment: its record as the last call left it, and what its accepted calls have answered, the latest first.
+pub record End (Record : Type 0) : Type 0 where
+  pub rec : Record
+  pub history : History
+
+-- end A and end B
+pub record Both (S : Type 0) : Type 0 where
+  pub a : S
+  pub b : S
+
+-- an entry of the list: an end and a call at it
+pub data Entry (Call : Type 0) : Type 0 where
+  atA atB : Call → Entry Call
+
+module _ (E : Ends) where
+  abbrev pub Two : Type 0
+  Two = Both (End (E .Record))
+
+  -- one call more
+  unfoldable pub called : E .Call → End (E .Record) → End (E .Record)
+  called c x =
+      let o = E .comes (x .rec) c in
+      record { rec = E .leaves (x .rec) c o; history = recorded (E .said (x .rec) c) o (x .history) }
+
+  abbrev pub made : Entry (E .Call) → Two → Two
+  made (atA c) w = record { a = called c (w .a); b = w .b }
+  made (atB c) w = record { a = w .a; b = called c (w .b) }
+
+  -- both ends after a list of calls
+  abbrev pub run : Two → List (Entry (E .Call)) → Two
+  run w [] = w
+  run w (c ∷ cs) = run (made c w) cs
+
+  -- every delivery of the list is due where it stands
+  abbrev pub DueAt : Entry (E .Call) → Two → Type 0
+  DueAt (atA c) w = E .Due (w .a .history) (w .b .history) c
+  DueAt (atB c) w = E .Due (w .b .history) (w .a .history) c
+
+  abbrev pub AllDue : Two → List (Entry (E .Call)) → Type 0
+  AllDue w [] = Unit {0}
+  AllDue w (c ∷ cs) = DueAt c w × AllDue (made c w) cs
+
+  -- both start fresh, with nothing sent
+  abbrev pub New : End (E .Record) → Type 0
+  New x = E .Fresh (x .rec) × (x .history ≡ [])
+
+  abbrev pub BothNew : Two → Type 0
+  BothNew w = New (w .a) × New (w .b)
+
+-- The ends of the protocol: the record is the endpoint itself.
+abbrev pub left : Endpoint → Outcome Step → Endpoint
+left e (refused n) = e
+left e (ok x) = x .endpoint
+
+abbrev pub endsWhere : (History → protocol.Call → Type 0) → Ends
+endsWhere Fair =
+    record {
+      Record = Endpoint;
+      Fresh = λ e. e ≡ fresh;
+      Call = protocol.Call;
+      said = λ e. ok;
+      comes = λ e c. perform c e;
+      leaves = λ e c. left e;
+      Due = λ this other c. Fair other c;
+    }
+
+abbrev pub ends : Ends
+ends = endsWhere Due
