@@ -1,19 +1,17 @@
 -- What the private parts of an answer do. No public call's contract needs this.
 use Prim.Native.Nat.{ℕ}
 use mathlib.Core.Path.{_≡_}
-use mathlib.Core.List.{List, [], _∷_}
-use lib.Dec.{leb}
-use lib.ListN.{length}
+use mathlib.Core.List.{List}
 use Rattle.octets.specs.Test.{first, Outcome, refused, refusing}
 use Rattle.protocol.specs.Table.{Step}
 use Rattle.calls.specs.Calls.{recordAfter}
-use Rattle.link.specs.Record.{format}
+use Rattle.link.specs.Record.{format, recordQuestions}
 use Rattle.text.specs.Text.{Begins}
 use Rattle.console.specs.Text.{text}
 
 -- a line refused with this number, after 11 and 12 of the record
 unfoldable pub refusedLine : List ℕ → ℕ → Outcome Step
-refusedLine rec n = refusing (first ((11, leb (format .size) (length rec)) ∷ (12, format .sound rec) ∷ [])) (refused n)
+refusedLine rec n = refusing (first (recordQuestions rec)) (refused n)
 
 -- the text of an outcome stands there, and the record is as the outcome leaves it
 pub record Gives (o : Outcome Step) (rec out rec′ out′ : List ℕ) (n : ℕ) : Type 0 where

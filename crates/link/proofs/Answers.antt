@@ -7,9 +7,11 @@ use native.Mathlib.Omega.{arith}
 use borrow.Author.Tests.{le-leb, lt-leb}
 use lib.ListN.{length, take, drop, length-drop, take-append-drop}
 use lib.Seq.{length-take-le}
-use Rattle.octets.specs.Sizes.{queueSize}
+use Rattle.octets.specs.Sizes.{longestFrame, longestBlock, queueSize}
 use Rattle.octets.specs.Test.{when, first, Outcome, refused, ok, refusing, mapped, numberOf}
 use Rattle.octets.specs.Octets.{put, left, Octets}
+use Rattle.octets.proofs.Test.{by-eq}
+use Rattle.octets.proofs.Buffers.{put-fits, taken}
 use Rattle.octets.proofs.Outcomes.{after-question, is-refused}
 use Rattle.frame.specs.Frame.{Block}
 use Rattle.protocol.specs.Endpoint as abstract
@@ -37,6 +39,17 @@ record SameNumbers (a : abstract.Endpoint) (e : Endpoint) : Type 0 where
   state : a .state ≡ e .state
   local : a .local ≡ e .local
   remote : a .remote ≡ e .remote
+
+-- the frame sent has room in its buffer, and stands at its start
+pub sent-fits : (d : List ℕ) (o : Outcome Step) {x : List ℕ} {n : ℕ} → x ≡ bufferAfter d o → length x ≡ length d → n ≡ sentOf o → n ≤ length d
+unfolding sentOf bufferAfter mapped left
+sent-fits d (refused k) e l h = omega arith
+sent-fits d (ok y) e l h = omega (arith, put-fits d (wire (y .sent)) e l)
+
+pub sent-taken : (d : List ℕ) (o : Outcome Step) {x : List ℕ} {n : ℕ} → x ≡ bufferAfter d o → n ≡ sentOf o → take n x ≡ wire (sentIn o)
+unfolding sentOf sentIn wire bufferAfter mapped left
+sent-taken d (refused k) e h = rw h refl
+sent-taken d (ok y) e h = taken d (wire (y .sent)) e h
 
 sent-is : (o : Outcome Step) → length (wire (sentIn o)) ≡ sentOf o
 unfolding sentIn wire sentOf
@@ -132,11 +145,25 @@ unfolding performed
 shown rec c =
     after-question (λ (o : Outcome Step). Right (c .octets) (blockOf o) (noticeOf o)) (up.none-right (c .octets)) _ _ (right (format .sound rec) (format .holds rec) c)
 
+pub block-five : (rec : List ℕ) (c : Arguments) → noticeOf (performed format rec c) ≡ 5 → drop 14 (c .octets) ≡ blockOf (performed format rec c)
+block-five rec c h = sym (shown rec c .some h .0)
+
+pub block-none : (rec : List ℕ) (c : Arguments) → noticeOf (performed format rec c) ≢ 5 → [] ≡ blockOf (performed format rec c)
+block-none rec c h = sym (shown rec c .nothing h)
+
 pub long-enough : (rec : List ℕ) (c : Arguments) → noticeOf (performed format rec c) ≡ 5 → 14 ≤ length (c .octets)
 long-enough rec c h = shown rec c .some h .1
 
 pub hands-it-up : (rec : List ℕ) (c : Arguments) → blockBy (noticeOf (performed format rec c)) (c .octets) ≡ blockOf (performed format rec c)
 hands-it-up rec c = up.told (shown rec c)
+
+-- a block handed up has at most 64 octets, since its frame has at most 78
+pub block-short : (rec : List ℕ) (c : Arguments) → length (c .octets) ≤ longestFrame → length (blockOf (performed format rec c)) ≤ longestBlock
+block-short rec c h =
+    let r = shown rec c in
+    by-eq (noticeOf (performed format rec c)) 5
+    (λ z. omega (arith, ap length (r .some z .0), length-drop 14 (c .octets)))
+    (λ z. omega (arith, ap length (r .nothing z)))
 
 pub none-up : (rec s : List ℕ) (room : ℕ) → blockOf (performed format rec (given Request s room)) ≡ []
 unfolding performed asked

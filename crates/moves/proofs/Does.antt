@@ -1,27 +1,30 @@
--- A call at one end of the bench: what it sends is logged, and what it answers is told. Assumes nothing.
-use Prim.Native.Nat.{ℕ, zero, suc, _+_, _≤_, _<_}
-use mathlib.Core.Path.{_≡_, refl, sym, ap, _∙_}
+-- A call at one end of the bench: what it sends is logged, and what it answers is told.
+use Prim.Native.Nat.{ℕ, _+_, _≤_, _<_}
+use mathlib.Core.Path.{_≡_, refl, sym, subst, ap, _∙_}
 use mathlib.Core.Logic.{_≢_}
-use mathlib.Core.List.{List, [], _∷_}
-use mathlib.Core.Bool.{true}
-use lib.Dec.{ltb}
+use mathlib.Core.List.{List, []}
 use native.Mathlib.Omega.{arith}
 use lib.ListN.{length, take, drop}
-use Rattle.octets.specs.Test.{when, ifEq, first, Outcome, refused, ok, outcome, andThen}
+use Rattle.octets.specs.Sizes.{longestFrame}
+use Rattle.octets.specs.Test.{when, ifEq, Outcome, refused, ok}
 use Rattle.octets.proofs.Test.{eq-yes, eq-no}
+use Rattle.octets.proofs.Outcomes.{of-value, after-value}
 use Rattle.frame.specs.Frame.{Frame}
 use Rattle.frame.specs.Layout.{encode}
 use Rattle.protocol.specs.Table.{Step, Sent, nothing, frame}
-use Rattle.calls.specs.Calls.{Call, request, wire, performed}
+use Rattle.calls.specs.declared.Call.the-variants.{Request}
+use Rattle.calls.specs.Calls.{Arguments, given, wire, performed}
 use Rattle.plan.specs.Plan.{sentIn, blockOf}
+use Rattle.endpoint.specs.Record.{recordSize}
+use Rattle.link.specs.declared.Answer.{Answer}
 use Rattle.link.specs.Record.{format}
-use Rattle.link.specs.Lent.{sentOf}
-use Rattle.console.proofs.Ends.{sent-fits, sent-taken, request-none}
-use Rattle.rig.specs.Bench.{sends, logged, made, logAfter, countAfter}
-use Rattle.moves.specs.declared.Moved.{Moved}
-use Rattle.moves.specs.declared.Answer.{Answer}
-use Rattle.moves.specs.Answer.{blockAt, answerOf}
-use Rattle.moves.specs.Parts.{movedOf, Moves, noted, notedCount, blockPlace, answerFrom, Does}
+use Rattle.link.specs.Lent.{sentOf, answerOf, Called}
+use Rattle.link.proofs.Answers.{sent-fits, sent-taken, none-up}
+use Rattle.logbook.specs.Log.{places}
+use Rattle.rig.specs.Bench.{sends, logged, callOutcome, logAfter, countAfter}
+use Rattle.moves.specs.declared.BenchAnswer.{BenchAnswer}
+use Rattle.moves.specs.Answer.{blockStart, benchAnswerOf}
+use Rattle.moves.specs.Parts.{noted, notedCount, blockPlace, answerFrom, Does}
 use Rattle.moves.proofs.Moves.{has-place}
 use Rattle.moves.proofs.Short.{sent-short}
 
@@ -51,56 +54,58 @@ enters i log count (refused n) = refl
 enters i log count (ok x) = enters-sent i log count x (x .sent) refl
 
 -- part by part
-pub answers : (i : ℕ) (m : Moved) (n count : ℕ) {at counted : ℕ} → at ≡ blockPlace n (m .block) → counted ≡ notedCount count (m .sent)
-    → record { number = m .number; end = i; state = m .state; notice = m .notice; local = m .local; remote = m .remote; sent = m .sent; at = at; block = m .block; count = counted } ≡ answerFrom i m n count
+pub answers : (i : ℕ) (m : Answer) (n count : ℕ) {at counted : ℕ} → at ≡ blockPlace n (m .block) → counted ≡ notedCount count (m .sent)
+    → record { end = i; status = m .status; sent = m .sent; at = at; block = m .block; count = counted } ≡ answerFrom i m n count
 unfolding answerFrom
 answers i m n count e k = rw (e, k) refl
 
-tells : (i : ℕ) (rec : List ℕ) (count n : ℕ) (o : Outcome Step) → answerFrom i (movedOf rec o) n count ≡ answerOf i rec count n o
-unfolding answerFrom movedOf answerOf blockPlace
+tells : (i : ℕ) (rec : List ℕ) (count n : ℕ) (o : Outcome Step) → answerFrom i (answerOf rec o) n count ≡ benchAnswerOf i rec count n o
+unfolding answerFrom answerOf benchAnswerOf blockPlace
 tells i rec count n o = rw (counts count o) refl
 
--- a request hands nothing up, so no frame is asked for its block
-logged-none : (count : ℕ) (o : Outcome Step) → [] ≡ blockOf o → [] ≡ blockOf (andThen o (logged count))
-unfolding andThen logged outcome blockOf
-logged-none count (refused n) h = h
-logged-none count (ok x) h = outcome-none (first ((14, when (sends (x .sent)) (ltb count 512) true) ∷ [])) x h
-  where
-    outcome-none : (k : ℕ) (x : Step) → [] ≡ blockOf (ok x) → [] ≡ blockOf (outcome k x)
-    outcome-none zero x h = h
-    outcome-none (suc k) x h = refl
+-- what holds of the outcome of a call at an end, and of each refusal, holds of its outcome with 14
+pub with-14 : (P : Outcome Step → Type 0) → ((n : ℕ) → P (refused n)) → (rec : List ℕ) (count : ℕ) (c : Arguments) → P (performed format rec c)
+    → P (callOutcome rec count c)
+unfolding callOutcome logged
+with-14 P refusals rec count c h =
+    after-value P refusals (performed format rec c) (logged count) (λ x e. of-value P refusals _ x (subst P e h))
 
-pub no-block : (rec : List ℕ) (count : ℕ) (s out : List ℕ) → length (blockOf (made rec count (request s out))) ≡ 0
-unfolding made
-no-block rec count s out = ap length (sym (logged-none count (performed format rec (request s out)) (request-none rec s out)))
+-- a request hands nothing up, so no frame is asked for its block
+pub no-block : (rec : List ℕ) (count : ℕ) (s : List ℕ) (room : ℕ) → length (blockOf (callOutcome rec count (given Request s room))) ≡ 0
+unfolding blockOf
+no-block rec count s room =
+    ap length (with-14 (λ (o : Outcome Step). blockOf o ≡ []) (λ n. refl) rec count (given Request s room) (none-up rec s room))
 
 -- the block stands in the log where the answer says
 abbrev pub Stands : ℕ → List ℕ → List ℕ → Type 0
-Stands n log b = take (length b) (drop (ifEq (length b) 0 0 (blockAt n)) log) ≡ b
+Stands n log b = take (length b) (drop (ifEq (length b) 0 0 (blockStart n)) log) ≡ b
 
-module _ (i : ℕ) (rec log : List ℕ) (count n : ℕ) (c : Call) {out rec′ out′ : List ℕ} {m : Moved} (w : Moves (made rec count c) rec out rec′ out′ m) where
-  sent-is : m .sent ≡ sentOf (made rec count c)
-  unfolding movedOf
-  sent-is = ap (λ (x : Moved). x .sent) (w .answer)
+module _ (i : ℕ) (rec log : List ℕ) (count n : ℕ) (c : Arguments) {s out rec′ out′ : List ℕ} {m : Answer} (w : Called (callOutcome rec count c) rec s out rec′ out′ m) where
+  abbrev o : Outcome Step
+  o = callOutcome rec count c
+
+  sent-is : m .sent ≡ sentOf o
+  unfolding answerOf
+  sent-is = ap (λ (x : Answer). x .sent) (w .answer)
 
   -- what is sent can be logged
-  pub loggable : 538 ≤ length rec → length out′ ≡ length out → (m .sent ≤ length out′) × ((m .sent ≤ 78) × (m .sent ≢ 0 → count < 512))
+  pub loggable : recordSize ≤ length rec → length out′ ≡ length out → (m .sent ≤ length out′) × ((m .sent ≤ longestFrame) × (m .sent ≢ 0 → count < places))
   loggable h l = (
-    omega (arith, sent-fits out (made rec count c) (w .buffer) l sent-is, l),
+    omega (arith, sent-fits out o (w .buffer) l sent-is, l),
     (omega (arith, sent-is, sent-short rec count c h), λ z. has-place rec count c (λ y. z (sent-is ∙ y))),
   )
 
-  pub does : Stands n (logAfter i log count (made rec count c)) (blockOf (made rec count c)) → {log′ : List ℕ} {r : Answer} → r ≡ answerFrom i m n count
-      → log′ ≡ noted i log count (take (m .sent) out′) → Does i rec log count n (made rec count c) out rec′ log′ out′ r
-  unfolding answerOf
+  pub does : Stands n (logAfter i log count o) (blockOf o) → {log′ : List ℕ} {r : BenchAnswer} → r ≡ answerFrom i m n count
+      → log′ ≡ noted i log count (take (m .sent) out′) → Does i rec log count n o out rec′ log′ out′ r
+  unfolding benchAnswerOf
   does h e k =
-      let a = e ∙ ap (λ (x : Moved). answerFrom i x n count) (w .answer) ∙ tells i rec count n (made rec count c) in
-      let l = k ∙ ap (noted i log count) (sent-taken out (made rec count c) (w .buffer) sent-is) ∙ enters i log count (made rec count c) in
+      let a = e ∙ ap (λ (x : Answer). answerFrom i x n count) (w .answer) ∙ tells i rec count n o in
+      let l = k ∙ ap (noted i log count) (sent-taken out o (w .buffer) sent-is) ∙ enters i log count o in
       record { answer = a; end = w .end; entered = l; buffer = w .buffer; handed = rw (a, l) h }
 
   -- without a block it does not matter which frame is told
-  pub any-frame : length (blockOf (made rec count c)) ≡ 0 → {r : Answer} → r ≡ answerFrom i m 0 count → r ≡ answerFrom i m n count
-  unfolding answerFrom blockPlace movedOf
+  pub any-frame : length (blockOf o) ≡ 0 → {r : BenchAnswer} → r ≡ answerFrom i m 0 count → r ≡ answerFrom i m n count
+  unfolding answerFrom blockPlace answerOf
   any-frame h e =
-      let b : m .block ≡ 0 = ap (λ (x : Moved). x .block) (w .answer) ∙ h in
+      let b : m .block ≡ 0 = ap (λ (x : Answer). x .block) (w .answer) ∙ h in
       e ∙ answers i m n count (eq-yes _ 0 _ _ b ∙ sym (eq-yes _ 0 _ _ b)) refl

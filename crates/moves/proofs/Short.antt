@@ -1,15 +1,17 @@
--- What a call sends has at most 78 octets. Assumes nothing.
-use Prim.Native.Nat.{ℕ, zero, suc, _≤_}
-use mathlib.Core.Path.{_≡_, refl}
+-- What a call sends has at most 78 octets.
+use Prim.Native.Nat.{ℕ, _≤_}
+use mathlib.Core.Path.{_≡_, refl, subst}
 use mathlib.Core.Bool.{Bool, true, false}
 use mathlib.Core.List.{List, [], _∷_}
 use native.Mathlib.Omega.{arith}
 use borrow.Author.Tests.{le-leb}
 use lib.Dec.{leb}
 use lib.ListN.{length}
+use Rattle.octets.specs.Sizes.{longestFrame, longestBlock}
 use Rattle.octets.specs.Test.{when, ifEq, inRange, first, Outcome, refused, ok, outcome, refusing, mapped, andThen}
 use Rattle.octets.specs.Octets.{bytes, lay}
 use Rattle.octets.proofs.Test.{if-eq}
+use Rattle.octets.proofs.Outcomes.{of-value, after-value}
 use Rattle.frame.specs.Frame.{Block, Frame, control, dataFrame, Request, connect, listen, endListening, close, timer, send}
 use Rattle.frame.specs.Layout.{isFrame, layout, numbers, encode}
 use Rattle.frame.proofs.Writing.{head-length, encode-control}
@@ -25,18 +27,19 @@ use Rattle.protocol.specs.Requests as protocol
 use Rattle.protocol.specs.Network.{ask, deliver, Call, perform}
 use Rattle.protocol.specs.Claim.{blockSent}
 use Rattle.protocol.proofs.Sound.{sized-at, sound-so}
-use Rattle.calls.specs.Calls.{buffer, request, receive, said, asked, wire, performed}
-use Rattle.calls.specs.Calls as calls
+use Rattle.calls.specs.declared.Call as calls
+use Rattle.calls.specs.declared.Call.the-variants as call
+use Rattle.calls.specs.Calls.{Arguments, reads, does, asked, wire, performed}
 use Rattle.calls.proofs.Lift.{read-sized}
-use Rattle.endpoint.specs.Record.{decode}
+use Rattle.endpoint.specs.Record.{recordSize, decode}
 use Rattle.endpoint.proofs.Sounds.{view-sound}
 use Rattle.link.specs.Record.{format}
 use Rattle.link.specs.Lent.{sentOf}
-use Rattle.link.proofs.Answers.{lengths-8, blocks-512}
-use Rattle.rig.specs.Bench.{logged, made}
+use Rattle.link.proofs.Answers.{lengths-long, blocks-long}
+use Rattle.rig.specs.Bench.{logged, callOutcome}
 
 abbrev Short : Sent → Type 0
-Short s = length (wire s) ≤ 78
+Short s = length (wire s) ≤ longestFrame
 
 -- frames received are answered by short ones
 step-short : (r : Rule) (e : Endpoint) (f : Frame) → Short (apply r e f .sent)
@@ -61,7 +64,7 @@ step-short FinishedByDisconnect e f = omega arith
 step-short Finished e f = omega arith
 
 -- a DATA is as long as its block lets it be
-data-short : (s r n : ℕ) (b : Block) → length b ≤ 64 → Short (frame (dataFrame s r n b))
+data-short : (s r n : ℕ) (b : Block) → length b ≤ longestBlock → Short (frame (dataFrame s r n b))
 unfolding wire encode layout numbers lay bytes ifEq when
 data-short s r n b h = omega arith
 
@@ -93,28 +96,27 @@ accept-short timer e h k = timer-short e h
 
 -- so is what an outcome sends
 abbrev Sends : Outcome Step → Type 0
-Sends o = sentOf o ≤ 78
+Sends o = sentOf o ≤ longestFrame
 
-outcome-short : (n : ℕ) (x : Step) → Short (x .sent) → Sends (outcome n x)
-unfolding outcome sentOf
-outcome-short zero x h = h
-outcome-short (suc n) x h = omega arith
+none-sent : (n : ℕ) → Sends (refused n)
+unfolding sentOf
+none-sent n = omega arith
 
 request-short : (e : Endpoint) (r : Outcome Request) → sized (e .queue) ≡ true → ((q : Request) → r ≡ ok q → sized (blockSent (ask q)) ≡ true)
     → Sends (andThen (mapped ask r) (λ (x : Call). perform x e))
 unfolding andThen mapped perform protocol.request sentOf
 request-short e (refused n) h k = omega arith
-request-short e (ok q) h k = outcome-short (refusal q e) (accept q e) (accept-short q e h (k q refl))
+request-short e (ok q) h k = of-value Sends none-sent (refusal q e) (accept q e) (accept-short q e h (k q refl))
 
 receive-short : (e : Endpoint) (r : Outcome Frame) → Sends (andThen (mapped deliver r) (λ (x : Call). perform x e))
 unfolding andThen mapped perform step sentOf
 receive-short e (refused n) = omega arith
 receive-short e (ok f) = step-short (rule e f) e f
 
-said-short : (e : Endpoint) (c : calls.Call) → sound e ≡ true → Sends (andThen (said c) (λ (x : Call). perform x e))
-unfolding said
-said-short e (request s out) h = request-short e (readRequest s) (sound-so e h .blocks) (read-sized s)
-said-short e (receive s out) h = receive-short e (readFrame s)
+does-short : (c : calls.Call) (s : List ℕ) (e : Endpoint) → sound e ≡ true → Sends (does c s e)
+unfolding does reads
+does-short call.Request s e h = request-short e (readRequest s) (sound-so e h .blocks) (read-sized s)
+does-short call.Receive s e h = receive-short e (readFrame s)
 
 own-short : (room fine : Bool) (o : Outcome Step) → (fine ≡ true → Sends o) → Sends (refusing (first ((11, room) ∷ (12, fine) ∷ [])) o)
 unfolding first when refusing sentOf
@@ -122,18 +124,14 @@ own-short true true o h = h refl
 own-short true false o h = omega arith
 own-short false fine o h = omega arith
 
-asked-short : (fine : Bool) (e : Endpoint) (c : calls.Call) → (fine ≡ true → sound e ≡ true) → Sends (asked fine e c)
-unfolding asked
-asked-short fine e c h = own-short (leb 78 (length (buffer c))) fine _ (λ z. said-short e c (h z))
-
 logged-short : (count : ℕ) (o : Outcome Step) → Sends o → Sends (andThen o (logged count))
-unfolding andThen logged sentOf
-logged-short count (refused n) h = omega arith
-logged-short count (ok x) h = outcome-short _ x h
+unfolding logged
+logged-short count o h = after-value Sends none-sent o (logged count) (λ x e. of-value Sends none-sent _ x (subst Sends e h))
 
-pub sent-short : (rec : List ℕ) (count : ℕ) (c : calls.Call) → 538 ≤ length rec → sentOf (made rec count c) ≤ 78
-unfolding made performed refusing first when
+pub sent-short : (rec : List ℕ) (count : ℕ) (c : Arguments) → recordSize ≤ length rec → sentOf (callOutcome rec count c) ≤ longestFrame
+unfolding callOutcome performed asked refusing first when
 sent-short rec count c h =
     logged-short count (performed format rec c)
-    (rw (le-leb 538 (length rec) h)
-    (asked-short (format .sound rec) (format .holds rec) c (λ z. view-sound (decode rec) z (lengths-8 rec h) (blocks-512 rec h))))
+    (rw (le-leb recordSize (length rec) h)
+    (own-short (leb longestFrame (c .room)) (format .sound rec) _
+    (λ z. does-short (c .call) (c .octets) (format .holds rec) (view-sound (decode rec) z (lengths-long rec h) (blocks-long rec h)))))

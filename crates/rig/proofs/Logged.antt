@@ -1,4 +1,4 @@
--- What stands in the log of a run: frames that the end of the sender octet has sent. Assumes nothing.
+-- What stands in the log of a run: frames that the end of the sender octet has sent.
 use Prim.Native.Nat.{ℕ, _+_, _*_, _≤_, _<_}
 use mathlib.Core.Path.{_≡_, refl, sym, subst}
 use mathlib.Core.Bool.{true}
@@ -7,6 +7,7 @@ use native.Mathlib.Omega.{arith}
 use borrow.Author.Tests.{ltb-true}
 use lib.Dec.{ltb}
 use lib.ListN.{length}
+use Rattle.octets.specs.Sizes.{longestFrame}
 use Rattle.octets.specs.Test.{when}
 use Rattle.octets.specs.Octets.{put}
 use Rattle.octets.proofs.Test.{by-eq}
@@ -17,7 +18,7 @@ use Rattle.protocol.specs.Network.{History, sent}
 use Rattle.protocol.specs.World.{Two}
 use Rattle.calls.specs.Calls.{wire}
 use Rattle.link.specs.Record.{ends}
-use Rattle.logbook.specs.Log.{senderAt, lengthAt, frameAt, place}
+use Rattle.logbook.specs.Log.{placeSize, places, logSize, senderAt, lengthAt, frameAt, place}
 use Rattle.logbook.proofs.Places.{Reads, stays, enters}
 use Rattle.rig.specs.Bench.{sends}
 
@@ -27,7 +28,7 @@ Among s h = List·Memᴰ s (map encode (sent h))
 
 -- a sender octet, a length and octets that stand in a place
 pub record SentBy (e : Two ends) (i n : ℕ) (s : List ℕ) : Type 0 where
-  pub short : n ≤ 78
+  pub short : n ≤ longestFrame
   pub by-a : i ≡ 0 → Among s (e .a .history)
   pub by-b : i ≡ 1 → Among s (e .b .history)
 
@@ -52,18 +53,18 @@ reads : {e : Two ends} {log s : List ℕ} {k i n : ℕ} → Reads log k i n s �
 reads r x = rw (r .sender, r .count, r .octets) x
 
 -- one place more
-entered : (e : Two ends) (count i : ℕ) (log s : List ℕ) → Logged e count log → count * 80 + 80 ≤ length log → SentBy e i (length s) s
-    → Logged e (count + 1) (put log (count * 80) (place i s))
+entered : (e : Two ends) (count i : ℕ) (log s : List ℕ) → Logged e count log → count * placeSize + placeSize ≤ length log → SentBy e i (length s) s
+    → Logged e (count + 1) (put log (count * placeSize) (place i s))
 entered e count i log s h room x k l =
     by-eq k count
-    (λ j. subst (InPlace e (put log (count * 80) (place i s))) (sym j) (reads (enters count i log s room) x))
+    (λ j. subst (InPlace e (put log (count * placeSize) (place i s))) (sym j) (reads (enters count i log s room) x))
     (λ j. let y = h k (omega arith) in reads (stays k count log (place i s) (omega arith) room (y .short)) y)
 
 -- what a step leaves in the log
-pub logs : (e : Two ends) (count i : ℕ) (log : List ℕ) (t : Sent) → Logged e count log → 40960 ≤ length log → when (sends t) (ltb count 512) true ≡ true
+pub logs : (e : Two ends) (count i : ℕ) (log : List ℕ) (t : Sent) → Logged e count log → logSize ≤ length log → when (sends t) (ltb count places) true ≡ true
     → ((f : Frame) → t ≡ frame f → SentBy e i (length (encode f)) (encode f))
-    → Logged e (when (sends t) (count + 1) count) (when (sends t) (put log (count * 80) (place i (wire t))) log)
+    → Logged e (when (sends t) (count + 1) count) (when (sends t) (put log (count * placeSize) (place i (wire t))) log)
 unfolding sends when wire
 logs e count i log nothing h room left x = h
 logs e count i log (frame f) h room left x =
-    entered e count i log (encode f) h (omega (arith, ltb-true count 512 left)) (x f refl)
+    entered e count i log (encode f) h (omega (arith, ltb-true count places left)) (x f refl)

@@ -1,5 +1,5 @@
 -- A bench run is a list of calls whose deliveries are due, it leaves the records that the list leaves, and demand 3 holds of it.
--- Assumes nothing.
+--
 use Prim.Native.Nat.{ℕ, zero, suc, _≤_}
 use mathlib.Core.Path.{_≡_, refl, sym, ap, ap₂, _∙_}
 use mathlib.Core.Bool.{true}
@@ -7,6 +7,7 @@ use mathlib.Core.List.{List, [], _∷_}
 use native.Mathlib.Omega.{arith}
 use lib.Dec.{ltb}
 use lib.ListN.{length}
+use Rattle.octets.specs.Sizes.{longestFrame}
 use Rattle.octets.specs.Test.{when, ifEq, Outcome, refused, ok, mapped, andThen}
 use Rattle.octets.specs.Octets as octets
 use Rattle.octets.proofs.Test.{if-eq, accepted, all-yes, then-of}
@@ -19,11 +20,12 @@ use Rattle.protocol.specs.Limits.{Sized}
 use Rattle.protocol.proofs.World.{Simulates, turned, entry-at, new-held, run-append, due-append}
 use Rattle.protocol.proofs.World as law
 use Rattle.protocol.proofs.Theorem.{Roomy, roomy, limited}
-use Rattle.calls.specs.Calls.{Call, performed, recordAfter}
+use Rattle.calls.specs.Calls.{Arguments, performed, recordAfter}
 use Rattle.calls.proofs.Lift.{Lies, lies}
 use Rattle.link.specs.Record.{format, ends}
 use Rattle.link.proofs.Demand.{lawful, no-end-alone}
-use Rattle.rig.specs.Bench.{Bench, At, recordAt, asked, sends, logged, made, comes, endOf, logAfter, countAfter, benchAfter}
+use Rattle.logbook.specs.Log.{places, logSize}
+use Rattle.rig.specs.Bench.{Bench, At, recordAt, lineAsks, sends, logged, callOutcome, comes, endOf, logAfter, countAfter, benchAfter}
 use Rattle.rig.specs.Run.{Line, played, playedAll, entry, callIn, callsOf, newEnds, newBench, Holds}
 use Rattle.rig.proofs.Sends.{grows, has-sent, encode-short}
 use Rattle.rig.proofs.Logged.{Among, Logged, Grows, still, logs}
@@ -55,24 +57,24 @@ refusal {w} {e} h i n =
     }
 
 -- what an accepted call came to: its own outcome, and a place left if it sends
-came : (rec : List ℕ) (count : ℕ) (c : Call) {y : Step} → made rec count c ≡ ok y
-    → (performed format rec c ≡ ok y) × (when (sends (y .sent)) (ltb count 512) true ≡ true)
-unfolding made logged
+came : (rec : List ℕ) (count : ℕ) (c : Arguments) {y : Step} → callOutcome rec count c ≡ ok y
+    → (performed format rec c ≡ ok y) × (when (sends (y .sent)) (ltb count places) true ≡ true)
+unfolding callOutcome logged
 came rec count c h =
     let r = then-of (performed format rec c) (logged count) h in
     let a = accepted _ _ (r .2) in
     (r .1 ∙ ap ok (a .1), rw (a .1) at (all-yes 14 _ _ (a .0) tt .0))
 
 -- what an accepted call at an end adds to it
-record Adds (x : End (List ℕ)) (rec : List ℕ) (count : ℕ) (c : Call) (y : Step) : Type 0 where
+record Adds (x : End (List ℕ)) (rec : List ℕ) (count : ℕ) (c : Arguments) (y : Step) : Type 0 where
   pub leaves : recordAfter format rec (ok y) ≡ called ends c x .rec
-  pub place-left : when (sends (y .sent)) (ltb count 512) true ≡ true
+  pub place-left : when (sends (y .sent)) (ltb count places) true ≡ true
   pub grown : Grows (x .history) (called ends c x .history)
-  pub short : (f : Frame) → y .sent ≡ frame f → length (encode f) ≤ 78
+  pub short : (f : Frame) → y .sent ≡ frame f → length (encode f) ≤ longestFrame
   pub among : (f : Frame) → y .sent ≡ frame f → Among (encode f) (called ends c x .history)
 
-adds : (x other : End (List ℕ)) {rec : List ℕ} (count : ℕ) (c : Call) {y : Step} → rec ≡ x .rec → Held (called ends c x) other
-    → made rec count c ≡ ok y → Adds x rec count c y
+adds : (x other : End (List ℕ)) {rec : List ℕ} (count : ℕ) (c : Arguments) {y : Step} → rec ≡ x .rec → Held (called ends c x) other
+    → callOutcome rec count c ≡ ok y → Adds x rec count c y
 unfolding called
 adds x other {rec} count c {y} e held m =
     let r = came rec count c m in
@@ -86,8 +88,8 @@ adds x other {rec} count c {y} e held m =
     }
 
 -- an accepted call at A, and at B
-at-a : {w : Bench} {e : Two ends} → Beside w e → (c : Call) → DueAt ends (atA c) e → 40960 ≤ length (w .log)
-    → {y : Step} → made (w .a) (w .count) c ≡ ok y → Beside (benchAfter 0 w (ok y)) (world.made ends (atA c) e)
+at-a : {w : Bench} {e : Two ends} → Beside w e → (c : Arguments) → DueAt ends (atA c) e → logSize ≤ length (w .log)
+    → {y : Step} → callOutcome (w .a) (w .count) c ≡ ok y → Beside (benchAfter 0 w (ok y)) (world.made ends (atA c) e)
 unfolding benchAfter ifEq when logAfter countAfter
 at-a {w} {e} h c d room {y} m =
     let held = entry-at ends roomy does (atA c) e (h .held) d in
@@ -101,8 +103,8 @@ at-a {w} {e} h c d room {y} m =
       held = held;
     }
 
-at-b : {w : Bench} {e : Two ends} → Beside w e → (c : Call) → DueAt ends (atB c) e → 40960 ≤ length (w .log)
-    → {y : Step} → made (w .b) (w .count) c ≡ ok y → Beside (benchAfter 1 w (ok y)) (world.made ends (atB c) e)
+at-b : {w : Bench} {e : Two ends} → Beside w e → (c : Arguments) → DueAt ends (atB c) e → logSize ≤ length (w .log)
+    → {y : Step} → callOutcome (w .b) (w .count) c ≡ ok y → Beside (benchAfter 1 w (ok y)) (world.made ends (atB c) e)
 unfolding benchAfter ifEq when logAfter countAfter
 at-b {w} {e} h c d room {y} m =
     let held = entry-at ends roomy does (atB c) e (h .held) d in
@@ -117,8 +119,8 @@ at-b {w} {e} h c d room {y} m =
     }
 
 -- at either
-accepts : {w : Bench} {e : Two ends} → Beside w e → (i : ℕ) (c : Call) → i ≤ 1 → DueAt ends (entry (i, c)) e → 40960 ≤ length (w .log)
-    → {y : Step} → made (recordAt i w) (w .count) c ≡ ok y → Beside (benchAfter i w (ok y)) (world.made ends (entry (i, c)) e)
+accepts : {w : Bench} {e : Two ends} → Beside w e → (i : ℕ) (c : Arguments) → i ≤ 1 → DueAt ends (entry (i, c)) e → logSize ≤ length (w .log)
+    → {y : Step} → callOutcome (recordAt i w) (w .count) c ≡ ok y → Beside (benchAfter i w (ok y)) (world.made ends (entry (i, c)) e)
 unfolding entry recordAt ifEq when
 accepts h zero c l d room m = at-a h c d room m
 accepts h (suc zero) c l d room m = at-b h c d room m
@@ -130,7 +132,7 @@ record Goes (w : Bench) (e : Two ends) (x : Outcome At) (o : Outcome Step) : Typ
   pub due : AllDue ends e (callIn x o)
 
 goes : {w : Bench} {e : Two ends} → Beside w e → (l : Line) (x : Outcome At) (o : Outcome Step)
-    → asked w (l .0) (l .1) ≡ x → comes w x ≡ o → Goes w e x o
+    → lineAsks w (l .0) (l .1) ≡ x → comes w x ≡ o → Goes w e x o
 unfolding callIn comes andThen endOf
 goes h l (refused n) (refused m) j k = record { left = refusal h 0 m; due = tt }
 goes h l (refused n) (ok y) j k = absurd (let z : _≡_ {A = ℕ} 0 1 = cc in omega arith)
@@ -147,20 +149,20 @@ record GoesAll (w : Bench) (e : Two ends) (ls : List Line) : Type 0 where
 -- what a line asks, and the calls that it makes
 module _ (w : Bench) (l : Line) where
   abbrev asks : Outcome At
-  asks = asked w (l .0) (l .1)
+  asks = lineAsks w (l .0) (l .1)
 
-  abbrev calls-made : List (Entry Call)
-  calls-made = callIn asks (comes w asks)
+  abbrev calls-callOutcome : List (Entry Arguments)
+  calls-callOutcome = callIn asks (comes w asks)
 
 line-goes : {w : Bench} {e : Two ends} → Beside w e → (l : Line) → Goes w e (asks w l) (comes w (asks w l))
 line-goes {w} h l = goes h l (asks w l) (comes w (asks w l)) refl refl
 
 one-more : {w : Bench} {e : Two ends} (l : Line) (ls : List Line) → Goes w e (asks w l) (comes w (asks w l))
-    → GoesAll (played w l) (run ends e (calls-made w l)) ls → GoesAll w e (l ∷ ls)
+    → GoesAll (played w l) (run ends e (calls-callOutcome w l)) ls → GoesAll w e (l ∷ ls)
 unfolding playedAll callsOf
 one-more {w} {e} l ls g r =
     let ds = callsOf (played w l) ls in
-    record { left = rw (run-append ends e (calls-made w l) ds) (r .left); due = due-append ends e (calls-made w l) ds (g .due) (r .due) }
+    record { left = rw (run-append ends e (calls-callOutcome w l) ds) (r .left); due = due-append ends e (calls-callOutcome w l) ds (g .due) (r .due) }
 
 goes-all : {w : Bench} {e : Two ends} → Beside w e → (ls : List Line) → GoesAll w e ls
 unfolding played playedAll callsOf

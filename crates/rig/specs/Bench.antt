@@ -10,7 +10,8 @@ use Rattle.octets.specs.Octets.{put, field}
 use Rattle.hexline.specs.Line.{unhex, lineQuestions}
 use Rattle.frame.specs.Read.{kindOf}
 use Rattle.protocol.specs.Table.{Sent, nothing, frame, Step}
-use Rattle.calls.specs.Calls.{Call, request, receive, wire, performed, recordAfter}
+use Rattle.calls.specs.declared.Call.the-variants.{Request, Receive}
+use Rattle.calls.specs.Calls.{Arguments, given, wire, performed, recordAfter}
 use Rattle.link.specs.Record.{format}
 use Rattle.logbook.specs.Log.{placeSize, places, logSize, senderAt, frameAt, holds, place}
 
@@ -45,26 +46,26 @@ soundQuestions w rest =
 
 -- a call at an end
 abbrev pub At : Type 0
-At = ℕ × Call
+At = ℕ × Arguments
 
--- Frame n of the log, delivered to the end that did not send it, if the log holds it (13).
-unfoldable pub delivery : Bench → ℕ → List ℕ → Outcome At
-delivery w n out = outcome (first ((13, holds (w .count) n (w .log)) ∷ [])) (1 - senderAt n (w .log), receive (frameAt n (w .log)) out)
+-- Frame n of the log, delivered to the end that did not send it, if the log holds it (13). room is the length of the buffer for a frame.
+unfoldable pub delivery : Bench → ℕ → ℕ → Outcome At
+delivery w n room = outcome (first ((13, holds (w .count) n (w .log)) ∷ [])) (1 - senderAt n (w .log), given Receive (frameAt n (w .log)) room)
 
 -- Line 50 or 51 and a request: end A or B. Line 52 and a number of 2 octets: deliver that frame. (80, 81, 82 are not hexadecimal.)
-unfoldable pub asks : Bench → List ℕ → List ℕ → Outcome At
-asks w s out =
-    ifEq (kindOf s) 80 (ok (0, request (drop 1 s) out))
-    (ifEq (kindOf s) 81 (ok (1, request (drop 1 s) out))
-    (ifEq (kindOf s) 82 (refusing (first ((4, eqb (length s) 3) ∷ [])) (delivery w (field 2 1 s) out))
+unfoldable pub octetsAsk : Bench → List ℕ → ℕ → Outcome At
+octetsAsk w s room =
+    ifEq (kindOf s) 80 (ok (0, given Request (drop 1 s) room))
+    (ifEq (kindOf s) 81 (ok (1, given Request (drop 1 s) room))
+    (ifEq (kindOf s) 82 (refusing (first ((4, eqb (length s) 3) ∷ [])) (delivery w (field 2 1 s) room))
     (refused 3)))
 
 -- What a line asks, by all questions up to 13.
-unfoldable pub asked : Bench → List ℕ → List ℕ → Outcome At
-asked w line out =
+unfoldable pub lineAsks : Bench → List ℕ → ℕ → Outcome At
+lineAsks w line room =
     refusing
-    (first (sizeQuestions w ((11, leb longestFrame (length out)) ∷ soundQuestions w (lineQuestions line))))
-    (asks w (unhex line) out)
+    (first (sizeQuestions w ((11, leb longestFrame room) ∷ soundQuestions w (lineQuestions line))))
+    (octetsAsk w (unhex line) room)
 
 -- does the step send a frame?
 unfoldable pub sends : Sent → Bool
@@ -76,11 +77,11 @@ unfoldable pub logged : ℕ → Step → Outcome Step
 logged count x = outcome (first ((14, when (sends (x .sent)) (ltb count places) true) ∷ [])) x
 
 -- what a call at an end with this record comes to, with so many places in use
-unfoldable pub made : List ℕ → ℕ → Call → Outcome Step
-made rec count c = andThen (performed format rec c) (logged count)
+unfoldable pub callOutcome : List ℕ → ℕ → Arguments → Outcome Step
+callOutcome rec count c = andThen (performed format rec c) (logged count)
 
 unfoldable pub comes : Bench → Outcome At → Outcome Step
-comes w q = andThen q (λ (x : At). made (recordAt (x .0) w) (w .count) (x .1))
+comes w q = andThen q (λ (x : At). callOutcome (recordAt (x .0) w) (w .count) (x .1))
 
 -- The end that the answer is about: B if 1 and 2 are passed and the line starts with 51, or if 13 is passed and B receives; else A.
 unfoldable pub endOf : Outcome At → ℕ

@@ -7,36 +7,36 @@ use Rattle.protocol.specs.Endpoint.{fresh}
 use Rattle.protocol.specs.Table.{Step}
 use Rattle.protocol.specs.World.{Entry, atA, atB, Two, run, AllDue}
 use Rattle.protocol.specs.Claim.{Demand}
-use Rattle.calls.specs.Calls.{Call}
+use Rattle.calls.specs.Calls.{Arguments}
 use Rattle.link.specs.Record.{format, ends}
-use Rattle.rig.specs.Bench.{Bench, At, asked, comes, endOf, benchAfter}
+use Rattle.rig.specs.Bench.{Bench, At, lineAsks, comes, endOf, benchAfter}
 
--- a line's text, and the buffer for a frame that is lent with it
+-- a line's text, and the length of the buffer for a frame that is lent with it
 abbrev pub Line : Type 0
-Line = List ℕ × List ℕ
+Line = List ℕ × ℕ
 
 -- the bench after one line, and after all
 unfoldable pub played : Bench → Line → Bench
-played w l = let q = asked w (l .0) (l .1) in benchAfter (endOf q) w (comes w q)
+played w l = let q = lineAsks w (l .0) (l .1) in benchAfter (endOf q) w (comes w q)
 
 unfoldable pub playedAll : Bench → List Line → Bench
 playedAll w [] = w
 playedAll w (l ∷ ls) = playedAll (played w l) ls
 
 -- a call at an end, as an entry of a list of calls
-unfoldable pub entry : At → Entry Call
+unfoldable pub entry : At → Entry Arguments
 entry x = ifEq (x .0) 0 (atA (x .1)) (atB (x .1))
 
 -- the call that a line makes; a refused line makes none
-unfoldable pub callIn : Outcome At → Outcome Step → List (Entry Call)
+unfoldable pub callIn : Outcome At → Outcome Step → List (Entry Arguments)
 callIn (refused n) o = []
 callIn (ok x) (refused n) = []
 callIn (ok x) (ok y) = entry x ∷ []
 
 -- the calls that the lines of a run make
-unfoldable pub callsOf : Bench → List Line → List (Entry Call)
+unfoldable pub callsOf : Bench → List Line → List (Entry Arguments)
 callsOf w [] = []
-callsOf w (l ∷ ls) = let q = asked w (l .0) (l .1) in callIn q (comes w q) ++ callsOf (played w l) ls
+callsOf w (l ∷ ls) = let q = lineAsks w (l .0) (l .1) in callIn q (comes w q) ++ callsOf (played w l) ls
 
 -- Two fresh ends, whatever follows the records in their buffers.
 abbrev pub newEnds : List ℕ → List ℕ → Two ends

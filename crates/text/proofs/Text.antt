@@ -1,4 +1,4 @@
--- The text of an answer, part after part. Assumes nothing.
+-- The text of an answer, part after part.
 use Prim.Native.Nat.{ℕ, _+_, _-_, _*_, _≤_, _<_, _%_}
 use mathlib.Core.Path.{_≡_, refl, sym, ap, _∙_}
 use mathlib.Core.Logic.{_≢_}
@@ -11,7 +11,7 @@ use Rattle.octets.proofs.Octets.{length-put, then-put}
 use Rattle.hexline.specs.Line.{hex}
 use Rattle.hexline.proofs.Digits.{length-hex}
 use Rattle.frame.specs.Frame.{Block}
-use Rattle.text.specs.declared.Told.{Told}
+use Rattle.calls.specs.declared.Status.{Status}
 use Rattle.text.specs.Text.{asLine, counted, answerOctets, frameLine, textOf}
 use Rattle.text.specs.Text.{Begins}
 
@@ -27,14 +27,14 @@ line-puts s d h ea eb =
     record { count = sym (length-line s); buffer = then-put d (hex s) (10 ∷ []) (2 * length s) (length-hex s) (omega arith) ea eb }
 
 -- the numbers of an answer line
-head : Told → List ℕ
+head : Status → List ℕ
 unfolding lay
 head t = lay (1 ∷ 1 ∷ 1 ∷ 4 ∷ 4 ∷ []) ((128 + t .number) ∷ t .state ∷ t .notice ∷ t .local ∷ t .remote ∷ [])
 
 byte : (v : ℕ) → v < 256 → v % 256 ≡ v
 byte v h = omega arith
 
-pub numbers-put : (t : Told) (d : List ℕ) → t .state < 256 → t .notice < 256 → 11 ≤ length d → {x : ℕ} → x ≡ (128 + t .number) % 256
+pub numbers-put : (t : Status) (d : List ℕ) → t .state < 256 → t .notice < 256 → 11 ≤ length d → {x : ℕ} → x ≡ (128 + t .number) % 256
     → {a b c e f : List ℕ} → a ≡ put d 0 (x ∷ []) → b ≡ put a 1 (t .state ∷ []) → c ≡ put b 2 (t .notice ∷ [])
     → e ≡ put c 3 (bytes 4 (t .local)) → f ≡ put e 7 (bytes 4 (t .remote)) → f ≡ put d 0 (answerOctets t [])
 unfolding answerOctets counted lay bytes
@@ -58,19 +58,19 @@ unfolding counted
 counts [] h = absurd (h refl)
 counts (x ∷ b) h = refl
 
-length-numbers : (t : Told) → length (answerOctets t []) ≡ 11
+length-numbers : (t : Status) → length (answerOctets t []) ≡ 11
 unfolding answerOctets counted lay bytes
 length-numbers t = refl
 
 -- an answer line without a block, and with one
-pub told-none : (t : Told) (b d : List ℕ) → length b ≡ 0 → {f : List ℕ} → f ≡ put d 0 (answerOctets t []) → Begins (answerOctets t b) d f 11
+pub told-none : (t : Status) (b d : List ℕ) → length b ≡ 0 → {f : List ℕ} → f ≡ put d 0 (answerOctets t []) → Begins (answerOctets t b) d f 11
 told-none t b d h e = rw (none b h) (record { count = sym (length-numbers t); buffer = e })
 
-with-block : (t : Told) (b : Block) → length b ≢ 0 → answerOctets t b ≡ (answerOctets t [] ++ (length b ∷ [])) ++ b
+with-block : (t : Status) (b : Block) → length b ≢ 0 → answerOctets t b ≡ (answerOctets t [] ++ (length b ∷ [])) ++ b
 unfolding answerOctets counted lay bytes
 with-block t b h = rw (counts b h) refl
 
-pub told-some : (t : Told) (b d : List ℕ) → length b ≢ 0 → 76 ≤ length d → length b ≤ 64 → {f g h : List ℕ} → f ≡ put d 0 (answerOctets t [])
+pub told-some : (t : Status) (b d : List ℕ) → length b ≢ 0 → 76 ≤ length d → length b ≤ 64 → {f g h : List ℕ} → f ≡ put d 0 (answerOctets t [])
     → g ≡ put f 11 (length b ∷ []) → h ≡ put g 12 b → Begins (answerOctets t b) d h (12 + length b)
 told-some t b d z n m ef eg eh =
     let p = answerOctets t [] in
@@ -81,31 +81,26 @@ told-some t b d z n m ef eg eh =
     (record { count = sym (length-append q b ∙ ap (λ (n : ℕ). n + length b) l); buffer = then-put d q b 12 l (omega arith) s eh })
 
 -- at most 76 octets
-pub told-short : (t : Told) (b : Block) → length b ≤ 64 → length (answerOctets t b) ≤ 76
+pub told-short : (t : Status) (b : Block) → length b ≤ 64 → length (answerOctets t b) ≤ 76
 told-short t [] h = omega (arith, length-numbers t)
 told-short t (x ∷ b) h =
     let p = answerOctets t [] in
     rw (with-block t (x ∷ b) (λ z. omega arith))
     (omega (arith, length-append (p ++ (length (x ∷ b) ∷ [])) (x ∷ b), length-append p (length (x ∷ b) ∷ []), length-numbers t))
 
-pub told-room : (t : Told) (b d : List ℕ) {x : List ℕ} {n : ℕ} → length b ≤ 64 → length d ≡ 76 → Begins (answerOctets t b) d x n
+pub told-room : (t : Status) (b d : List ℕ) {x : List ℕ} {n : ℕ} → length b ≤ 64 → length d ≡ 76 → Begins (answerOctets t b) d x n
     → (n ≤ 76) × (length x ≡ 76)
 told-room t b d h l w =
     let k = told-short t b h in
     (omega (arith, w .count), ap length (w .buffer) ∙ length-put d (answerOctets t b) 0 (omega arith) ∙ l)
 
--- what was written at the start of a buffer is read there again
-pub taken : (d s : List ℕ) {x : List ℕ} {n : ℕ} → x ≡ put d 0 s → n ≡ length s → take n x ≡ s
-unfolding put
-taken d s e l = rw (e, l) (take-append-seam s (drop (0 + length s) d))
-
 -- the answer line alone, and with the frame's line after it
-pub text-none : (t : Told) (b : Block) (sent d : List ℕ) → length sent ≡ 0 → {x : List ℕ} {m : ℕ} → Begins (asLine (answerOctets t b)) d x m
+pub text-none : (t : Status) (b : Block) (sent d : List ℕ) → length sent ≡ 0 → {x : List ℕ} {m : ℕ} → Begins (asLine (answerOctets t b)) d x m
     → Begins (textOf t b sent) d x m
 unfolding textOf frameLine
 text-none t b sent d h w = rw (none sent h, append-nil (asLine (answerOctets t b))) w
 
-with-frame : (t : Told) (b : Block) (sent : List ℕ) → length sent ≢ 0 → textOf t b sent ≡ asLine (answerOctets t b) ++ asLine sent
+with-frame : (t : Status) (b : Block) (sent : List ℕ) → length sent ≢ 0 → textOf t b sent ≡ asLine (answerOctets t b) ++ asLine sent
 unfolding textOf frameLine
 with-frame t b [] h = absurd (h refl)
 with-frame t b (x ∷ sent) h = refl
@@ -123,7 +118,7 @@ rest-put x q m {y} e =
     let z : 0 + length q ≡ length q = omega arith in
     rw (drop-of-length-le (drop m x) {i = length x - m} (omega (arith, length-drop m x)), append-nil y, e, whole x m, z, drop-drop (length q) m x) refl
 
-pub text-some : (t : Told) (b : Block) (sent d : List ℕ) → length sent ≢ 0 → {x y : List ℕ} {m k : ℕ} → Begins (asLine (answerOctets t b)) d x m
+pub text-some : (t : Status) (b : Block) (sent d : List ℕ) → length sent ≢ 0 → {x y : List ℕ} {m k : ℕ} → Begins (asLine (answerOctets t b)) d x m
     → m ≤ length d → Begins (asLine sent) (take (length x - m) (drop m x)) y k → Begins (textOf t b sent) d (take m x ++ (y ++ drop (length x - m) (drop m x))) (m + k)
 text-some t b sent d h {x} {y} {m} {k} w l v =
     let p = asLine (answerOctets t b) in

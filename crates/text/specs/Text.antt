@@ -3,10 +3,13 @@ use Prim.Native.Nat.{ℕ, _+_}
 use mathlib.Core.Path.{_≡_}
 use mathlib.Core.List.{List, [], _∷_, _++_}
 use lib.ListN.{length}
+use Rattle.octets.specs.Test.{Outcome, refused, ok}
 use Rattle.octets.specs.Octets.{put, lay}
 use Rattle.hexline.specs.Line.{hex}
 use Rattle.frame.specs.Frame.{Block}
-use Rattle.text.specs.declared.Told.{Told}
+use Rattle.calls.specs.declared.Status.{Status}
+use Rattle.text.specs.declared.Output.{Output}
+use Rattle.text.specs.declared.Output.the-variants.{Written, Refused}
 
 -- octets as a line of output
 unfoldable pub asLine : List ℕ → List ℕ
@@ -18,7 +21,7 @@ counted [] = []
 counted (b ∷ s) = length (b ∷ s) ∷ b ∷ s
 
 -- 80 (hexadecimal) plus the number, state, notice, L, D, then count and block if one is handed up
-unfoldable pub answerOctets : Told → Block → List ℕ
+unfoldable pub answerOctets : Status → Block → List ℕ
 answerOctets t block =
     lay (1 ∷ 1 ∷ 1 ∷ 4 ∷ 4 ∷ []) ((128 + t .number) ∷ t .state ∷ t .notice ∷ t .local ∷ t .remote ∷ []) ++ counted block
 
@@ -27,12 +30,17 @@ unfoldable pub frameLine : List ℕ → List ℕ
 frameLine [] = []
 frameLine (b ∷ s) = asLine (b ∷ s)
 
-unfoldable pub textOf : Told → Block → List ℕ → List ℕ
+unfoldable pub textOf : Status → Block → List ℕ → List ℕ
 textOf t block sent = asLine (answerOctets t block) ++ frameLine sent
 
 -- The room that an answer asks for: 153 characters for the answer line with the longest block, 157 for the longest frame's.
 abbrev pub answerRoom : ℕ
 answerRoom = 310
+
+-- what the answer's enum says: how many characters, or the refusal's number
+unfoldable pub outputOf : Outcome (List ℕ) → Output
+outputOf (refused n) = Refused n
+outputOf (ok s) = Written (length s)
 
 -- s stands at the start of the buffer, and n is its length
 pub record Begins (s out out′ : List ℕ) (n : ℕ) : Type 0 where

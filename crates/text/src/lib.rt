@@ -1,4 +1,5 @@
 // The text of an answer: one line, then the frame sent, if there is one.
+use calls::Status;
 ghost use Prim.Native.Nat.{_+_, _*_, _≤_};
 ghost use lib.ListN.{length};
 ghost use Rattle.octets.specs.Sizes.{longestFrame, longestBlock};
@@ -9,13 +10,10 @@ pub const ANSWER_ROOM: usize = 310;
 
 const LINE_FEED: u8 = 10;
 
-// What an answer line tells before the block.
-pub struct Told {
-    pub number: u8,
-    pub state: u8,
-    pub notice: u8,
-    pub local: u32,
-    pub remote: u32,
+// What the answer to a line is: so many characters at the start of the buffer; or 11 where the buffer is too short for any.
+pub enum Output {
+    Written(usize),
+    Refused(u8),
 }
 
 // Writes the octets of s as a line to the start of out.
@@ -30,7 +28,7 @@ fn write_line(s: &[u8], out: &mut [u8]) -> usize
 }
 
 // Writes the octets of an answer line to the start of out.
-fn tell(t: Told, block: &[u8], out: &mut [u8]) -> usize
+fn tell(t: Status, block: &[u8], out: &mut [u8]) -> usize
     requires { ⌜ (76 ≤ length (now out)) × (length (now block) ≤ longestBlock) ⌝ }
     ensures { λ r. ⌜ Begins (answerOctets t (now (block .entry))) (now (out .entry)) (now (out .exit)) r ⌝ }
 {
@@ -49,7 +47,7 @@ fn tell(t: Told, block: &[u8], out: &mut [u8]) -> usize
 }
 
 // Writes the text of an answer to the start of out: the answer line, and the line of the frame sent, if there is one.
-pub fn write_text(t: Told, block: &[u8], sent: &[u8], out: &mut [u8]) -> usize
+pub fn write_text(t: Status, block: &[u8], sent: &[u8], out: &mut [u8]) -> usize
     requires { ⌜ (answerRoom ≤ length (now out)) × ((length (now block) ≤ longestBlock) × (length (now sent) ≤ longestFrame)) ⌝ }
     ensures { λ r. ⌜ Begins (textOf t (now (block .entry)) (now (sent .entry))) (now (out .entry)) (now (out .exit)) r ⌝ }
 {

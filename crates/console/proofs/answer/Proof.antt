@@ -1,13 +1,12 @@
-use Prim.Native.Nat.{ℕ, _≤_}
-use mathlib.Core.Path.{_≡_, refl, sym, ap, _∙_}
+use mathlib.Core.Path.{refl, sym, ap, _∙_}
 use mathlib.Core.List.{List}
+use Prim.Native.Nat.{ℕ}
 use denote.Ref.{now}
-use lib.ListN.{length, take, replicate}
+use lib.ListN.{length, replicate}
 use lib.Seq.{length-take-le}
-use Rattle.hexline.specs.Line.{unhex}
-use Rattle.text.proofs.Text.{taken}
-use Rattle.console.proofs.Ends.{put-fits}
-use Rattle.console.proofs.Lines.{line-asks, Passed, passed, declined, no-room, with-text}
+use Rattle.octets.specs.Sizes.{longestFrame}
+use Rattle.hexline.proofs.Asked.{Passed, passed, fits, reads}
+use Rattle.console.proofs.Lines.{line-asks, declined, no-room, with-text}
 use native.Mathlib.Omega.{arith}
 use borrow.Author.Needs.{needs}
 use Rattle.console.proofs.answer.Statement.{statement}
@@ -17,42 +16,41 @@ use Rattle.console.proofs.answer.Tie as tie
 abbrev line : tie.After-ask-arg → List ℕ
 line c = now (c .before .before .before .before .before .before .before .before .before .before .before .args .line)
 
-is-read : (c : tie.After-ask-arg) → Passed (line c) (replicate 78 0) refl (c .before .before .read2 .given .0 .0) (c .before .before .before .before .before .read .last .1 .0)
+abbrev buffer : List ℕ
+buffer = replicate longestFrame 0
+
+is-read : (c : tie.After-ask-arg) → Passed (line c) buffer refl (c .before .before .read2 .given .0 .0) (c .before .before .before .before .before .read .last .1 .0)
 is-read c =
     let r = c .before .before .before .before .before .read in
-    passed (line c) (replicate 78 0) refl _ _ (sym (r .ensures .0) ∙ c .before .before .read2 .given .1) (r .ensures .1)
-
-fits : (c : tie.After-ask-arg) → c .before .before .read2 .given .0 .0 ≤ 78
-fits c = let p = is-read c in omega (arith, p .count, put-fits (replicate 78 0) (unhex (line c)) (p .octets) (search needs))
-
-octets : (c : tie.After-ask-arg) → take (c .before .before .read2 .given .0 .0) (c .before .before .before .before .before .read .last .1 .0) ≡ unhex (line c)
-octets c = let p = is-read c in taken (replicate 78 0) (unhex (line c)) (p .octets) (p .count)
+    passed (line c) buffer refl _ _ (sym (r .ensures .0) ∙ c .before .before .read2 .given .1) (r .ensures .1)
 
 returns : tie.Need-returns
 returns c = let a = c .before .before .before .before .args in no-room (now (a .rec)) (now (a .line)) (now (a .out)) (c .if1 .taken)
 
 array-share-prefix-s : tie.Need-array-share-prefix-s
-array-share-prefix-s c = omega (arith, fits c)
+array-share-prefix-s c = omega (arith, fits (line c) buffer refl (is-read c) (search needs))
 
 slice-aggregate-ask : tie.Need-slice-aggregate-ask
-slice-aggregate-ask c = sym (length-take-le _ _ (omega (arith, fits (c .before))))
+slice-aggregate-ask c = let d = c .before in sym (length-take-le _ _ (omega (arith, fits (line d) buffer refl (is-read d) (search needs))))
 
 ask-requires : tie.Need-ask-requires
-ask-requires c κs = let d = c .before .before in (omega (arith, fits d, is-read d .count, ap length (octets d)), search needs)
+ask-requires c κs =
+    let d = c .before .before in
+    (omega (arith, fits (line d) buffer refl (is-read d) (search needs), is-read d .count, ap length (reads (line d) buffer refl (is-read d))), search needs)
 
 returns-2 : tie.Need-returns-2
 returns-2 c =
     let s = c .before .before .before .before .before .before .before .before .before .before .before .before .before .before .before .before .before .before .args in
     let d = c .before .before .before .before .before .before .before in
     with-text (now (s .rec)) (now (s .line)) (now (s .out)) (omega (arith, c .before .before .before .before .before .before .before .before .before .before .before .before .before .before .if1 .left))
-    (rw (line-asks (now (s .rec)) (line d) (is-read d .all-yes)) (rw (octets d) at (c .before .before .before .before .ask .ensures)))
+    (rw (line-asks (now (s .rec)) (line d) (is-read d .all-yes)) (rw (reads (line d) buffer refl (is-read d)) at (c .before .before .before .before .ask .ensures)))
 
 returns-3 : tie.Need-returns-3
 returns-3 c =
-    let s = c .before .before .before .before .before .before .before .before .before .before .before .before .before .before .before .before .before .args in
-    let r = c .before .before .before .before .before .before .before .before .before .before .before .read in
-    with-text (now (s .rec)) (now (s .line)) (now (s .out)) (omega (arith, c .before .before .before .before .before .before .before .before .before .before .before .before .before .if1 .left))
-    (rw (declined (now (s .line)) (replicate 78 0) refl (now (s .rec)) _ (sym (r .ensures .0) ∙ c .before .before .before .before .before .before .before .before .read3 .given .1)) (c .before .before .before .before .refuse .ensures))
+    let s = c .before .before .before .before .before .before .before .before .before .before .before .before .before .before .before .args in
+    let r = c .before .before .before .before .before .before .before .before .before .read in
+    with-text (now (s .rec)) (now (s .line)) (now (s .out)) (omega (arith, c .before .before .before .before .before .before .before .before .before .before .before .if1 .left))
+    (rw (declined (now (s .line)) buffer refl (now (s .rec)) _ (sym (r .ensures .0) ∙ c .before .before .before .before .before .before .read3 .given .1)) (c .before .before .refuse .ensures))
 
 pub answer-spec : {M : Type 1} → statement M
 answer-spec =

@@ -1,6 +1,6 @@
 use mathlib.Core.Path.{sym}
 use Rattle.octets.proofs.Test.{eq-yes, eq-no}
-use Rattle.moves.specs.Answer.{blockAt}
+use Rattle.moves.specs.Answer.{blockStart}
 use Rattle.moves.specs.Parts.{blockPlace}
 use borrow.Author.Needs.{needs}
 use Rattle.moves.proofs.block_place.Statement.{statement}
@@ -11,7 +11,7 @@ unfolding blockPlace
 returns c = sym (eq-yes _ _ _ _ (c .if1 .taken))
 
 returns-2 : tie.Need-returns-2
-unfolding blockPlace blockAt
+unfolding blockPlace blockStart
 returns-2 c = sym (eq-no _ _ _ _ (c .if1 .left))
 
 pub block-place-spec : {M : Type 1} → statement M

@@ -1,8 +1,8 @@
 use denote.Ref.{now}
-use Rattle.calls.specs.Calls as calls
-use Rattle.octets.specs.Test.{when}
+use lib.ListN.{length}
+use Rattle.calls.specs.declared.Call.the-variants.{Receive}
+use Rattle.calls.specs.Calls.{Arguments, given}
 use Rattle.logbook.specs.Log.{frameAt}
-use Rattle.moves.specs.Parts.{callAs}
 use Rattle.moves.proofs.Does.{loggable, does}
 use Rattle.moves.proofs.Moves.{has-place}
 use Rattle.moves.proofs.Handed.{stands}
@@ -10,19 +10,27 @@ use borrow.Author.Needs.{needs}
 use Rattle.moves.proofs.deliver_at.Statement.{statement}
 use Rattle.moves.proofs.deliver_at.Tie as tie
 
+abbrev call-of : tie.Start → Arguments
+call-of c = given Receive (frameAt (c .args .n) (now (c .args .log))) (length (now (c .args .out)))
+
 finish-requires : tie.Need-finish-requires
-unfolding callAs when
-finish-requires c κs = let s = c .before .before .before .before .before .before .before .before .before .before .before .before .before .before in let l = loggable (s .args .end) (now (s .args .rec)) (now (s .args .log)) (s .args .count) 0 (calls.receive (frameAt (s .args .n) (now (s .args .log))) (now (s .args .out))) (rw (c .before .before .before .before .before .before .before .before .frame-of .ensures) at (c .before .before .before .before .before .before .move-end .ensures)) (s .pre .0) (search needs) in (search needs, (search needs, l))
+finish-requires c κs =
+    let s = c .before .before .before .before .before .before .before .before .before .before .before .before .before .before in
+    (
+      s .pre .1 .0,
+      (
+        search needs,
+        loggable (s .args .end) (now (s .args .rec)) (now (s .args .log)) (s .args .count) 0 (call-of s) (rw (c .before .before .before .before .before .before .before .before .frame-of .ensures) at (c .before .before .before .before .before .before .call-end .ensures)) (s .pre .0) (search needs),
+      ),
+    )
 
 returns : tie.Need-returns
-unfolding callAs when
 returns c =
     let s = c .before .before .before .before .before .before .before .before .before .before .before .before .before .before .before .before .before in
     let a = s .args in
-    let q = calls.receive (frameAt (a .n) (now (a .log))) (now (a .out)) in
-    let w = rw (c .before .before .before .before .before .before .before .before .before .before .before .frame-of .ensures) at (c .before .before .before .before .before .before .before .before .before .move-end .ensures) in
-    let h = stands (a .end) (now (a .rec)) (now (a .log)) (a .count) (a .n) (now (a .out)) (has-place (now (a .rec)) (a .count) q) (s .pre .1 .1 .0 .0) (s .pre .1 .0) (s .pre .1 .1 .1 .0) in
-    does (a .end) (now (a .rec)) (now (a .log)) (a .count) (a .n) q w h (c .before .before .finish .ensures .0) (c .before .before .finish .ensures .1)
+    let w = rw (c .before .before .before .before .before .before .before .before .before .before .before .frame-of .ensures) at (c .before .before .before .before .before .before .before .before .before .call-end .ensures) in
+    let h = stands (a .end) (now (a .rec)) (now (a .log)) (a .count) (a .n) (length (now (a .out))) (has-place (now (a .rec)) (a .count) (call-of s)) (s .pre .1 .1 .0 .0) (s .pre .1 .0) (s .pre .1 .1 .1) in
+    does (a .end) (now (a .rec)) (now (a .log)) (a .count) (a .n) (call-of s) w h (c .before .before .finish .ensures .0) (c .before .before .finish .ensures .1)
 
 pub deliver-at-spec : {M : Type 1} → statement M
 deliver-at-spec =

@@ -5,7 +5,8 @@ use lib.ListN.{length, take, replicate}
 use lib.Seq.{length-take-le}
 use Rattle.text.specs.Text.{asLine, answerOctets}
 use Rattle.text.specs.Text.{Begins}
-use Rattle.text.proofs.Text.{length-line, length-rest, told-short, told-room, taken, text-none, text-some}
+use Rattle.octets.proofs.Buffers.{taken}
+use Rattle.text.proofs.Text.{length-line, length-rest, told-short, told-room, text-none, text-some}
 use native.Mathlib.Omega.{arith}
 use borrow.Author.Needs.{needs}
 use Rattle.text.proofs.write_text.Statement.{statement}
