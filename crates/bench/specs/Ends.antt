@@ -1,9 +1,9 @@
 -- What answers the lines of the bench program: two ends and the log.
 use lib.ListN.{replicate}
+use Rattle.octets.specs.Sizes.{longestFrame}
 use Rattle.link.specs.Lent.{freshRecord}
 use Rattle.logbook.specs.Log.{logSize}
-use Rattle.console.specs.Line.{room}
-use Rattle.rig.specs.Bench.{Bench, benchOf, asked, comes, endOf, benchAfter}
+use Rattle.rig.specs.Bench.{Bench, benchOf, lineAsks, comes, endOf, benchAfter}
 use Rattle.desk.specs.Text.{benchText}
 use Rattle.stream.specs.Answering.{Answering}
 
@@ -12,8 +12,8 @@ abbrev pub bothEnds : Answering
 bothEnds =
     record {
       State = Bench;
-      next = λ w line. benchAfter (endOf (asked w line room)) w (comes w (asked w line room));
-      says = λ w line. benchText w (asked w line room);
+      next = λ w line. benchAfter (endOf (lineAsks w line longestFrame)) w (comes w (lineAsks w line longestFrame));
+      says = λ w line. benchText w (lineAsks w line longestFrame);
     }
 
 -- what it begins with: fresh ends and an empty book

@@ -1,6 +1,6 @@
 // The bench program: two ends and every frame ever sent, asked by lines of standard input, answered on standard output.
-use console::Reply;
 use stream::Place;
+use text::Output;
 ghost use mathlib.Core.Path.{_≡_};
 ghost use Prim.Native.Nat.{_+_, _≤_, _<_};
 ghost use lib.ListN.{length};
@@ -27,8 +27,8 @@ fn answer(
 {
     let reply = desk::answer(a, b, log, count, line, &mut out[filled..]);
     match reply {
-        Reply::Written(n) => n,
-        Reply::Refused(_) => 0,
+        Output::Written(n) => n,
+        Output::Refused(_) => 0,
     }
 }
 

@@ -1,21 +1,8 @@
 // Questions 11 and 12 of all that is lent to the bench.
 ghost use mathlib.Core.Path.{_≡_};
-ghost use Prim.Native.Nat.{_≤_};
-ghost use lib.ListN.{length};
 ghost use Rattle.octets.specs.Test.{first};
-ghost use Rattle.endpoint.specs.Record.{recordSize};
-ghost use Rattle.link.specs.Record.{format};
 ghost use Rattle.rig.specs.Bench.{benchOf};
 ghost use Rattle.checks.specs.Ready.{readyQuestions};
-
-// Question 12 of a record.
-fn is_sound(rec: &[u8]) -> bool
-    requires { ⌜ recordSize ≤ length (now rec) ⌝ }
-    ensures { λ r. ⌜ r ≡ format .sound (now (rec .entry)) ⌝ }
-{
-    let n = endpoint::load_numbers(rec);
-    endpoint::is_sound(n, &rec[18..26], &rec[26..538])
-}
 
 // Questions 11 and 12 of all that is lent, with room for so many octets of a frame: 0 where all are passed.
 pub fn ready(a: &[u8], b: &[u8], log: &[u8], count: usize, room: usize) -> u8
@@ -33,10 +20,10 @@ pub fn ready(a: &[u8], b: &[u8], log: &[u8], count: usize, room: usize) -> u8
     if room < octets::LONGEST_FRAME {
         return 11;
     }
-    if !is_sound(a) {
+    if !link::is_sound(a) {
         return 12;
     }
-    if !is_sound(b) {
+    if !link::is_sound(b) {
         return 12;
     }
     if count > logbook::PLACES {

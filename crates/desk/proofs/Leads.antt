@@ -1,22 +1,22 @@
--- The text of an answer on the bench, part after part. Assumes nothing.
+-- The text of an answer on the bench, part after part.
 use Prim.Native.Nat.{ℕ, zero, suc, _+_, _-_, _≤_}
 use mathlib.Core.Path.{_≡_, refl}
 use mathlib.Core.List.{List, [], _∷_, _++_}
 use native.Mathlib.Omega.{arith}
 use lib.ListN.{length, take, drop, length-append}
+use Rattle.octets.specs.Sizes.{longestFrame, longestBlock}
 use Rattle.octets.specs.Test.{when, ifLt}
 use Rattle.octets.specs.Octets.{put}
 use Rattle.octets.proofs.Octets.{then-put}
 use Rattle.hexline.specs.Line.{digit, hex}
 use Rattle.frame.specs.Frame.{Block}
-use Rattle.text.specs.declared.Told.{Told}
-use Rattle.text.specs.Text.{asLine, answerOctets, frameLine, textOf}
-use Rattle.text.specs.Text.{Begins}
+use Rattle.calls.specs.declared.Status.{Status}
+use Rattle.text.specs.Text.{asLine, answerOctets, frameLine, textOf, answerRoom, Begins}
 use Rattle.text.proofs.Text.{length-line, told-short, rest-put}
 use Rattle.desk.specs.Text.{lead}
 
--- the text at one end has at most 310 characters
-pub text-short : (t : Told) (b : Block) (sent : List ℕ) → length b ≤ 64 → length sent ≤ 78 → length (textOf t b sent) ≤ 310
+-- the text at one end has room in what its answer asks for
+pub text-short : (t : Status) (b : Block) (sent : List ℕ) → length b ≤ longestBlock → length sent ≤ longestFrame → length (textOf t b sent) ≤ answerRoom
 unfolding textOf frameLine
 text-short t b [] h l =
     let p = answerOctets t b in
@@ -32,7 +32,7 @@ leads zero h = refl
 leads (suc zero) h = refl
 leads (suc (suc i)) h = absurd (omega arith)
 
-pub tells : (i : ℕ) (d s : List ℕ) → i ≤ 1 → 312 ≤ length d → {x y u : List ℕ} {n : ℕ} → x ≡ put d 0 (53 ∷ []) → y ≡ put x 1 ((48 + i) ∷ [])
+pub tells : (i : ℕ) (d s : List ℕ) → i ≤ 1 → answerRoom + 2 ≤ length d → {x y u : List ℕ} {n : ℕ} → x ≡ put d 0 (53 ∷ []) → y ≡ put x 1 ((48 + i) ∷ [])
     → Begins s (take (length y - 2) (drop 2 y)) u n → Begins (lead i ++ s) d (take 2 y ++ (u ++ drop (length y - 2) (drop 2 y))) (n + 2)
 tells i d s h l {x} {y} ex ey w =
     let p : List ℕ = 53 ∷ (48 + i) ∷ [] in

@@ -1,44 +1,35 @@
 // The bench asked by lines of text: a line and its answer.
-use console::Reply;
-use moves::Answer;
-use text::Told;
+use moves::BenchAnswer;
+use text::Output;
 ghost use mathlib.Core.List.{_++_};
 ghost use Prim.Native.Nat.{_+_, _≤_};
 ghost use lib.ListN.{length, take, drop};
 ghost use Rattle.octets.specs.Sizes.{longestFrame, longestBlock};
-ghost use Rattle.console.specs.Line.{room};
-ghost use Rattle.text.specs.Text.{textOf};
-ghost use Rattle.text.specs.Text.{Begins};
-ghost use Rattle.rig.specs.Bench.{benchOf, asked};
-ghost use Rattle.desk.specs.Text.{lead, toldIn, answerRoom, Answered};
+ghost use Rattle.text.specs.Text.{textOf, Begins};
+ghost use Rattle.rig.specs.Bench.{benchOf, lineAsks};
+ghost use Rattle.desk.specs.Text.{lead, answerRoom, BenchAnswered};
 ghost use Rattle.desk.specs.Parts.{Gives};
 
 // Room for an answer: what one end's answer needs, and two characters before it.
 pub const ANSWER_ROOM: usize = text::ANSWER_ROOM + 2;
 
-// The characters 5 and 0.
-const FIVE: u8 = 53;
+// The digits of 50, which stands before an answer about A.
+const DIGIT_FIVE: u8 = 53;
 
-const NOUGHT: u8 = 48;
+const DIGIT_ZERO: u8 = 48;
 
 // Writes the text of an answer to the start of out: 50 or 51, then the text as at one end. The block stands in the log.
-fn tell(r: Answer, log: &[u8], frame: &[u8], out: &mut [u8]) -> usize
+fn tell(r: BenchAnswer, log: &[u8], frame: &[u8], out: &mut [u8]) -> usize
     requires { ⌜ (answerRoom ≤ length (now out)) × ((r .end ≤ 1) × ((r .block ≤ longestBlock) × ((r .at + r .block ≤ length (now log)) × ((r .sent ≤ longestFrame) × (r .sent ≤ length (now frame)))))) ⌝ }
-    ensures { λ n. ⌜ Begins (lead (r .end) ++ textOf (toldIn r) (take (r .block) (drop (r .at) (now (log .entry)))) (take (r .sent) (now (frame .entry)))) (now (out .entry)) (now (out .exit)) n ⌝ }
+    ensures { λ n. ⌜ Begins (lead (r .end) ++ textOf (r .status) (take (r .block) (drop (r .at) (now (log .entry)))) (take (r .sent) (now (frame .entry)))) (now (out .entry)) (now (out .exit)) n ⌝ }
 {
-    octets::store8(out, 0, FIVE);
-    octets::store8(out, 1, NOUGHT + r.end);
-    let t = Told {
-        number: r.number,
-        state: r.state,
-        notice: r.notice,
-        local: r.local,
-        remote: r.remote,
-    };
+    octets::store8(out, 0, DIGIT_FIVE);
+    octets::store8(out, 1, DIGIT_ZERO + r.end);
+    let told = r.status;
     let at = r.at;
     let stop = at + r.block;
     let sent = r.sent;
-    let n = text::write_text(t, &log[at..stop], &frame[..sent], &mut out[2..]);
+    let n = text::write_text(told, &log[at..stop], &frame[..sent], &mut out[2..]);
     n + 2
 }
 
@@ -52,7 +43,7 @@ fn write(
     out: &mut [u8],
 ) -> usize
     requires { ⌜ answerRoom ≤ length (now out) ⌝ }
-    ensures { λ r. ⌜ Gives (benchOf (now (a .entry)) (now (b .entry)) (now (log .entry)) (now (count .entry))) (asked (benchOf (now (a .entry)) (now (b .entry)) (now (log .entry)) (now (count .entry))) (now (line .entry)) room) (now (out .entry)) (now (a .exit)) (now (b .exit)) (now (log .exit)) (now (count .exit)) (now (out .exit)) r ⌝ }
+    ensures { λ r. ⌜ Gives (benchOf (now (a .entry)) (now (b .entry)) (now (log .entry)) (now (count .entry))) (lineAsks (benchOf (now (a .entry)) (now (b .entry)) (now (log .entry)) (now (count .entry))) (now (line .entry)) longestFrame) (now (out .entry)) (now (a .exit)) (now (b .exit)) (now (log .exit)) (now (count .exit)) (now (out .exit)) r ⌝ }
 {
     let mut frame = [0u8; octets::LONGEST_FRAME];
     let r = testbench::play(a, b, log, *count, line, &mut frame);
@@ -69,11 +60,11 @@ pub fn answer(
     count: &mut usize,
     line: &[u8],
     out: &mut [u8],
-) -> Reply
-    ensures { λ r. ⌜ Answered (benchOf (now (a .entry)) (now (b .entry)) (now (log .entry)) (now (count .entry))) (now (line .entry)) (now (out .entry)) (now (a .exit)) (now (b .exit)) (now (log .exit)) (now (count .exit)) (now (out .exit)) r ⌝ }
+) -> Output
+    ensures { λ r. ⌜ BenchAnswered (benchOf (now (a .entry)) (now (b .entry)) (now (log .entry)) (now (count .entry))) (now (line .entry)) (now (out .entry)) (now (a .exit)) (now (b .exit)) (now (log .exit)) (now (count .exit)) (now (out .exit)) r ⌝ }
 {
     if out.len() < ANSWER_ROOM {
-        return Reply::Refused(11);
+        return Output::Refused(11);
     }
-    Reply::Written(write(a, b, log, count, line, out))
+    Output::Written(write(a, b, log, count, line, out))
 }

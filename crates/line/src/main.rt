@@ -1,6 +1,6 @@
 // The line program: one end, asked by lines of standard input, answered on standard output.
-use console::Reply;
 use stream::Place;
+use text::Output;
 ghost use mathlib.Core.Path.{_≡_};
 ghost use Prim.Native.Nat.{_+_, _≤_, _<_};
 ghost use lib.ListN.{length};
@@ -18,8 +18,8 @@ fn answer(rec: &mut [u8], line: &[u8], out: &mut [u8], filled: usize) -> usize
 {
     let reply = console::answer(rec, line, &mut out[filled..]);
     match reply {
-        Reply::Written(n) => n,
-        Reply::Refused(_) => 0,
+        Output::Written(n) => n,
+        Output::Refused(_) => 0,
     }
 }
 

@@ -73,14 +73,7 @@ pub struct BenchAnswer {
 }
 
 // Logs what a call at an end has sent to the start of out, and tells of the call; n is the frame received.
-fn finish(
-    end: u8,
-    a: Answer,
-    n: usize,
-    log: &mut [u8],
-    count: usize,
-    out: &[u8],
-) -> BenchAnswer
+fn finish(end: u8, a: Answer, n: usize, log: &mut [u8], count: usize, out: &[u8]) -> BenchAnswer
     requires { ⌜ (logSize ≤ length (now log)) × ((n < places) × ((a .sent ≤ length (now out)) × ((a .sent ≤ longestFrame) × (a .sent ≢ 0 → count < places)))) ⌝ }
     ensures { λ r. ⌜ (r ≡ answerFrom end a n count) × (now (log .exit) ≡ noted end (now (log .entry)) count (take (a .sent) (now (out .entry)))) ⌝ }
 {

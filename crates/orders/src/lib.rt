@@ -1,15 +1,14 @@
 // What the octets of a bench line order: a request at an end, or the delivery of a frame.
-use moves::Answer;
+use moves::BenchAnswer;
 ghost use mathlib.Core.Path.{_≡_};
 ghost use Prim.Native.Nat.{ℕ, _≤_};
 ghost use lib.ListN.{length};
-ghost use Rattle.octets.specs.Sizes.{longestFrame};
 ghost use Rattle.octets.specs.Test.{refused};
 ghost use Rattle.octets.specs.Octets.{field};
 ghost use Rattle.endpoint.specs.Record.{recordSize};
 ghost use Rattle.logbook.specs.Log.{places, logSize};
-ghost use Rattle.rig.specs.Bench.{benchOf, delivery, asks};
-ghost use Rattle.moves.specs.Answer.{answerOf};
+ghost use Rattle.rig.specs.Bench.{benchOf, delivery, octetsAsk};
+ghost use Rattle.moves.specs.Answer.{benchAnswerOf};
 ghost use Rattle.orders.specs.Played.{Played};
 
 const REQUEST_A: u8 = 0x50;
@@ -19,20 +18,17 @@ const REQUEST_B: u8 = 0x51;
 const DELIVER: u8 = 0x52;
 
 // A refusal that names no end is about A.
-pub fn refuse(a: &[u8], number: u8, count: usize) -> Answer
-    ensures { λ r. ⌜ ((n : ℕ) → r ≡ answerOf 0 (now (a .entry)) count n (refused number)) ⌝ }
+pub fn refuse(a: &[u8], number: u8, count: usize) -> BenchAnswer
+    ensures { λ r. ⌜ ((n : ℕ) → r ≡ benchAnswerOf 0 (now (a .entry)) count n (refused number)) ⌝ }
 {
-    let m = moves::refuse(a, number);
-    Answer {
-        number: m.number,
+    let told = link::refuse(a, number);
+    let status = told.status;
+    BenchAnswer {
         end: 0,
-        state: m.state,
-        notice: m.notice,
-        local: m.local,
-        remote: m.remote,
-        sent: m.sent,
+        status,
+        sent: told.sent,
         at: 0,
-        block: m.block,
+        block: told.block,
         count,
     }
 }
@@ -45,9 +41,9 @@ fn deliver(
     count: usize,
     n: usize,
     out: &mut [u8],
-) -> Answer
-    requires { ⌜ (recordSize ≤ length (now a)) × ((recordSize ≤ length (now b)) × ((logSize ≤ length (now log)) × ((count ≤ places) × (longestFrame ≤ length (now out))))) ⌝ }
-    ensures { λ r. ⌜ Played (benchOf (now (a .entry)) (now (b .entry)) (now (log .entry)) count) (delivery (benchOf (now (a .entry)) (now (b .entry)) (now (log .entry)) count) n (now (out .entry))) n (now (out .entry)) (now (a .exit)) (now (b .exit)) (now (log .exit)) (now (out .exit)) r ⌝ }
+) -> BenchAnswer
+    requires { ⌜ (recordSize ≤ length (now a)) × ((recordSize ≤ length (now b)) × ((logSize ≤ length (now log)) × (count ≤ places))) ⌝ }
+    ensures { λ r. ⌜ Played (benchOf (now (a .entry)) (now (b .entry)) (now (log .entry)) count) (delivery (benchOf (now (a .entry)) (now (b .entry)) (now (log .entry)) count) n (length (now (out .entry)))) n (now (out .entry)) (now (a .exit)) (now (b .exit)) (now (log .exit)) (now (out .exit)) r ⌝ }
 {
     if !logbook::holds(log, count, n) {
         return refuse(a, 13, count);
@@ -66,9 +62,9 @@ pub fn ask(
     count: usize,
     s: &[u8],
     out: &mut [u8],
-) -> Answer
-    requires { ⌜ (1 ≤ length (now s)) × ((recordSize ≤ length (now a)) × ((recordSize ≤ length (now b)) × ((logSize ≤ length (now log)) × ((count ≤ places) × (longestFrame ≤ length (now out)))))) ⌝ }
-    ensures { λ r. ⌜ Played (benchOf (now (a .entry)) (now (b .entry)) (now (log .entry)) count) (asks (benchOf (now (a .entry)) (now (b .entry)) (now (log .entry)) count) (now (s .entry)) (now (out .entry))) (field 2 1 (now (s .entry))) (now (out .entry)) (now (a .exit)) (now (b .exit)) (now (log .exit)) (now (out .exit)) r ⌝ }
+) -> BenchAnswer
+    requires { ⌜ (1 ≤ length (now s)) × ((recordSize ≤ length (now a)) × ((recordSize ≤ length (now b)) × ((logSize ≤ length (now log)) × (count ≤ places)))) ⌝ }
+    ensures { λ r. ⌜ Played (benchOf (now (a .entry)) (now (b .entry)) (now (log .entry)) count) (octetsAsk (benchOf (now (a .entry)) (now (b .entry)) (now (log .entry)) count) (now (s .entry)) (length (now (out .entry)))) (field 2 1 (now (s .entry))) (now (out .entry)) (now (a .exit)) (now (b .exit)) (now (log .exit)) (now (out .exit)) r ⌝ }
 {
     let kind = s[0];
     if kind == REQUEST_A {

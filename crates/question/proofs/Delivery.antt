@@ -1,25 +1,26 @@
--- The delivery of a frame in the log. Assumes nothing.
+-- The delivery of a frame in the log.
 use Prim.Native.Nat.{ℕ, _-_, _≤_, _<_}
 use mathlib.Core.Path.{_≡_, refl, sym, subst}
 use mathlib.Core.Logic.{_≢_}
 use mathlib.Core.Bool.{Bool, true, false}
 use mathlib.Core.List.{List}
 use native.Mathlib.Omega.{arith}
+use Rattle.octets.specs.Sizes.{longestFrame}
 use Rattle.octets.specs.Test.{when, ifEq, first, Outcome, ok, outcome, andThen, numberOf}
-use Rattle.calls.specs.Calls.{receive}
+use Rattle.calls.specs.declared.Call.the-variants.{Receive}
+use Rattle.calls.specs.Calls.{given}
 use Rattle.endpoint.proofs.Sounds.{by-lt}
-use Rattle.console.specs.Line.{room}
 use Rattle.logbook.specs.Log.{senderAt, frameAt, holds}
 use Rattle.logbook.proofs.Log.{too-high, held}
-use Rattle.rig.specs.Bench.{Bench, At, recordAt, delivery, made, comes, endOf}
+use Rattle.rig.specs.Bench.{Bench, At, recordAt, delivery, callOutcome, comes, endOf}
 use Rattle.checks.proofs.Passed.{Passed, passed}
 use Rattle.question.specs.Found.{Changes, Matters, questions}
 use Rattle.question.specs.Parts.{Says}
 
 -- 11 and 12 have been passed; there is no buffer for a frame that could be too short
-pub ready : (w : Bench) → first (questions w) ≡ 0 → Passed w 78
+pub ready : (w : Bench) → first (questions w) ≡ 0 → Passed w longestFrame
 unfolding first when
-ready w h = passed w 78 h
+ready w h = passed w longestFrame h
 
 module _ (w : Bench) (n : ℕ) where
   -- one that it does not hold
@@ -31,13 +32,13 @@ module _ (w : Bench) (n : ℕ) where
   beyond h = not-held (sym (too-high (w .count) n (w .log) h))
 
   module _ (h : holds (w .count) n (w .log) ≡ true) where
-    goes : {j : ℕ} → 1 - senderAt n (w .log) ≡ j → delivery w n room ≡ ok (j, receive (frameAt n (w .log)) room)
+    goes : {j : ℕ} → 1 - senderAt n (w .log) ≡ j → delivery w n longestFrame ≡ ok (j, given Receive (frameAt n (w .log)) longestFrame)
     unfolding delivery outcome first when
     goes e = rw (h, e) refl
 
     -- the call at an end
     abbrev Changed : List ℕ → Type 0
-    Changed rec = Changes rec (made rec (w .count) (receive (frameAt n (w .log)) room))
+    Changed rec = Changes rec (callOutcome rec (w .count) (given Receive (frameAt n (w .log)) longestFrame))
 
     abbrev Goes : Bool → Outcome At → Type 0
     Goes r d = Says r (Changes (recordAt (endOf d) w) (comes w d))

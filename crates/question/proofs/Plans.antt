@@ -1,49 +1,47 @@
--- Whether receiving a frame changes a record, from the plan for it. Assumes nothing.
+-- Whether receiving a frame changes a record, from the plan for it.
 use Prim.Native.Nat.{ℕ, _+_, _≤_}
 use mathlib.Core.Path.{_≡_, refl, sym, ap, ap₂, _∙_}
 use mathlib.Core.Logic.{_≢_}
-use mathlib.Core.Bool.{Bool, true, false, not, false≢true}
+use mathlib.Core.Bool.{Bool, true, false, not}
 use mathlib.Core.List.{List, [], _∷_, _++_, append-assoc}
 use native.Mathlib.Omega.{arith}
-use borrow.Author.Tests.{ltb-true, ltb-false, eqb-true, eq-eqb}
+use borrow.Author.Tests.{eqb-true, eq-eqb}
 use lib.Dec.{eqb}
 use lib.ListN.{length, getD, drop, length-append, length-drop}
-use Rattle.octets.specs.Test.{Outcome, refused, ok, mapped, andThen, numberOf}
+use Rattle.octets.specs.Sizes.{longestFrame}
+use Rattle.octets.specs.Test.{when, Outcome, refused, ok, mapped, andThen, numberOf}
 use Rattle.octets.specs.Octets.{put, left, lay, fields, Octets}
 use Rattle.octets.proofs.Test.{both, joined}
 use Rattle.octets.proofs.Octets.{Fit, fields-lay}
-use Rattle.frame.specs.Frame.{Block, Frame}
+use Rattle.frame.specs.Frame.{Block}
 use Rattle.protocol.specs.Endpoint as abstract
-use Rattle.protocol.specs.Table.{nothing, frame, Step}
-use Rattle.calls.specs.Calls.{Call, receive, wire, performed, recordAfter}
+use Rattle.protocol.specs.Table.{Step}
+use Rattle.calls.specs.declared.Call.the-variants.{Receive}
+use Rattle.calls.specs.Calls.{Arguments, given, does, performed, recordAfter}
 use Rattle.decide.specs.declared.Numbers.{Numbers}
 use Rattle.decide.specs.Rows.{holding}
 use Rattle.plan.specs.declared.Plan.{Plan}
 use Rattle.plan.specs.declared.Queue.{Queue}
 use Rattle.plan.specs.declared.Queue.the-variants.{Keep, Join, Release}
-use Rattle.plan.specs.declared.Reply.{Reply}
-use Rattle.plan.specs.declared.Reply.the-variants as reply
-use Rattle.plan.specs.Plan.{heard, sentIn, endpointAfter, queueAfter, Room, sentBy, Comes, Planned}
+use Rattle.plan.specs.Plan.{endpointAfter, joinedBy, queueAfter, Room, Comes, Planned}
 use Rattle.endpoint.specs.declared.Endpoint.{Endpoint}
 use Rattle.endpoint.specs.View.{pack, blockAt, view}
 use Rattle.endpoint.specs.Sound.{sound}
-use Rattle.endpoint.specs.Record.{numbersLayout, decode}
+use Rattle.endpoint.specs.Record.{recordSize, numbersLayout, decode}
 use Rattle.endpoint.specs.Record as endpoint
 use Rattle.endpoint.specs.Parts.{numbersOf}
 use Rattle.endpoint.proofs.Packs.{count, pack-view}
 use Rattle.endpoint.proofs.Sounds.{tidy}
-use Rattle.machine.specs.Calls.{receiveOutcome}
-use Rattle.machine.proofs.Ready.{receive-ready}
+use Rattle.machine.specs.Calls.{outcomeOf}
+use Rattle.machine.proofs.Ready.{ready}
 use Rattle.machine.proofs.Carries.{oldest-at, laden}
 use Rattle.link.specs.Record.{format}
-use Rattle.link.specs.Lent.{sentOf}
-use Rattle.link.proofs.Answers.{rewritten, enough, lengths-8, blocks-512}
-use Rattle.console.specs.Line.{room}
-use Rattle.rig.specs.Bench.{logged, made}
-use Rattle.moves.proofs.Moves.{place-left, nothing-sent, none-left}
-use Rattle.moves.proofs.Does.{some-octets}
+use Rattle.link.proofs.Answers.{rewritten, enough, lengths-long, blocks-long}
+use Rattle.rig.specs.Bench.{logged, callOutcome}
+use Rattle.moves.specs.Parts.{hasPlace}
+use Rattle.moves.proofs.Moves.{by-plan}
 use Rattle.question.specs.Found.{Changes}
-use Rattle.question.specs.Parts.{Says, sameNumbers, hasPlace}
+use Rattle.question.specs.Parts.{Says, sameNumbers}
 
 -- the test of the numbers
 same-so : (n m : Numbers) → sameNumbers n m ≡ true → n ≡ m
@@ -83,17 +81,6 @@ unfolding andThen numberOf
 passes (refused n) count h = h
 passes (ok x) count h = refl
 
--- the octets of what is sent
-sent-some : (f : Frame) (o : Outcome Step) → frame f ≡ sentIn o → sentOf o ≢ 0
-unfolding sentIn sentOf wire
-sent-some f (refused n) e = absurd (let z : _≡_ {A = ℕ} 0 1 = cc in omega arith)
-sent-some f (ok x) e = rw (← e) (some-octets f)
-
-sent-none : (o : Outcome Step) → nothing ≡ sentIn o → sentOf o ≡ 0
-unfolding sentIn sentOf wire
-sent-none (refused n) e = refl
-sent-none (ok x) e = rw (← e) refl
-
 -- the waiting blocks change only with their count
 stays : (k : Queue) (b : Block) (q : List Block) → Room k b (length q) → length (queueAfter k b q) ≡ length q → queueAfter k b q ≡ q
 unfolding queueAfter
@@ -127,13 +114,13 @@ numbers-put rec e f h =
     numbers-read rec (numbersOf e)
     (ap (fields 0 numbersLayout) (sym h ∙ append-assoc head t d) ∙ fields-lay [] (t ++ d) 0 refl f)
 
-module _ (rec : List ℕ) (long : 538 ≤ length rec) (fine : sound (decode rec) ≡ true) where
+module _ (rec : List ℕ) (long : recordSize ≤ length rec) (fine : sound (decode rec) ≡ true) where
   abbrev end : Endpoint
   end = decode rec
 
   -- t and w of the record, for the plan
   pub enough-accepted : {n : Numbers} → n ≡ numbersOf end → n .waiting ≤ n .accepted
-  enough-accepted e = rw e (laden end fine (lengths-8 rec long) (blocks-512 rec long))
+  enough-accepted e = rw e (laden end fine (lengths-long rec long) (blocks-long rec long))
 
   -- what leaves the endpoint leaves the record
   keeps : Octets rec → (o : Outcome Step) → endpointAfter (view end) o ≡ view end → recordAfter format rec o ≡ rec
@@ -141,7 +128,7 @@ module _ (rec : List ℕ) (long : 538 ≤ length rec) (fine : sound (decode rec)
   keeps oc (refused n) h = refl
   keeps oc (ok x) h =
       ap (λ (e : abstract.Endpoint). put rec 0 (endpoint.encode (pack e))) h
-      ∙ ap (λ (e : Endpoint). put rec 0 (endpoint.encode e)) (pack-view end (tidy end fine (lengths-8 rec long) (blocks-512 rec long)))
+      ∙ ap (λ (e : Endpoint). put rec 0 (endpoint.encode e)) (pack-view end (tidy end fine (lengths-long rec long) (blocks-long rec long)))
       ∙ rewritten rec long oc
 
   -- what leaves the record leaves the numbers
@@ -156,59 +143,56 @@ module _ (rec : List ℕ) (long : 538 ≤ length rec) (fine : sound (decode rec)
       let n = numbers-put rec (pack (holding m q)) (rw (← k) f) p in
       (λ i. record { state = m .state; local = m .local; remote = m .remote; accepted = m .accepted; delivered = m .delivered; waiting = k i }) ∙ n
 
-  module _ (s : List ℕ) (places : ℕ) where
-    abbrev call : Call
-    call = receive s room
+  module _ (s : List ℕ) (count-used : ℕ) where
+    abbrev call : Arguments
+    call = given Receive s longestFrame
 
     abbrev hears : Outcome Step
-    hears = heard s (view end)
+    hears = does Receive s (view end)
 
     -- the record is sound and there is room for a frame
+    ready-is : outcomeOf end call ≡ hears
+    ready-is = ready end call (omega arith) fine
+
     comes-to : performed format rec call ≡ hears
-    unfolding receiveOutcome
-    comes-to = enough rec long call ∙ receive-ready end room s (omega arith) fine
+    comes-to = enough rec long call ∙ ready-is
 
     abbrev Change : Type 0
-    Change = Changes rec (made rec places call)
+    Change = Changes rec (callOutcome rec count-used call)
 
-    module _ {n : Numbers} {p : Plan} (e : n ≡ numbersOf end) (h : (b : Block) → Planned n b (heard s) p) where
-      planned : Comes (numbersOf end) (view end .queue) [] (blockAt (end .lengths) (end .blocks) 0) hears p
+    module _ {n : Numbers} {p : Plan} (e : n ≡ numbersOf end) (h : (b : Block) → Planned n b (does Receive s) p) where
+      abbrev joins : Block
+      joins = joinedBy (p .queue) s
+
+      planned : Comes (numbersOf end) (view end .queue) joins (blockAt (end .lengths) (end .blocks) 0) hears p
       unfolding view
-      planned = (rw e at h) [] (view end .queue) (blockAt (end .lengths) (end .blocks) 0) (count end) (oldest-at end)
+      planned = (rw e at h) joins (view end .queue) (blockAt (end .lengths) (end .blocks) 0) (count end) (oldest-at end)
+
+      by-14 : callOutcome rec count-used call ≡ when (hasPlace (p .reply) count-used) (performed format rec call) (refused 14)
+      by-14 = by-plan rec long count-used call {p = p} (rw ready-is planned)
 
       -- refused by 3 to 7
       pub refuses : p .number ≢ 0 → Change → ⊥
-      unfolding made
-      refuses z x = z (planned .number ∙ ap numberOf (sym comes-to) ∙ passes (performed format rec call) places (x .accepted))
+      unfolding callOutcome
+      refuses z x = z (planned .number ∙ ap numberOf (sym comes-to) ∙ passes (performed format rec call) count-used (x .accepted))
 
-      -- refused by 14
-      full : (r : Reply) (b : Block) → sentBy r b ≡ sentIn hears → hasPlace r places ≡ false → Change → ⊥
-      unfolding sentBy hasPlace numberOf
-      full reply.Nothing b k t x = false≢true (sym t)
-      full (reply.Frame h) b k t x =
-          let m = none-left rec places call (ltb-false places 512 t) (rw comes-to (sent-some _ hears k)) in
-          omega (arith, rw m at (x .accepted))
+      -- refused by 14, and not
+      pub too-full : hasPlace (p .reply) count-used ≡ false → Change → ⊥
+      unfolding when numberOf
+      too-full t x = omega (arith, rw (by-14, t) at (x .accepted))
 
-      pub too-full : hasPlace (p .reply) places ≡ false → Change → ⊥
-      too-full = full (p .reply) _ (planned .sent)
-
-      -- not refused by 14
-      logs : (r : Reply) (b : Block) → sentBy r b ≡ sentIn hears → hasPlace r places ≡ true → made rec places call ≡ performed format rec call
-      unfolding sentBy hasPlace
-      logs reply.Nothing b k t = nothing-sent rec places call (rw comes-to (sent-none hears k))
-      logs (reply.Frame h) b k t = place-left rec places call (ltb-true places 512 t)
-
-      is-made : hasPlace (p .reply) places ≡ true → made rec places call ≡ hears
-      is-made t = logs (p .reply) _ (planned .sent) t ∙ comes-to
+      is-made : hasPlace (p .reply) count-used ≡ true → callOutcome rec count-used call ≡ hears
+      unfolding when
+      is-made t = by-14 ∙ rw t comes-to
 
       -- the same numbers
       unchanged : p .numbers ≡ numbersOf end → endpointAfter (view end) hears ≡ view end
       unfolding view
       unchanged k =
           let w = sym (planned .counted) ∙ ap (λ (x : Numbers). x .waiting) k ∙ sym (count end) in
-          sym (planned .endpoint) ∙ ap₂ holding k (stays (p .queue) [] (view end .queue) (planned .room) w)
+          sym (planned .endpoint) ∙ ap₂ holding k (stays (p .queue) joins (view end .queue) (planned .room) w)
 
-      pub tells : Octets rec → Fit numbersLayout (valuesOf (p .numbers)) → p .number ≡ 0 → hasPlace (p .reply) places ≡ true
+      pub tells : Octets rec → Fit numbersLayout (valuesOf (p .numbers)) → p .number ≡ 0 → hasPlace (p .reply) count-used ≡ true
           → Says (not (sameNumbers (p .numbers) n)) Change
       unfolding view
       tells oc f z t =
@@ -217,7 +201,7 @@ module _ (rec : List ℕ) (long : 538 ≤ length rec) (fine : sound (decode rec)
           (λ b. record {
             accepted = rw (is-made t) (sym (planned .number) ∙ z);
             changed = λ r.
-                let k = kept (p .numbers) (queueAfter (p .queue) [] (view end .queue)) hears (planned .endpoint) (planned .counted) f (rw (is-made t) at r) in
+                let k = kept (p .numbers) (queueAfter (p .queue) joins (view end .queue)) hears (planned .endpoint) (planned .counted) f (rw (is-made t) at r) in
                 let y = so-same (p .numbers) n (k ∙ sym e) in
                 (let z : _≡_ {A = ℕ} 0 1 = cc in omega arith);
           })

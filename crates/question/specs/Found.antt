@@ -4,11 +4,11 @@ use Prim.Native.Nat.{ℕ, _<_}
 use mathlib.Core.Path.{_≡_}
 use mathlib.Core.Logic.{_≢_}
 use mathlib.Core.List.{List, []}
+use Rattle.octets.specs.Sizes.{longestFrame}
 use Rattle.octets.specs.Test.{Question, first, Outcome, numberOf}
 use Rattle.protocol.specs.Table.{Step}
 use Rattle.calls.specs.Calls.{recordAfter}
 use Rattle.link.specs.Record.{format}
-use Rattle.console.specs.Line.{room}
 use Rattle.logbook.specs.Log.{places}
 use Rattle.rig.specs.Bench.{Bench, recordAt, sizeQuestions, soundQuestions, delivery, comes, endOf}
 use Rattle.question.specs.declared.Found.{Found}
@@ -21,7 +21,7 @@ pub record Changes (rec : List ℕ) (o : Outcome Step) : Type 0 where
 
 -- The delivery of frame n now is such a call. One that 14 refuses is not, since then nothing would be delivered.
 abbrev pub Matters : Bench → ℕ → Type 0
-Matters w n = Changes (recordAt (endOf (delivery w n room)) w) (comes w (delivery w n room))
+Matters w n = Changes (recordAt (endOf (delivery w n longestFrame)) w) (comes w (delivery w n longestFrame))
 
 -- 11 and 12, as for a line; no buffer for a frame is lent.
 abbrev pub questions : Bench → List Question

@@ -1,18 +1,18 @@
 // The question of the bench: some frame in the log whose delivery now would be accepted and change the receiver's record.
 use decide::Numbers;
-use plan::Reply;
 ghost use mathlib.Core.Path.{_≡_};
 ghost use mathlib.Core.Bool.{true};
 ghost use Prim.Native.Nat.{_≤_};
 ghost use lib.ListN.{length};
 ghost use Rattle.octets.specs.Test.{first};
 ghost use Rattle.endpoint.specs.Record.{recordSize};
-ghost use Rattle.calls.specs.Calls.{receive};
+ghost use Rattle.octets.specs.Sizes.{longestFrame};
+ghost use Rattle.calls.specs.declared.Call.the-variants.{Receive};
+ghost use Rattle.calls.specs.Calls.{given};
 ghost use Rattle.link.specs.Record.{format};
-ghost use Rattle.console.specs.Line.{room};
-ghost use Rattle.rig.specs.Bench.{benchOf, made};
+ghost use Rattle.rig.specs.Bench.{benchOf, callOutcome};
 ghost use Rattle.question.specs.Found.{Changes, Matters, questions, Answers, Told};
-ghost use Rattle.question.specs.Parts.{sameNumbers, hasPlace, Says};
+ghost use Rattle.question.specs.Parts.{sameNumbers, Says};
 
 // What the question answers: a frame's number, none, or the number of a refusal.
 pub enum Found {
@@ -32,21 +32,11 @@ fn same(n: Numbers, m: Numbers) -> bool
                     & ((n.delivered == m.delivered) & (n.waiting == m.waiting)))))
 }
 
-// Question 14: what sends a frame needs a place for it in the log.
-fn has_place(reply: Reply, count: usize) -> bool
-    ensures { λ r. ⌜ r ≡ hasPlace reply count ⌝ }
-{
-    match reply {
-        Reply::Nothing => true,
-        Reply::Frame(_) => count < logbook::PLACES,
-    }
-}
-
 // Whether receiving s would be accepted, by 14 too, and change the record. The plan for it tells: the waiting blocks change only
 // with their count, so that the numbers are all that is compared, and nothing is copied.
 fn changes(rec: &[u8], s: &[u8], count: usize) -> bool
     requires { ⌜ (recordSize ≤ length (now rec)) × (format .sound (now rec) ≡ true) ⌝ }
-    ensures { λ r. ⌜ Says r (Changes (now (rec .entry)) (made (now (rec .entry)) count (receive (now (s .entry)) room))) ⌝ }
+    ensures { λ r. ⌜ Says r (Changes (now (rec .entry)) (callOutcome (now (rec .entry)) count (given Receive (now (s .entry)) longestFrame))) ⌝ }
 {
     let n = endpoint::load_numbers(rec);
     let p = receiving::receive(n, s);
@@ -54,7 +44,7 @@ fn changes(rec: &[u8], s: &[u8], count: usize) -> bool
         return false;
     }
     let reply = p.reply;
-    if !has_place(reply, count) {
+    if !moves::has_place(reply, count) {
         return false;
     }
     let m = p.numbers;

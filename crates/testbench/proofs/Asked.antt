@@ -1,16 +1,19 @@
--- What a line asks before its order: 11 and 12, then 1 and 2. Assumes nothing.
-use Prim.Native.Nat.{ℕ, suc, _+_, _-_, _/_, _%_, _≤_}
+-- What a line asks before its order: 11 and 12, then 1 and 2.
+use Prim.Native.Nat.{ℕ, suc, _+_, _-_, _*_, _/_, _%_, _≤_}
 use mathlib.Core.Path.{_≡_, refl, ap, _∙_}
 use mathlib.Core.Bool.{true, false}
 use mathlib.Core.List.{List, [], _∷_, _++_}
 use native.Mathlib.Omega.{arith}
 use lib.ListN.{length}
 use borrow.Author.Tests.{eqb-true, le-leb}
+use Rattle.octets.specs.Sizes.{longestFrame}
 use Rattle.octets.specs.Test.{when, Question, first, refused, refusing}
 use Rattle.octets.proofs.Test.{both, within, all-yes}
 use Rattle.hexline.specs.Line.{unhex, lengthOk, lineQuestions}
 use Rattle.hexline.proofs.Digits.{length-unhex}
-use Rattle.rig.specs.Bench.{Bench, benchOf, asks, asked}
+use Rattle.endpoint.specs.Record.{recordSize}
+use Rattle.logbook.specs.Log.{places, logSize}
+use Rattle.rig.specs.Bench.{Bench, benchOf, octetsAsk, lineAsks}
 use Rattle.checks.specs.Ready.{readyQuestions}
 use Rattle.checks.proofs.Passed.{Passed}
 
@@ -21,38 +24,38 @@ later [] rs k h = absurd (omega arith)
 later ((n, true) ∷ qs) rs k h = later qs rs k h
 later ((n, false) ∷ qs) rs k h = h
 
-module _ (a b log : List ℕ) (count : ℕ) (line out : List ℕ) where
+module _ (a b log : List ℕ) (count : ℕ) (line : List ℕ) (room : ℕ) where
   abbrev v : Bench
   v = benchOf a b log count
 
   -- 11 and 12 come first
-  pub unready : (k : ℕ) → first (readyQuestions v (length out)) ≡ suc k → asked v line out ≡ refused (suc k)
-  unfolding asked refusing
-  unready k h = ap (λ (m : ℕ). refusing m (asks v (unhex line) out)) (later (readyQuestions v (length out)) (lineQuestions line) k h)
+  pub unready : (k : ℕ) → first (readyQuestions v room) ≡ suc k → lineAsks v line room ≡ refused (suc k)
+  unfolding lineAsks refusing
+  unready k h = ap (λ (m : ℕ). refusing m (octetsAsk v (unhex line) room)) (later (readyQuestions v room) (lineQuestions line) k h)
 
-  module _ (y : Passed v (length out)) where
-    next : asked v line out ≡ refusing (first (lineQuestions line)) (asks v (unhex line) out)
-    unfolding asked first when
+  module _ (y : Passed v room) where
+    next : lineAsks v line room ≡ refusing (first (lineQuestions line)) (octetsAsk v (unhex line) room)
+    unfolding lineAsks first when
     next =
-        rw (le-leb 538 (length a) (y .long-a), le-leb 538 (length b) (y .long-b), le-leb 40960 (length log) (y .long-log), le-leb 78 (length out) (y .enough), y .sound-a, y .sound-b, le-leb count 512 (y .few)) refl
+        rw (le-leb recordSize (length a) (y .long-a), le-leb recordSize (length b) (y .long-b), le-leb logSize (length log) (y .long-log), le-leb longestFrame room (y .enough), y .sound-a, y .sound-b, le-leb count places (y .few)) refl
 
     -- then 1 and 2 of the line
-    pub passes : first (lineQuestions line) ≡ 0 → asked v line out ≡ asks v (unhex line) out
+    pub passes : first (lineQuestions line) ≡ 0 → lineAsks v line room ≡ octetsAsk v (unhex line) room
     unfolding refusing
-    passes h = next ∙ ap (λ (m : ℕ). refusing m (asks v (unhex line) out)) h
+    passes h = next ∙ ap (λ (m : ℕ). refusing m (octetsAsk v (unhex line) room)) h
 
-    pub turned-away : (k : ℕ) → first (lineQuestions line) ≡ suc k → asked v line out ≡ refused (suc k)
+    pub turned-away : (k : ℕ) → first (lineQuestions line) ≡ suc k → lineAsks v line room ≡ refused (suc k)
     unfolding refusing
-    turned-away k h = next ∙ ap (λ (m : ℕ). refusing m (asks v (unhex line) out)) h
+    turned-away k h = next ∙ ap (λ (m : ℕ). refusing m (octetsAsk v (unhex line) room)) h
 
-    pub sizes : (538 ≤ length a) × ((538 ≤ length b) × ((40960 ≤ length log) × ((count ≤ 512) × (78 ≤ length out))))
-    sizes = (y .long-a, (y .long-b, (y .long-log, (y .few, y .enough))))
+    pub sizes : (recordSize ≤ length a) × ((recordSize ≤ length b) × ((logSize ≤ length log) × (count ≤ places)))
+    sizes = (y .long-a, (y .long-b, (y .long-log, y .few)))
 
 -- a line has at least one octet
 pub some-octet : (line : List ℕ) → first (lineQuestions line) ≡ 0 → 1 ≤ length (unhex line)
 unfolding lengthOk
 some-octet line h =
     let q = both _ _ (all-yes 1 _ _ h tt .0) in
-    let l = within 2 156 (length line) (q .0) in
+    let l = within 2 (2 * longestFrame) (length line) (q .0) in
     let e : length line % 2 ≡ 0 = eqb-true (length line % 2) 0 (q .1) in
     omega (arith, l, length-unhex (length line / 2) line (omega (arith, e)))

@@ -1,26 +1,23 @@
 -- What a bench line answers, and every octet that it leaves.
 use Prim.Native.Nat.{ℕ}
 use mathlib.Core.List.{List}
+use lib.ListN.{length}
 use Rattle.octets.specs.Octets.{field}
 use Rattle.hexline.specs.Line.{unhex}
-use Rattle.rig.specs.Bench.{Bench, asked}
-use Rattle.moves.specs.declared.Answer.{Answer}
+use Rattle.rig.specs.Bench.{Bench, lineAsks}
+use Rattle.moves.specs.declared.BenchAnswer.{BenchAnswer}
 use Rattle.orders.specs.Played.{Played}
 
 -- A line's text: all questions up to 13, in document 01's order, give the call.
-abbrev pub LinePlayed : Bench → List ℕ → List ℕ → List ℕ → List ℕ → List ℕ → List ℕ → Answer → Type 0
-LinePlayed w line out a b log out′ r = Played w (asked w line out) (field 2 1 (unhex line)) out a b log out′ r
+abbrev pub LinePlayed : Bench → List ℕ → List ℕ → List ℕ → List ℕ → List ℕ → List ℕ → BenchAnswer → Type 0
+LinePlayed w line out a b log out′ r = Played w (lineAsks w line (length out)) (field 2 1 (unhex line)) out a b log out′ r
 
 -- the answer in numbers, for programs in C
-abbrev pub answerIn : ℕ → ℕ → ℕ → ℕ → ℕ → ℕ → ℕ → ℕ → ℕ → ℕ → Answer
+abbrev pub answerIn : ℕ → ℕ → ℕ → ℕ → ℕ → ℕ → ℕ → ℕ → ℕ → ℕ → BenchAnswer
 answerIn number end state notice local remote sent at block count =
     record {
-      number = number;
       end = end;
-      state = state;
-      notice = notice;
-      local = local;
-      remote = remote;
+      status = record { number = number; state = state; notice = notice; local = local; remote = remote };
       sent = sent;
       at = at;
       block = block;

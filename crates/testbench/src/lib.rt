@@ -1,6 +1,6 @@
 // The bench: two ends, every frame ever sent, and lines that say what happens next.
 use hexline::Line;
-use moves::Answer;
+use moves::BenchAnswer;
 ghost use Rattle.rig.specs.Bench.{benchOf};
 ghost use Rattle.testbench.specs.Played.{LinePlayed, answerIn};
 
@@ -13,7 +13,7 @@ pub fn play(
     count: usize,
     line: &[u8],
     out: &mut [u8],
-) -> Answer
+) -> BenchAnswer
     ensures { λ r. ⌜ LinePlayed (benchOf (now (a .entry)) (now (b .entry)) (now (log .entry)) count) (now (line .entry)) (now (out .entry)) (now (a .exit)) (now (b .exit)) (now (log .exit)) (now (out .exit)) r ⌝ }
 {
     let number = checks::ready(a, b, log, count, out.len());
@@ -52,12 +52,13 @@ pub extern "C" fn dock_bench(
     let r = play(a, b, log, *count, line, out);
     *count = r.count;
     *end = r.end;
-    *state = r.state;
-    *notice = r.notice;
-    *local = r.local;
-    *remote = r.remote;
+    let told = r.status;
+    *state = told.state;
+    *notice = told.notice;
+    *local = told.local;
+    *remote = told.remote;
     *sent = r.sent;
     *at = r.at;
     *block = r.block;
-    r.number
+    told.number
 }

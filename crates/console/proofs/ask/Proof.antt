@@ -55,8 +55,7 @@ slice-aggregate-write-text c = sym (length-take-le _ _ (omega (arith, fits (c .b
 write-text-requires : tie.Need-write-text-requires
 write-text-requires c κs =
     let s = c .before .before .before .before .before .before .before .before .before .before .before .before .before .before in
-    let p = c .before .before .before .before .before .before .before in
-    (
+    let p = c .before .before .before .before .before .before .before in (
       search needs,
       (
         omega (arith, ap length (block-is (c .before .before)), block-short (now (s .args .rec)) (lineCall (now (s .args .s))) (s .pre .0)),

@@ -1,5 +1,5 @@
 use denote.Ref.{now}
-use Rattle.console.specs.Line.{room}
+use Rattle.octets.specs.Sizes.{longestFrame}
 use Rattle.rig.specs.Bench.{benchOf}
 use Rattle.desk.proofs.Plays.{fine, tellable, gives}
 use borrow.Author.Needs.{needs}
@@ -7,7 +7,7 @@ use Rattle.desk.proofs.write.Statement.{statement}
 use Rattle.desk.proofs.write.Tie as tie
 
 tell-requires : tie.Need-tell-requires
-tell-requires c κs = let s = c .before .before .before .before .before .before .before .before .before .before .before .before .before .before .before .before .before .before .before .before .before in let a = s .args in (s .pre, tellable (c .before .before .before .before .before .before .before .before .before .before .play .ensures) (fine (benchOf (now (a .a)) (now (a .b)) (now (a .log)) (now (a .count))) (now (a .line)) room) (search needs))
+tell-requires c κs = let s = c .before .before .before .before .before .before .before .before .before .before .before .before .before .before .before .before .before .before .before .before .before in let a = s .args in (s .pre, tellable (c .before .before .before .before .before .before .before .before .before .before .play .ensures) (fine (benchOf (now (a .a)) (now (a .b)) (now (a .log)) (now (a .count))) (now (a .line)) longestFrame) (search needs))
 
 returns : tie.Need-returns
 returns c = gives (c .before .before .before .before .before .before .before .before .before .before .before .before .before .play .ensures) (c .before .before .tell .ensures)

@@ -15,8 +15,7 @@ call-of c = given Receive (frameAt (c .args .n) (now (c .args .log))) (length (n
 
 finish-requires : tie.Need-finish-requires
 finish-requires c κs =
-    let s = c .before .before .before .before .before .before .before .before .before .before .before .before .before .before in
-    (
+    let s = c .before .before .before .before .before .before .before .before .before .before .before .before .before .before in (
       s .pre .1 .0,
       (
         search needs,

@@ -5,7 +5,7 @@ use Rattle.orders.proofs.refuse.Statement.{statement}
 use Rattle.orders.proofs.refuse.Tie as tie
 
 returns : tie.Need-returns
-returns c n = let a = c .before .before .args in told (now (a .a)) (a .number) (a .count) n (c .refuse .ensures)
+returns c n = let a = c .before .before .before .args in told (now (a .a)) (a .number) (a .count) n (c .before .refuse .ensures)
 
 pub refuse-spec : {M : Type 1} → statement M
 refuse-spec = tie.close (tie.spec (λ c κs. search needs) returns)

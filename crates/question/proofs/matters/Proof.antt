@@ -5,6 +5,7 @@ use mathlib.Core.Bool.{true}
 use denote.Ref.{now}
 use native.Mathlib.Omega.{arith}
 use borrow.Author.Tests.{not-true, not-false}
+use Rattle.octets.specs.Sizes.{longestFrame}
 use Rattle.logbook.specs.Log.{holds}
 use Rattle.rig.specs.Bench.{Bench, benchOf}
 use Rattle.question.proofs.Delivery.{ready, not-held, to-a, to-b}
@@ -15,7 +16,7 @@ abbrev bench : tie.Start → Bench
 bench c = benchOf (now (c .args .a)) (now (c .args .b)) (now (c .args .log)) (c .args .count)
 
 -- 11 and 12 have been passed
-is-ready : (c : tie.Start) → Passed (bench c) 78
+is-ready : (c : tie.Start) → Passed (bench c) longestFrame
 is-ready c = ready (bench c) (c .pre)
 
 -- 13 has been passed

@@ -11,9 +11,8 @@ use lib.Seq.{length-take-le}
 use Rattle.octets.specs.Test.{refused}
 use Rattle.octets.specs.Octets.{field}
 use Rattle.hexline.specs.Line.{unhex}
-use Rattle.text.proofs.Text.{taken}
-use Rattle.console.proofs.Ends.{put-fits}
-use Rattle.console.proofs.Lines.{Passed, passed, turned-away}
+use Rattle.octets.specs.Sizes.{longestFrame}
+use Rattle.hexline.proofs.Asked.{Passed, passed, fits, reads, turned-away}
 use Rattle.orders.proofs.Plays.{declines}
 use Rattle.testbench.proofs.Asked as asked
 use Rattle.testbench.proofs.Asked.{unready, passes, sizes, some-octet}
@@ -29,43 +28,37 @@ line c = now (c .before .before .before .before .before .before .before .before 
 is-ready : (c : tie.After-ask-arg3) → let a = c .before .before .before .before .before .before .before .before .before .before .before .before .before .before .before .before .before .before .before .args in checked.Passed (benchOf (now (a .a)) (now (a .b)) (now (a .log)) (a .count)) (length (now (a .out)))
 is-ready c = let a = c .before .before .before .before .before .before .before .before .before .before .before .before .before .before .before .before .before .before .before .args in checked.passed (benchOf (now (a .a)) (now (a .b)) (now (a .log)) (a .count)) (length (now (a .out))) (sym (c .before .before .before .before .before .before .before .before .before .before .ready .ensures) ∙ c .before .before .before .before .before .before .before .before .before .if1 .left)
 
-is-read : (c : tie.After-ask-arg3) → Passed (line c) (replicate 78 0) refl (c .before .before .before .before .read2 .given .0 .0) (c .before .before .before .before .before .before .before .read .last .1 .0)
+is-read : (c : tie.After-ask-arg3) → Passed (line c) (replicate longestFrame 0) refl (c .before .before .before .before .read2 .given .0 .0) (c .before .before .before .before .before .before .before .read .last .1 .0)
 is-read c =
     let r = c .before .before .before .before .before .before .before .read in
-    passed (line c) (replicate 78 0) refl _ _ (sym (r .ensures .0) ∙ c .before .before .before .before .read2 .given .1) (r .ensures .1)
-
-fits : (c : tie.After-ask-arg3) → c .before .before .before .before .read2 .given .0 .0 ≤ 78
-fits c = let p = is-read c in omega (arith, p .count, put-fits (replicate 78 0) (unhex (line c)) (p .octets) (search needs))
-
-octets : (c : tie.After-ask-arg3) → take (c .before .before .before .before .read2 .given .0 .0) (c .before .before .before .before .before .before .before .read .last .1 .0) ≡ unhex (line c)
-octets c = let p = is-read c in taken (replicate 78 0) (unhex (line c)) (p .octets) (p .count)
+    passed (line c) (replicate longestFrame 0) refl _ _ (sym (r .ensures .0) ∙ c .before .before .before .before .read2 .given .1) (r .ensures .1)
 
 nonzero : (n : ℕ) → n ≢ 0 → (k : ℕ) × (n ≡ suc k)
 nonzero zero h = absurd (h refl)
 nonzero (suc n) h = (n, refl)
 
 returns : tie.Need-returns
-returns c = let a = c .before .before .before .before .before .before .before .before .before .before .before .before .args in let r = c .before .before .before .ready in let q = nonzero (r .result) (c .before .before .if1 .taken) in declines (now (a .a)) (now (a .b)) (now (a .log)) (a .count) (field 2 1 (unhex (now (a .line)))) (r .result) (now (a .out)) (rw (q .1) (unready (now (a .a)) (now (a .b)) (now (a .log)) (a .count) (now (a .line)) (now (a .out)) (q .0) (sym (r .ensures) ∙ q .1))) (c .refuse .ensures (field 2 1 (unhex (now (a .line)))))
+returns c = let a = c .before .before .before .before .before .before .before .before .before .before .before .before .args in let r = c .before .before .before .ready in let q = nonzero (r .result) (c .before .before .if1 .taken) in declines (now (a .a)) (now (a .b)) (now (a .log)) (a .count) (field 2 1 (unhex (now (a .line)))) (r .result) (now (a .out)) (rw (q .1) (unready (now (a .a)) (now (a .b)) (now (a .log)) (a .count) (now (a .line)) (length (now (a .out))) (q .0) (sym (r .ensures) ∙ q .1))) (c .refuse .ensures (field 2 1 (unhex (now (a .line)))))
 
 array-share-prefix-s : tie.Need-array-share-prefix-s
-array-share-prefix-s c = omega (arith, fits c)
+array-share-prefix-s c = omega (arith, fits (line c) (replicate longestFrame 0) refl (is-read c) (search needs))
 
 slice-aggregate-ask : tie.Need-slice-aggregate-ask
-slice-aggregate-ask c = sym (length-take-le _ _ (omega (arith, fits (c .before))))
+slice-aggregate-ask c = sym (length-take-le _ _ (omega (arith, fits (line (c .before)) (replicate longestFrame 0) refl (is-read (c .before)) (search needs))))
 
 ask-requires : tie.Need-ask-requires
-ask-requires c κs = let a = c .before .before .before .before .before .before .before .before .before .before .before .before .before .before .before .before .before .before .before .before .before .args in let y = is-ready (c .before .before) in (omega (arith, ap length (octets (c .before .before)), some-octet (now (a .line)) (is-read (c .before .before) .all-yes)), sizes (now (a .a)) (now (a .b)) (now (a .log)) (a .count) (now (a .line)) (now (a .out)) y)
+ask-requires c κs = let a = c .before .before .before .before .before .before .before .before .before .before .before .before .before .before .before .before .before .before .before .before .before .args in let y = is-ready (c .before .before) in (omega (arith, ap length (reads (line (c .before .before)) (replicate longestFrame 0) refl (is-read (c .before .before))), some-octet (now (a .line)) (is-read (c .before .before) .all-yes)), sizes (now (a .a)) (now (a .b)) (now (a .log)) (a .count) (now (a .line)) (length (now (a .out))) y)
 
 returns-2 : tie.Need-returns-2
-returns-2 c = let a = c .before .before .before .before .before .before .before .before .before .before .before .before .before .before .before .before .before .before .before .before .before .before .before .before .before .before .before .before .before .before .args in let k = c .before .before .before .before .before .before .before .before .before .before .before in rw (passes (now (a .a)) (now (a .b)) (now (a .log)) (a .count) (now (a .line)) (now (a .out)) (is-ready k) (is-read k .all-yes)) (rw (octets k) at (c .before .before .before .before .before .before .before .before .ask .ensures))
+returns-2 c = let a = c .before .before .before .before .before .before .before .before .before .before .before .before .before .before .before .before .before .before .before .before .before .before .before .before .before .before .before .before .before .before .args in let k = c .before .before .before .before .before .before .before .before .before .before .before in rw (passes (now (a .a)) (now (a .b)) (now (a .log)) (a .count) (now (a .line)) (length (now (a .out))) (is-ready k) (is-read k .all-yes)) (rw (reads (line k) (replicate longestFrame 0) refl (is-read k)) at (c .before .before .before .before .before .before .before .before .ask .ensures))
 
 returns-3 : tie.Need-returns-3
 returns-3 c =
     let a = c .before .before .before .before .before .before .before .before .before .before .before .before .before .before .before .before .before .before .args in
     let r = c .before .before .before .before .before .before .read in
-    let q = turned-away (now (a .line)) (replicate 78 0) refl _ (sym (r .ensures .0) ∙ c .before .before .before .read3 .given .1) in
+    let q = turned-away (now (a .line)) (replicate longestFrame 0) refl _ (sym (r .ensures .0) ∙ c .before .before .before .read3 .given .1) in
     let y = checked.passed (benchOf (now (a .a)) (now (a .b)) (now (a .log)) (a .count)) (length (now (a .out))) (sym (c .before .before .before .before .before .before .before .before .before .ready .ensures) ∙ c .before .before .before .before .before .before .before .before .if1 .left) in
-    declines (now (a .a)) (now (a .b)) (now (a .log)) (a .count) (field 2 1 (unhex (now (a .line)))) _ (now (a .out)) (asked.turned-away (now (a .a)) (now (a .b)) (now (a .log)) (a .count) (now (a .line)) (now (a .out)) y (q .0) (q .1) ∙ ap refused (sym (q .2))) (c .refuse2 .ensures (field 2 1 (unhex (now (a .line)))))
+    declines (now (a .a)) (now (a .b)) (now (a .log)) (a .count) (field 2 1 (unhex (now (a .line)))) _ (now (a .out)) (asked.turned-away (now (a .a)) (now (a .b)) (now (a .log)) (a .count) (now (a .line)) (length (now (a .out))) y (q .0) (q .1) ∙ ap refused (sym (q .2))) (c .refuse2 .ensures (field 2 1 (unhex (now (a .line)))))
 
 pub play-spec : {M : Type 1} → statement M
 play-spec =
