@@ -1,51 +1,29 @@
--- What answers a line on the bench, and the program's theorem. Assumes nothing.
-use Prim.Native.Nat.{ℕ, _≤_}
+-- What answers a line on the bench, and the program's theorem.
+use Prim.Native.Nat.{ℕ, _+_, _≤_}
 use mathlib.Core.Path.{_≡_, refl, ap}
-use mathlib.Core.Logic.{⊎-elim}
-use mathlib.Core.Bool.{Bool, true, false}
 use mathlib.Core.List.{List, [], _∷_}
 use borrow.Author.Tests.{le-leb}
 use lib.Dec.{leb}
 use lib.ListN.{length}
-use Rattle.octets.specs.Test.{when, first, Outcome, ok, outcome, refusing}
+use Rattle.octets.specs.Test.{when, first, Outcome, ok, outcome}
 use Rattle.octets.specs.Sizes.{longestFrame}
-use Rattle.hexline.specs.Line.{isDigit, all}
-use Rattle.link.specs.Record.{format}
+use Rattle.hexline.specs.Line.{unhex}
 use Rattle.link.specs.Lent.{freshRecord}
 use Rattle.console.specs.Line.{room}
-use Rattle.logbook.specs.Log.{places, logSize}
-use Rattle.rig.specs.Bench.{Bench, benchOf, At, asked, comes, endOf, benchAfter}
+use Rattle.rig.specs.Bench.{Bench, benchOf, sizeQuestions, soundQuestions, At, asks, asked, comes, endOf, benchAfter}
 use Rattle.desk.specs.Text.{answerRoom, benchText, askedWith}
 use Rattle.lines.specs.Split.{cut}
-use Rattle.lines.proofs.Long.{by-cut}
+use Rattle.lines.proofs.Long.{asks-cut}
 use Rattle.stream.specs.declared.Place.{Place}
 use Rattle.stream.specs.Answering.{Cuts, textOf}
 use Rattle.stream.specs.Program.{Ran, Over, joined}
+use Rattle.stream.proofs.Steps.{free, free-room}
 use Rattle.stream.proofs.Program.{program-run}
 use Rattle.bench.specs.Ends.{bothEnds, freshBench}
 
--- a line that question 1 refuses
-declined : (a b l f s t n c d : Bool) (o p : Outcome At)
-    → refusing (first ((11, a) ∷ (11, b) ∷ (11, l) ∷ (11, f) ∷ (12, s) ∷ (12, t) ∷ (12, n) ∷ (1, false) ∷ (2, c) ∷ [])) o
-    ≡ refusing (first ((11, a) ∷ (11, b) ∷ (11, l) ∷ (11, f) ∷ (12, s) ∷ (12, t) ∷ (12, n) ∷ (1, false) ∷ (2, d) ∷ [])) p
-unfolding refusing first when
-declined false b l f s t n c d o p = refl
-declined true false l f s t n c d o p = refl
-declined true true false f s t n c d o p = refl
-declined true true true false s t n c d o p = refl
-declined true true true true false t n c d o p = refl
-declined true true true true true false n c d o p = refl
-declined true true true true true true false c d o p = refl
-declined true true true true true true true c d o p = refl
-
 same : (w : Bench) (l : List ℕ) → asked w (cut l) room ≡ asked w l room
 unfolding asked
-same w l =
-    ⊎-elim (λ e. ap (λ (x : List ℕ). asked w x room) e)
-    (λ h. rw (h .0, h .1)
-    (declined (leb (format .size) (length (w .a))) (leb (format .size) (length (w .b))) (leb logSize (length (w .log))) (leb longestFrame (length room))
-    (format .sound (w .a)) (format .sound (w .b)) (leb (w .count) places) (all isDigit (cut l)) (all isDigit l) _ _))
-    (by-cut l)
+same w l = asks-cut (sizeQuestions w ((11, leb longestFrame (length room)) ∷ soundQuestions w [])) tt (λ (x : List ℕ). asks w (unhex x) room) l
 
 pub cuts : Cuts bothEnds
 cuts =
@@ -55,9 +33,9 @@ cuts =
     }
 
 -- where there is room for an answer, the line is asked
-pub asks : (w : Bench) (line d : List ℕ) → answerRoom ≤ length d → askedWith w line d ≡ ok (asked w line room)
+pub asks-with : (w : Bench) (line out : List ℕ) (filled : ℕ) → filled + answerRoom ≤ length out → askedWith w line (free out filled) ≡ ok (asked w line room)
 unfolding askedWith first when outcome
-asks w line d h = rw (le-leb answerRoom (length d) h) refl
+asks-with w line out filled h = rw (le-leb answerRoom (length (free out filled)) (free-room out filled answerRoom h)) refl
 
 -- a bench of two fresh ends
 pub both-fresh : {a b log : List ℕ} {count : ℕ} → a ≡ freshRecord → b ≡ freshRecord → benchOf a b log count ≡ benchOf freshRecord freshRecord log count

@@ -1,37 +1,31 @@
--- Where a line ends, and pieces of a line. Assumes nothing.
-use Prim.Native.Nat.{ℕ, zero, suc, _+_, _-_, _≤_, _<_}
+-- Where a line ends, and pieces of a line.
+use Prim.Native.Nat.{ℕ, suc, _+_, _-_, _≤_, _<_}
 use mathlib.Core.Path.{_≡_, refl, sym, ap, _∙_}
 use mathlib.Core.Logic.{_≢_}
-use mathlib.Core.List.{List, [], _∷_}
+use mathlib.Core.List.{List}
 use native.Mathlib.Omega.{arith}
 use lib.ListN.{length, take, drop, getD, drop-of-length-le}
-use lib.Seq.{drop-cons, length-take-le}
+use lib.Seq.{drop-cons, length-take-le, take-all}
 use Rattle.octets.specs.Octets.{put}
 use Rattle.octets.proofs.Test.{eq-yes, eq-no}
-use Rattle.lines.specs.Lines.{lineLength, Kept}
+use Rattle.lines.specs.Lines.{lineFeed, lineLength, Kept}
 
 -- the scan: i characters that are no line feed, then the rest
-pub at-feed : (s : List ℕ) (i : ℕ) → i < length s → getD s i 0 ≡ 10 → lineLength (drop i s) ≡ 0
+pub at-feed : (s : List ℕ) (i : ℕ) → i < length s → getD s i 0 ≡ lineFeed → lineLength (drop i s) ≡ 0
 unfolding lineLength
-at-feed s i h e = rw (drop-cons s i 0 h) (eq-yes (getD s i 0) 10 _ _ e)
+at-feed s i h e = rw (drop-cons s i 0 h) (eq-yes (getD s i 0) lineFeed _ _ e)
 
-pub past-other : (s : List ℕ) (i : ℕ) → i < length s → getD s i 0 ≢ 10 → lineLength (drop i s) ≡ 1 + lineLength (drop (i + 1) s)
+pub past-other : (s : List ℕ) (i : ℕ) → i < length s → getD s i 0 ≢ lineFeed → lineLength (drop i s) ≡ 1 + lineLength (drop (i + 1) s)
 unfolding lineLength
 past-other s i h e =
     let n : suc i ≡ i + 1 = omega arith in
-    rw (drop-cons s i 0 h, eq-no (getD s i 0) 10 0 (suc (lineLength (drop (suc i) s))) e, n) (omega arith)
+    rw (drop-cons s i 0 h, eq-no (getD s i 0) lineFeed 0 (suc (lineLength (drop (suc i) s))) e, n) (omega arith)
 
 pub at-end : (s : List ℕ) (i : ℕ) → length s ≤ i → lineLength (drop i s) ≡ 0
 unfolding lineLength
 at-end s i h = rw (drop-of-length-le s {i = i} h) refl
 
 -- a piece that fits, and one that does not
-take-all : (n : ℕ) (s : List ℕ) → length s ≤ n → take n s ≡ s
-take-all zero [] h = refl
-take-all zero (x ∷ s) h = absurd (omega arith)
-take-all (suc n) [] h = refl
-take-all (suc n) (x ∷ s) h = ap (λ (t : List ℕ). x ∷ t) (take-all n s (omega arith))
-
 pub keeps-all : (line piece : List ℕ) (n : ℕ) → length piece ≤ length line - n → {line′ : List ℕ} → line′ ≡ put line n piece → Kept line n piece line′ (n + length piece)
 keeps-all line piece n h e =
     let t = take-all (length line - n) piece h in

@@ -1,4 +1,4 @@
--- Lines that come in pieces. Assumes nothing.
+-- Lines that come in pieces.
 use Prim.Native.Nat.{ℕ, zero, suc, _+_, _-_, _≤_, _<_}
 use mathlib.Core.Path.{_≡_, refl, sym, ap, _∙_}
 use mathlib.Core.Logic.{_≢_}
@@ -9,41 +9,41 @@ use lib.Seq.{length-take-le, take-append-add, take-at, take-take}
 use Rattle.octets.specs.Octets.{put}
 use Rattle.octets.specs.Test.{when, ifEq}
 use Rattle.octets.proofs.Test.{by-eq, eq-yes, eq-no}
-use Rattle.lines.specs.Lines.{lineLength, Kept}
+use Rattle.lines.specs.Lines.{lineFeed, lineLength, Kept}
 use Rattle.lines.specs.Split.{ended, begun, last, linesOf, longestKept, cut}
 
 -- one character more: a line feed, and any other
 module _ (part : List ℕ) (c : ℕ) (s : List ℕ) where
-  ended-feed : c ≡ 10 → ended part (c ∷ s) ≡ part ∷ ended [] s
+  ended-feed : c ≡ lineFeed → ended part (c ∷ s) ≡ part ∷ ended [] s
   unfolding ended
-  ended-feed e = eq-yes c 10 _ _ e
+  ended-feed e = eq-yes c lineFeed _ _ e
 
-  ended-other : c ≢ 10 → ended part (c ∷ s) ≡ ended (part ++ (c ∷ [])) s
+  ended-other : c ≢ lineFeed → ended part (c ∷ s) ≡ ended (part ++ (c ∷ [])) s
   unfolding ended
-  ended-other e = eq-no c 10 _ _ e
+  ended-other e = eq-no c lineFeed _ _ e
 
-  begun-feed : c ≡ 10 → begun part (c ∷ s) ≡ begun [] s
+  begun-feed : c ≡ lineFeed → begun part (c ∷ s) ≡ begun [] s
   unfolding begun
-  begun-feed e = eq-yes c 10 _ _ e
+  begun-feed e = eq-yes c lineFeed _ _ e
 
-  begun-other : c ≢ 10 → begun part (c ∷ s) ≡ begun (part ++ (c ∷ [])) s
+  begun-other : c ≢ lineFeed → begun part (c ∷ s) ≡ begun (part ++ (c ∷ [])) s
   unfolding begun
-  begun-other e = eq-no c 10 _ _ e
+  begun-other e = eq-no c lineFeed _ _ e
 
-  length-feed : c ≡ 10 → lineLength (c ∷ s) ≡ 0
+  length-feed : c ≡ lineFeed → lineLength (c ∷ s) ≡ 0
   unfolding lineLength
-  length-feed e = eq-yes c 10 _ _ e
+  length-feed e = eq-yes c lineFeed _ _ e
 
-  length-other : c ≢ 10 → lineLength (c ∷ s) ≡ suc (lineLength s)
+  length-other : c ≢ lineFeed → lineLength (c ∷ s) ≡ suc (lineLength s)
   unfolding lineLength
-  length-other e = eq-no c 10 _ _ e
+  length-other e = eq-no c lineFeed _ _ e
 
 -- two pieces of a text
 pub ended-append : (part s t : List ℕ) → ended part (s ++ t) ≡ ended part s ++ ended (begun part s) t
 unfolding ended begun
 ended-append part [] t = refl
 ended-append part (c ∷ s) t =
-    by-eq c 10
+    by-eq c lineFeed
     (λ e. rw (ended-feed part c (s ++ t) e, ended-feed part c s e, begun-feed part c s e) (ap (λ (x : List (List ℕ)). part ∷ x) (ended-append [] s t)))
     (λ e. rw (ended-other part c (s ++ t) e, ended-other part c s e, begun-other part c s e) (ended-append (part ++ (c ∷ [])) s t))
 
@@ -51,7 +51,7 @@ pub begun-append : (part s t : List ℕ) → begun part (s ++ t) ≡ begun (begu
 unfolding begun
 begun-append part [] t = refl
 begun-append part (c ∷ s) t =
-    by-eq c 10
+    by-eq c lineFeed
     (λ e. rw (begun-feed part c (s ++ t) e, begun-feed part c s e) (begun-append [] s t))
     (λ e. rw (begun-other part c (s ++ t) e, begun-other part c s e) (begun-append (part ++ (c ∷ [])) s t))
 
@@ -63,7 +63,7 @@ pub ended-none : (part s : List ℕ) → lineLength s ≡ length s → ended par
 unfolding ended
 ended-none part [] h = refl
 ended-none part (c ∷ s) h =
-    by-eq c 10
+    by-eq c lineFeed
     (λ e. absurd (omega (arith, length-feed part c s e)))
     (λ e. ended-other part c s e ∙ ended-none (part ++ (c ∷ [])) s (omega (arith, length-other part c s e)))
 
@@ -71,7 +71,7 @@ pub begun-none : (part s : List ℕ) → lineLength s ≡ length s → begun par
 unfolding begun
 begun-none part [] h = sym (append-nil part)
 begun-none part (c ∷ s) h =
-    by-eq c 10
+    by-eq c lineFeed
     (λ e. absurd (omega (arith, length-feed part c s e)))
     (λ e. begun-other part c s e ∙ begun-none (part ++ (c ∷ [])) s (omega (arith, length-other part c s e)) ∙ snoc part c s)
 
@@ -80,7 +80,7 @@ pub ended-one : (part s : List ℕ) → lineLength s < length s → ended part (
 unfolding ended
 ended-one part [] h = absurd (omega arith)
 ended-one part (c ∷ s) h =
-    by-eq c 10
+    by-eq c lineFeed
     (λ e. rw (length-feed part c s e) (ended-feed part c [] e ∙ ap (λ (x : List ℕ). x ∷ []) (sym (append-nil part))))
     (λ e. rw (length-other part c s e)
     (ended-other part c (take (suc (lineLength s)) s) e ∙ ended-one (part ++ (c ∷ [])) s (omega (arith, length-other part c s e))
@@ -90,7 +90,7 @@ pub begun-one : (part s : List ℕ) → lineLength s < length s → begun part (
 unfolding begun
 begun-one part [] h = absurd (omega arith)
 begun-one part (c ∷ s) h =
-    by-eq c 10
+    by-eq c lineFeed
     (λ e. rw (length-feed part c s e) (begun-feed part c [] e))
     (λ e. rw (length-other part c s e) (begun-other part c (take (suc (lineLength s)) s) e ∙ begun-one (part ++ (c ∷ [])) s (omega (arith, length-other part c s e))))
 
@@ -112,7 +112,7 @@ pub begun-cut : (a b s : List ℕ) → cut a ≡ cut b → cut (begun a s) ≡ c
 unfolding begun
 begun-cut a b [] e = e
 begun-cut a b (c ∷ s) e =
-    by-eq c 10
+    by-eq c lineFeed
     (λ f. rw (begun-feed a c s f, begun-feed b c s f) refl)
     (λ f. rw (begun-other a c s f, begun-other b c s f) (begun-cut (a ++ (c ∷ [])) (b ++ (c ∷ [])) s (cut-more a b (c ∷ []) e)))
 
@@ -120,7 +120,7 @@ pub ended-cut : (a b s : List ℕ) → cut a ≡ cut b → map cut (ended a s) �
 unfolding ended
 ended-cut a b [] e = refl
 ended-cut a b (c ∷ s) e =
-    by-eq c 10
+    by-eq c lineFeed
     (λ f. rw (ended-feed a c s f, ended-feed b c s f) (ap (λ (x : List ℕ). x ∷ map cut (ended [] s)) e))
     (λ f. rw (ended-other a c s f, ended-other b c s f) (ended-cut (a ++ (c ∷ [])) (b ++ (c ∷ [])) s (cut-more a b (c ∷ []) e)))
 

@@ -1,7 +1,8 @@
 -- The lines of a text: a line feed ends each, and what stands after the last one is a line too if it has a character.
-use Prim.Native.Nat.{ℕ}
+use Prim.Native.Nat.{ℕ, _+_, _*_}
 use mathlib.Core.List.{List, [], _∷_, _++_}
 use lib.ListN.{take}
+use Rattle.octets.specs.Sizes.{longestFrame}
 use Rattle.octets.specs.Test.{ifEq}
 use Rattle.lines.specs.Lines.{lineFeed}
 
@@ -24,9 +25,10 @@ last (c ∷ s) = (c ∷ s) ∷ []
 unfoldable pub linesOf : List ℕ → List (List ℕ)
 linesOf s = ended [] s ++ last (begun [] s)
 
--- What is kept of a line. None may have more than 156 characters, so 157 of a longer one say all that counts of it: it is refused.
+-- What is kept of a line: one character more than a line may have, which is two for each octet of the longest frame. They say all that counts of a longer
+-- one: it is refused.
 abbrev pub longestKept : ℕ
-longestKept = 157
+longestKept = 2 * longestFrame + 1
 
 unfoldable pub cut : List ℕ → List ℕ
 cut s = take longestKept s

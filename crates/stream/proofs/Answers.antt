@@ -1,4 +1,4 @@
--- The answers to lines that come in pieces, and are cut. Assumes nothing.
+-- The answers to lines that come in pieces, and are cut.
 use Prim.Native.Nat.{ℕ}
 use mathlib.Core.Path.{_≡_, refl, sym, ap, _∙_}
 use mathlib.Core.List.{List, [], _∷_, _++_, append-assoc, map}

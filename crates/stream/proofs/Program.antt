@@ -1,4 +1,4 @@
--- A program hands on the text of its input. Assumes nothing.
+-- A program hands on the text of its input.
 use Prim.Native.Nat.{ℕ, _+_, _-_, _≤_, _<_}
 use mathlib.Core.Path.{_≡_, refl, sym, ap, subst, _∙_}
 use mathlib.Core.Logic.{_≢_}

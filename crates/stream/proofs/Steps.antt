@@ -1,11 +1,11 @@
--- One step of a program, from the contracts of what it calls. Assumes nothing.
+-- One step of a program, from the contracts of what it calls.
 use Prim.Native.Nat.{ℕ, _+_, _-_, _≤_, _<_}
 use mathlib.Core.Path.{_≡_, refl, sym, ap, subst, _∙_}
 use mathlib.Core.Logic.{_≢_}
 use mathlib.Core.Bool.{Bool, true, false}
 use mathlib.Core.List.{List, [], _∷_, _++_, append-assoc, append-nil}
 use native.Mathlib.Omega.{arith}
-use lib.ListN.{length, take, drop, length-append}
+use lib.ListN.{length, take, drop, length-take, length-drop, length-append}
 use lib.Seq.{length-take-le, take-at}
 use Rattle.octets.specs.Octets.{put}
 use Rattle.octets.specs.Test.{when, ifEq}
@@ -109,65 +109,15 @@ refill {p = p} {q = q} r =
 pub by-lt : {A : Type 0} (a b : ℕ) → (a < b → A) → (b ≤ a → A) → A
 by-lt {A} a b h g = if-lt (λ (b : Bool). A) a b {x = true} {y = false} h g
 
+-- a place in range, of which nothing waits and as much is held as before
+fits-by : {p q : Place} → Fits p → q .at ≤ q .end → q .end ≤ bufferSize → q .kept ≡ p .kept → q .filled ≡ 0 → Fits q
+fits-by f u r k z = record { used = u; read = r; kept = omega (arith, k, f .kept); filled = omega (arith, z) }
+
 -- a step stays in range, and leaves fewer steps
 refill-fits : {p q : Place} {buf′ : List ℕ} → Fits p → 0 < p .steps → Refill p buf′ q → (Fits q) × (q .steps < p .steps)
-refill-fits f l (halts h) = (
-  record {
-    used = omega (arith, h .at, h .end, f .used);
-    read = omega (arith, h .end, f .read);
-    kept = omega (arith, h .kept, f .kept);
-    filled = omega (arith, h .filled);
-  },
-  omega (arith, h .steps),
-)
-refill-fits f l (reads m) = (
-  record {
-    used = omega (arith, m .at);
-    read = m .read;
-    kept = omega (arith, m .kept, f .kept);
-    filled = omega (arith, m .filled);
-  },
-  omega (arith, m .steps),
-)
-refill-fits f l (ends d) = (
-  record {
-    used = omega (arith, d .at);
-    read = omega (arith, d .end);
-    kept = omega (arith, d .kept, f .kept);
-    filled = omega (arith, d .filled);
-  },
-  omega (arith, d .steps, d .left),
-)
-
-flushed-fits : {p q : Place} → Fits p → 0 < p .steps → Flushed (oneLess p) q → (Fits q) × (q .steps < p .steps)
-flushed-fits {p} {q} f l w =
-    let e = w .place in (
-      record {
-        used = omega (arith, ap (λ (x : Place). x .at) e, ap (λ (x : Place). x .end) e, f .used);
-        read = omega (arith, ap (λ (x : Place). x .end) e, f .read);
-        kept = omega (arith, ap (λ (x : Place). x .kept) e, f .kept);
-        filled = omega (arith, ap (λ (x : Place). x .filled) e);
-      },
-      by-eq (q .steps) 0 (λ z. omega (arith, z)) (λ n. omega (arith, w .steps n)),
-    )
-
-taken-fits : {buf line line′ : List ℕ} {p q : Place} → Fits p → 0 < p .steps → Taken buf line (oneLess p) line′ q → (Fits q) × (q .steps < p .steps)
-taken-fits f l t = (
-  record {
-    used = t .used;
-    read = omega (arith, t .end, f .read);
-    kept = t .held;
-    filled = omega (arith, t .filled, f .filled);
-  },
-  omega (arith, t .steps),
-)
-
--- what answering needs of a place where a line is ready
-pub record Ready (room : ℕ) (q : Place) : Type 0 where
-  pub kept : q .kept ≤ longestKept
-  pub begins : q .from ≤ q .to
-  pub stops : q .to ≤ bufferSize
-  pub free : q .filled + room ≤ bufferSize
+refill-fits f l (halts h) = (fits-by f (omega (arith, h .at, h .end, f .used)) (omega (arith, h .end, f .read)) (h .kept) (h .filled), omega (arith, h .steps))
+refill-fits f l (reads m) = (fits-by f (omega (arith, m .at)) (m .read) (m .kept) (m .filled), omega (arith, m .steps))
+refill-fits f l (ends d) = (fits-by f (omega (arith, d .at)) (omega (arith, d .end)) (d .kept) (d .filled), omega (arith, d .steps, d .left))
 
 -- the line that is ready where the input at hand is used up is the last
 ready-last : {p q : Place} {buf′ : List ℕ} → q .lines ≢ 0 → Refill p buf′ q → Ended p q
@@ -175,28 +125,45 @@ ready-last n (halts h) = absurd (n (h .lines))
 ready-last n (reads m) = absurd (n (m .lines))
 ready-last n (ends d) = d
 
-module _ {room : ℕ} {buf line buf′ line′ : List ℕ} {p q : Place} (f : Fits p) (x : Next room buf line p buf′ line′ q) where
-  fits-next : 0 < p .steps → (Fits q) × (q .steps < p .steps)
-  fits-next l =
-      by-eq (p .at) (p .end)
-      (λ h. refill-fits f l (refill (x .refilled h)))
-      (λ h. by-lt bufferSize (p .filled + room) (λ r. flushed-fits f l (x .flushed h r .0)) (λ r. taken-fits f l (x .taken h r .0)))
-
-  -- a line that is ready, and room for its answer
-  pub ready-next : room ≤ bufferSize → q .lines ≢ 0 → Ready room q
-  ready-next b n =
-      by-eq (p .at) (p .end)
-      (λ h. let d = ready-last n (refill (x .refilled h)) in
+-- one step towards the next line, in each of its cases
+module _ {room : ℕ} {buf line : List ℕ} {p q : Place} (f : Fits p) (l : 0 < p .steps) where
+  pub next-refilled : {buf′ line′ : List ℕ} → p .at ≡ p .end → Refilled line (oneLess p) buf′ line′ q → Next room buf line p buf′ line′ q
+  next-refilled h r =
+      let g = refill-fits f l (refill r) in
       record {
-        kept = omega (arith, d .kept, f .kept);
-        begins = omega (arith, d .begins);
-        stops = omega (arith, d .stops);
-        free = omega (arith, d .filled);
-      })
-      (λ h. by-lt bufferSize (p .filled + room)
-      (λ r. absurd (n (ap (λ (y : Place). y .lines) (x .flushed h r .0 .place))))
-      (λ r. let t = x .taken h r .0 in
-      record { kept = t .held; begins = t .begins; stops = omega (arith, t .stops, t .end, f .read); free = omega (arith, t .filled) }))
+        refilled = λ _. r;
+        flushed = λ n. absurd (n h);
+        taken = λ n. absurd (n h);
+        fits = g .0;
+        less = g .1;
+        ready = λ b n. let d = ready-last n (refill r) in
+            record { kept = g .0 .kept; begins = omega (arith, d .begins); stops = omega (arith, d .stops); free = omega (arith, d .filled) };
+      }
+
+  pub next-flushed : p .at ≢ p .end → bufferSize < p .filled + room → Flushed (oneLess p) q → Next room buf line p buf line q
+  next-flushed h k w =
+      let e = w .place in
+      let at = ap (λ (x : Place). x .at) e in
+      let end = ap (λ (x : Place). x .end) e in
+      record {
+        refilled = λ z. absurd (h z);
+        flushed = λ _ _. (w, (refl, refl));
+        taken = λ _ z. absurd (omega (arith, k, z));
+        fits = fits-by f (omega (arith, at, end, f .used)) (omega (arith, end, f .read)) (ap (λ (x : Place). x .kept) e) (ap (λ (x : Place). x .filled) e);
+        less = by-eq (q .steps) 0 (λ z. omega (arith, z)) (λ n. omega (arith, w .steps n));
+        ready = λ _ n. absurd (n (ap (λ (x : Place). x .lines) e));
+      }
+
+  pub next-taken : {line′ : List ℕ} → p .at ≢ p .end → p .filled + room ≤ bufferSize → Taken buf line (oneLess p) line′ q → Next room buf line p buf line′ q
+  next-taken h k t =
+      record {
+        refilled = λ z. absurd (h z);
+        flushed = λ _ z. absurd (omega (arith, k, z));
+        taken = λ _ _. (t, refl);
+        fits = record { used = t .used; read = omega (arith, t .end, f .read); kept = t .held; filled = omega (arith, t .filled, f .filled) };
+        less = omega (arith, t .steps);
+        ready = λ _ _. record { kept = t .held; begins = t .begins; stops = omega (arith, t .stops, t .end, f .read); free = omega (arith, t .filled) };
+      }
 
 last-some : (l : List ℕ) → length l ≢ 0 → last l ≡ l ∷ []
 unfolding last
@@ -252,18 +219,17 @@ module _ {a : Answering} where
         told = rw (t .none z .0, t .filled) (sym (append-nil (take (p .filled) out)));
       }
 
-  pub step-none : {room : ℕ} (s : a .State) {buf line : List ℕ} (out : List ℕ) {buf′ line′ : List ℕ} {p q : Place} → Fits p → 0 < p .steps
+  pub step-none : {room : ℕ} (s : a .State) {buf line : List ℕ} (out : List ℕ) {buf′ line′ : List ℕ} {p q : Place}
       → Next room buf line p buf′ line′ q → q .lines ≡ 0 → Stepped a room s buf line out p s buf′ line′ out q
-  step-none s out f l x z =
-      let g = fits-next f x l in
+  step-none s out x z =
       record {
         went = λ h r. none-went (x .taken h r .0) (x .taken h r .1) z;
         wrote = λ h r. none-wrote (x .flushed h r .0) (x .flushed h r .1 .0) (x .flushed h r .1 .1);
         read-on = λ h n m. none-reads (x .refilled h .held) n m (refill (x .refilled h));
         finished = λ h n m. none-ends z n m (refill (x .refilled h));
         stopped = λ h n. none-stops (x .refilled h .held) n (refill (x .refilled h));
-        fits = g .0;
-        less = g .1;
+        fits = x .fits;
+        less = x .less;
       }
 
   -- a line is answered: the last one,
@@ -303,29 +269,35 @@ module _ {a : Answering} where
             (sym (c .says s ready) ∙ sym (append-nil (a .says s (cut ready))) ∙ ap (answers a s) (sym (t .one z .0)) ∙ answers-cut c s e);
       }
 
-  pub step-line : Cuts a → {room : ℕ} {s s′ : a .State} {buf line out buf′ line′ out′ : List ℕ} {p q : Place} {n : ℕ} → Fits p → 0 < p .steps → length line′ ≡ longestKept
+  pub step-line : Cuts a → {room : ℕ} {s s′ : a .State} {buf line out buf′ line′ out′ : List ℕ} {p q : Place} {n : ℕ} → length line′ ≡ longestKept
       → Next room buf line p buf′ line′ q → q .lines ≢ 0 → Replied a s (readyLine buf′ line′ q) out (q .filled) s′ out′ n → q .filled + n ≤ bufferSize
       → Stepped a room s buf line out p s′ buf′ line′ out′ (answeredWith q n)
-  step-line c {buf′ = buf′} {p = p} {q = q} f l w x m r b =
-      let g = fits-next f x l in
+  step-line c {buf′ = buf′} {p = p} {q = q} w x m r b =
       record {
         went = λ h k. line-went c (x .taken h k .0) (x .taken h k .1) m r;
         wrote = λ h k. absurd (m (ap (λ (y : Place). y .lines) (x .flushed h k .0 .place)));
         read-on = λ h k e. absurd (e (ready-last m (refill (x .refilled h)) .end));
-        finished = λ h k e. line-ends buf′ (omega (arith, w, f .kept)) (x .refilled h .held) m r (ready-last m (refill (x .refilled h)));
+        finished = λ h k e. let d = ready-last m (refill (x .refilled h)) in line-ends buf′ (omega (arith, w, d .kept, x .fits .kept)) (x .refilled h .held) m r d;
         stopped = λ h k. absurd (omega (arith, k, ready-last m (refill (x .refilled h)) .steps));
-        fits = record { used = g .0 .used; read = g .0 .read; kept = omega arith; filled = b };
-        less = g .1;
+        fits = record { used = x .fits .used; read = x .fits .read; kept = omega arith; filled = b };
+        less = x .less;
       }
+
+-- the free part of a buffer of which so much is filled
+abbrev pub free : List ℕ → ℕ → List ℕ
+free out filled = take (length out - filled) (drop filled out)
+
+pub free-room : (out : List ℕ) (filled room : ℕ) → filled + room ≤ length out → room ≤ length (free out filled)
+free-room out filled room h = simp (length-take, length-drop) (omega arith)
 
 -- an answer in the free part of a buffer, which comes back as x
 pub replied : {a : Answering} {s s′ : a .State} (line out : List ℕ) (filled : ℕ) {n : ℕ} {x : List ℕ} (rest : List ℕ) → filled ≤ length out
-    → s′ ≡ a .next s line → n ≡ length (a .says s line) → x ≡ put (take (length out - filled) (drop filled out)) 0 (a .says s line) → n ≤ length out - filled
+    → s′ ≡ a .next s line → n ≡ length (a .says s line) → x ≡ put (free out filled) 0 (a .says s line) → n ≤ length (free out filled)
     → Replied a s line out filled s′ (take filled out ++ (x ++ rest)) n
 unfolding put
 replied {a = a} {s = s} line out filled {n} {x} rest h es en ex f =
     let t = a .says s line in
-    let d = take (length out - filled) (drop filled out) in
+    let d = free out filled in
     let r = drop (0 + length t) d ++ rest in
     let e : take filled out ++ (x ++ rest) ≡ (take filled out ++ t) ++ r =
     ap (λ (y : List ℕ). take filled out ++ (y ++ rest)) ex
@@ -333,4 +305,5 @@ replied {a = a} {s = s} line out filled {n} {x} rest h es en ex f =
     ∙ sym (append-assoc (take filled out) t r) in
     let l : length (take filled out ++ t) ≡ filled + n =
     length-append (take filled out) t ∙ omega (arith, length-take-le filled out h, en) in
+    let b : n ≤ length out - filled = omega (arith, simp (length-take, length-drop) at f) in
     record { state = es; room = omega arith; told = ap (take (filled + n)) e ∙ take-at (take filled out ++ t) r (filled + n) l }

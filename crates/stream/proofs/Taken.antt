@@ -1,4 +1,4 @@
--- The next line of the input at hand, or what there is of it. Assumes nothing.
+-- The next line of the input at hand, or what there is of it.
 use Prim.Native.Nat.{ℕ, suc, _+_, _-_, _≤_, _<_}
 use mathlib.Core.Path.{_≡_, refl, sym, ap, subst, _∙_}
 use mathlib.Core.Logic.{_≢_}

@@ -118,8 +118,19 @@ pub record Refilled (line : List ℕ) (p : Place) (buf′ line′ : List ℕ) (q
   pub filled : Filled written buf′ q
   pub held : line′ ≡ line
 
--- One step towards the next line: where the input at hand is used up, where there is no room for an answer, and else.
+-- what answering needs of a place where a line is ready: the line is in range, and room characters of output are free
+pub record Ready (room : ℕ) (q : Place) : Type 0 where
+  pub kept : q .kept ≤ longestKept
+  pub begins : q .from ≤ q .to
+  pub stops : q .to ≤ bufferSize
+  pub free : q .filled + room ≤ bufferSize
+
+-- One step towards the next line: where the input at hand is used up, where there is no room for an answer, and else. The place stays in range, fewer steps
+-- are left, and a line that is ready can be answered.
 pub record Next (room : ℕ) (buf line : List ℕ) (p : Place) (buf′ line′ : List ℕ) (q : Place) : Type 0 where
   pub refilled : p .at ≡ p .end → Refilled line (oneLess p) buf′ line′ q
   pub flushed : p .at ≢ p .end → bufferSize < p .filled + room → (Flushed (oneLess p) q) × ((buf′ ≡ buf) × (line′ ≡ line))
   pub taken : p .at ≢ p .end → p .filled + room ≤ bufferSize → (Taken buf line (oneLess p) line′ q) × (buf′ ≡ buf)
+  pub fits : Fits q
+  pub less : q .steps < p .steps
+  pub ready : room ≤ bufferSize → q .lines ≢ 0 → Ready room q

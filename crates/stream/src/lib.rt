@@ -9,8 +9,9 @@ ghost use Rattle.stream.specs.Place.{bufferSize, Fits, Starts, readyLine
 // The octets of a program's buffers for its input and its output.
 pub const BUFFER_SIZE: usize = 65536;
 
-// A longer line is refused whatever it holds, so no more of one is kept: 157 characters are too many, and an odd number.
-pub const LONGEST_KEPT: usize = 157;
+// What is kept of a line: one character more than a line may have, two for each octet of the longest frame. A longer line is
+// refused whatever it holds.
+pub const LONGEST_KEPT: usize = 2 * octets::LONGEST_FRAME + 1;
 
 // How far a program is. The input at hand is read up to end and used up to at; kept characters of a line that began in earlier
 // input are held; filled characters of output wait. One line is ready or none: what is held or, where nothing is, the input at

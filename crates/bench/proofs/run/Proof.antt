@@ -20,15 +20,6 @@ Inv-loop a₀ b₀ log₀ count₀ buf₀ line₀ out₀ p₀ a b log count buf 
 abbrev μ-loop : tie.MeasureT-loop
 μ-loop a₀ b₀ log₀ count₀ buf₀ line₀ out₀ p₀ a b log count buf line out p = p .steps
 
-dock-fresh-requires : tie.Need-dock-fresh-requires Inv-loop μ-loop
-dock-fresh-requires c κs = search needs
-
-dock-fresh-requires-2 : tie.Need-dock-fresh-requires-2 Inv-loop μ-loop
-dock-fresh-requires-2 c κs = search needs
-
-start-requires : tie.Need-start-requires Inv-loop μ-loop
-start-requires c κs = search needs
-
 loop-holds : tie.Need-loop-holds Inv-loop μ-loop
 loop-holds c =
     let a = c .before .before .before .before .before .args in
@@ -36,29 +27,11 @@ loop-holds c =
     let f = c .before .dock-fresh2 .ensures .1 ∙ fresh-is _ (omega arith) in
     ran-none (now (a .buf)) (now (a .line)) (now (a .out)) (both-fresh e f) (c .start .ensures)
 
-step-requires : tie.Need-step-requires Inv-loop μ-loop
-step-requires c κs = (ran-fits (c .before .before .before .before .before .before .before .before .before .loop .inv), c .before .before .before .before .before .before .before .if1 .taken)
-
-loop-less : tie.Need-loop-less Inv-loop μ-loop
-loop-less c = c .step .ensures .less
-
-loop-again : tie.Need-loop-again Inv-loop μ-loop
-loop-again c = ran-more (c .before .before .before .before .before .before .before .before .before .before .loop .inv) (c .before .before .before .before .before .before .before .before .if1 .taken) (c .step .ensures)
-
-returns : tie.Need-returns Inv-loop μ-loop
-returns c = (c .before .before .loop .inv, omega arith)
-
 pub run-spec : {M : Type 1} → statement M
 run-spec =
     tie.close
-    (tie.spec
-    Inv-loop
-    μ-loop
-    dock-fresh-requires
-    dock-fresh-requires-2
-    start-requires
-    loop-holds
-    step-requires
-    loop-less
-    loop-again
-    returns)
+    (tie.spec Inv-loop μ-loop (λ c κs. search needs) (λ c κs. search needs) (λ c κs. search needs) loop-holds
+    (λ c κs. (ran-fits (c .before .before .before .before .before .before .before .before .before .loop .inv), c .before .before .before .before .before .before .before .if1 .taken))
+    (λ c. c .step .ensures .less)
+    (λ c. ran-more (c .before .before .before .before .before .before .before .before .before .before .loop .inv) (c .before .before .before .before .before .before .before .before .if1 .taken) (c .step .ensures))
+    (λ c. (c .before .before .loop .inv, omega arith)))

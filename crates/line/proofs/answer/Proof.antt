@@ -1,9 +1,6 @@
-use Prim.Native.Nat.{_-_, _≤_}
 use mathlib.Core.Path.{ap, _∙_}
 use denote.Ref.{now}
 use native.Mathlib.Omega.{arith}
-use lib.ListN.{length, take, drop, length-take, length-drop}
-use Rattle.text.specs.Text.{answerRoom}
 use Rattle.console.specs.Text.{text, recordOf}
 use Rattle.console.proofs.Lines.{written-fits, written-count, written-text, never-refused}
 use Rattle.stream.proofs.Steps.{replied}
@@ -12,43 +9,24 @@ use borrow.Author.Needs.{needs}
 use Rattle.line.proofs.answer.Statement.{statement}
 use Rattle.line.proofs.answer.Tie as tie
 
-enum-told : tie.Need-enum-told
-enum-told c = search needs
-
 returns : tie.Need-returns
 unfolding recordOf
 returns c =
     let a = c .before .before .before .before .before .before .before .before .before .before .before .before .before in
-    let d = take (length (now (a .args .out)) - a .args .filled) (drop (a .args .filled) (now (a .args .out))) in
-    let l : answerRoom ≤ length d = simp (length-take, length-drop) (omega (arith, a .pre)) in
     let w = rw (c .before .reply .given .1) at (c .before .before .before .before .before .before .before .answer .ensures) in
-    let e = asks (now (a .args .rec)) (now (a .args .line)) d l in
     let f = text (now (a .args .rec)) in
+    let e = asks (now (a .args .rec)) (now (a .args .line)) (now (a .args .out)) (a .args .filled) (a .pre) in
     replied (now (a .args .line)) (now (a .args .out)) (a .args .filled) _ (omega (arith, a .pre)) (w .end ∙ ap (recordOf (now (a .args .rec))) e)
-    (written-count f e (w .answer)) (written-text f e d (w .buffer))
-    (omega (arith, simp (length-take, length-drop) at (written-fits w (search needs))))
+    (written-count f e (w .answer)) (written-text f e _ (w .buffer)) (written-fits w (search needs))
 
 returns-2 : tie.Need-returns-2
 returns-2 c =
     let a = c .before .before .before .before .before .before .before .before .before .before .before .before in
-    let d = take (length (now (a .args .out)) - a .args .filled) (drop (a .args .filled) (now (a .args .out))) in
-    let l : answerRoom ≤ length d = simp (length-take, length-drop) (omega (arith, a .pre)) in
     let w = rw (c .enum-told .given .1) at (c .before .before .before .before .before .before .answer .ensures) in
-    absurd (never-refused (text (now (a .args .rec))) (asks (now (a .args .rec)) (now (a .args .line)) d l) (w .answer))
+    absurd (never-refused (text (now (a .args .rec))) (asks (now (a .args .rec)) (now (a .args .line)) (now (a .args .out)) (a .args .filled) (a .pre)) (w .answer))
 
 pub answer-spec : {M : Type 1} → statement M
 answer-spec =
     tie.close
-    (tie.spec
-    (λ c. search needs)
-    (λ c. search needs)
-    (λ c. search needs)
-    (λ c κs. search needs)
-    (λ c. search needs)
-    enum-told
-    (λ c. search needs)
-    (λ c. search needs)
-    returns
-    (λ c. search needs)
-    (λ c. search needs)
-    returns-2)
+    (tie.spec (λ c. search needs) (λ c. search needs) (λ c. search needs) (λ c κs. search needs) (λ c. search needs) (λ c. search needs)
+    (λ c. search needs) (λ c. search needs) returns (λ c. search needs) (λ c. search needs) returns-2)

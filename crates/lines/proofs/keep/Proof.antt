@@ -24,14 +24,5 @@ returns-2 c = let a = c .before .before .before .before .before .before .before 
 pub keep-spec : {M : Type 1} → statement M
 keep-spec =
     tie.close
-    (tie.spec
-    (λ c. search needs)
-    (λ c κs. search needs)
-    (λ c. search needs)
-    (λ c. search needs)
-    returns
-    slice-aggregate-copy
-    copy-requires-2
-    (λ c. search needs)
-    (λ c. search needs)
-    returns-2)
+    (tie.spec (λ c. search needs) (λ c κs. search needs) (λ c. search needs) (λ c. search needs) returns slice-aggregate-copy copy-requires-2
+    (λ c. search needs) (λ c. search needs) returns-2)

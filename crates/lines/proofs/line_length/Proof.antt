@@ -15,20 +15,8 @@ Inv-loop s i₀ i = (i ≤ length s) × (lineLength s ≡ i + lineLength (drop i
 abbrev μ-loop : tie.MeasureT-loop
 μ-loop s i₀ i = length s - i
 
-loop-holds : tie.Need-loop-holds Inv-loop μ-loop
-loop-holds c = (omega arith, omega arith)
-
-shared-slice-read-if1 : tie.Need-shared-slice-read-if1 Inv-loop μ-loop
-shared-slice-read-if1 c = search needs
-
 returns : tie.Need-returns Inv-loop μ-loop
 returns c = let l = c .before .before .before .loop in (omega (arith, l .inv .1, at-feed (now (c .before .before .before .before .args .s)) (l .i) (omega arith) (c .if1 .taken)), omega arith)
-
-add-i : tie.Need-add-i Inv-loop μ-loop
-add-i c = search needs
-
-loop-less : tie.Need-loop-less Inv-loop μ-loop
-loop-less c = search needs
 
 loop-again : tie.Need-loop-again Inv-loop μ-loop
 loop-again c = let l = c .before .before .before .loop in (omega arith, omega (arith, l .inv .1, past-other (now (c .before .before .before .before .args .s)) (l .i) (omega arith) (c .if1 .left)))
@@ -39,13 +27,4 @@ returns-2 c = let l = c .before .loop in (omega (arith, l .inv .1, l .inv .0, at
 pub line-length-spec : {M : Type 1} → statement M
 line-length-spec =
     tie.close
-    (tie.spec
-    Inv-loop
-    μ-loop
-    loop-holds
-    shared-slice-read-if1
-    returns
-    add-i
-    loop-less
-    loop-again
-    returns-2)
+    (tie.spec Inv-loop μ-loop (λ c. (omega arith, omega arith)) (λ c. search needs) returns (λ c. search needs) (λ c. search needs) loop-again returns-2)

@@ -22,10 +22,4 @@ returns-2 c = sym (eq-yes _ _ _ _ (omega (arith, c .before .if1 .left)))
 pub ready-spec : {M : Type 1} → statement M
 ready-spec =
     tie.close
-    (tie.spec
-    slice-aggregate-result
-    returns
-    (λ c. search needs)
-    (λ c. search needs)
-    (λ c. search needs)
-    returns-2)
+    (tie.spec slice-aggregate-result returns (λ c. search needs) (λ c. search needs) (λ c. search needs) returns-2)
