@@ -1,4 +1,4 @@
--- A struct does as the endpoint that it holds, so demand 3 holds of lists of calls on structs. Assumes nothing.
+-- A struct does as the endpoint that it holds, so demand 3 holds of lists of calls on structs.
 use Prim.Native.Nat.{ℕ}
 use mathlib.Core.Path.{_≡_, refl, sym, ap, _∙_}
 use mathlib.Core.Bool.{true}
@@ -14,44 +14,43 @@ use Rattle.protocol.specs.Claim.{NoEndAlone}
 use Rattle.protocol.specs.Limits.{Bounded, Sized}
 use Rattle.protocol.proofs.World.{Simulates, no-end-alone}
 use Rattle.protocol.proofs.Theorem.{Roomy, roomy, limited}
-use Rattle.calls.specs.Calls.{Call, ownQuestions, asked, performed}
+use Rattle.calls.specs.Calls.{Arguments, ownQuestions, does, asked, performed}
 use Rattle.calls.proofs.Lift.{fair}
 use Rattle.endpoint.specs.declared.Endpoint.{Endpoint}
 use Rattle.endpoint.specs.View.{pack}
 use Rattle.endpoint.specs.Sound.{sound}
-use Rattle.endpoint.specs.Record.{encode}
+use Rattle.endpoint.specs.Record.{recordSize, encode}
 use Rattle.endpoint.proofs.Held.{held, pack-sound}
-use Rattle.machine.specs.declared.Answer.{Answer}
-use Rattle.machine.specs.Calls.{answerOf, Answered}
+use Rattle.machine.specs.declared.StepAnswer.{StepAnswer}
+use Rattle.machine.specs.Calls.{outcomeOf, stepAnswerOf, Advances}
 use Rattle.link.specs.Record.{format}
 use Rattle.link.proofs.Demand.{lawful}
-use Rattle.host.specs.Step.{outcomeOf}
 use Rattle.host.specs.Hosts.{ends}
 
 -- a call on the struct of a sound endpoint comes to what the call on its octets comes to
-pub alike : (e : abstract.Endpoint) (rest : List ℕ) → abstract.sound e ≡ true → Bounded e → (c : Call)
+pub alike : (e : abstract.Endpoint) (rest : List ℕ) → abstract.sound e ≡ true → Bounded e → (c : Arguments)
     → performed format (encode (pack e) ++ rest) c ≡ outcomeOf (pack e) c
 unfolding performed refusing first when outcomeOf
 alike e rest s b c =
-    rw (le-leb 538 (length (encode (pack e) ++ rest)) (omega (arith, length-append (encode (pack e)) rest, lawful .long e s b)))
+    rw (le-leb recordSize (length (encode (pack e) ++ rest)) (omega (arith, length-append (encode (pack e)) rest, lawful .long e s b)))
     (ap (λ t. asked t (format .holds (encode (pack e) ++ rest)) c) (lawful .passes e rest s b ∙ sym (pack-sound e s))
     ∙ ap (λ z. asked (sound (pack e)) z c) (lawful .keeps e rest s b ∙ sym (held e s)))
 
 -- what `advance` leaves of the struct that it is lent is what a call of a list leaves
-pub lent : (x : End Endpoint) (c : Call) {out out′ : List ℕ} {r : Answer} {e : Endpoint} → Answered (x .rec) (outcomeOf (x .rec) c) out out′ r → e ≡ r .endpoint
-    → e ≡ called ends c x .rec
+pub lent : (x : End Endpoint) (c : Arguments) {s out out′ : List ℕ} {r : StepAnswer} {e : Endpoint} → Advances (x .rec) (outcomeOf (x .rec) c) s out out′ r
+    → e ≡ r .endpoint → e ≡ called ends c x .rec
 unfolding called
-lent x c a k = k ∙ ap (λ (r : Answer). r .endpoint) (a .answer)
+lent x c a k = k ∙ ap (λ (r : StepAnswer). r .endpoint) (a .answer)
 
 packs : Simulates ends Roomy Sized (λ r e. r ≡ pack e)
-unfolding outcomeOf asked answerOf
+unfolding outcomeOf asked does stepAnswerOf
 packs =
     record {
       starts = λ r f. f;
-      fair = fair;
-      comes = λ a b i r k c. (first (ownQuestions (sound r) c), rw (k, held (now a) (limited i .is-sound)) refl);
-      refuses = λ r e k n. k;
-      accepts = λ a b g i j r k x e. ap pack (sym e);
+      fair = λ a b i r k. fair a b i;
+      comes = λ a b i r k c. (first (ownQuestions (sound r) (c .room)), rw (k, held (now a) (limited i .is-sound)) refl);
+      refuses = λ r e k c n. k;
+      accepts = λ a b g i j r k c x e. ap pack (sym e);
     }
 
 -- no host's end opens without its partner

@@ -1,24 +1,31 @@
--- What both walks of this crate use: the machine values of a record and of an answer. Assumes nothing.
+-- What both walks of this crate use: the machine values of a call, of a record and of an answer.
 use mathlib.Core.List.{[], _∷_}
 use mir.Val.{Val}
 use denote.Laws.{Is}
+use denote.Enum.Laws as EL
 use denote.Struct.Laws as LL
+use Rattle.calls.specs.declared.Call.{Call}
+use Rattle.calls.proofs.Call as K
+use Rattle.calls.proofs.Call.Laws as K′
 use Rattle.endpoint.specs.declared.Endpoint.{Endpoint}
 use Rattle.endpoint.proofs.Endpoint as T
 use Rattle.endpoint.proofs.Endpoint.Laws as T′
-use Rattle.machine.specs.declared.Answer.{Answer}
-use Rattle.machine.proofs.Answer as D
-use Rattle.machine.proofs.Answer.Laws as D′
+use Rattle.machine.specs.declared.StepAnswer.{StepAnswer}
+use Rattle.machine.proofs.StepAnswer as D
+use Rattle.machine.proofs.StepAnswer.Laws as D′
+
+abbrev pub of-call : Call → Val
+of-call c = EL.val K.the-type K′.the-laws c
 
 abbrev pub of-end : Endpoint → Val
 of-end e = LL.tuple-val T.the-type T′.the-laws (T.the-type .to e)
 
-abbrev pub of-answer : Answer → Val
+abbrev pub of-answer : StepAnswer → Val
 of-answer r = LL.tuple-val D.the-type D′.the-laws (D.the-type .to r)
 
 -- the parts of an answer fit, and so does the record in it
-pub parts : (r : Answer) (u : Val) → Is D.the-row r (u ∷ []) → Is D.the-row r (of-answer r ∷ [])
+pub parts : (r : StepAnswer) (u : Val) → Is D.the-row r (u ∷ []) → Is D.the-row r (of-answer r ∷ [])
 parts r u is = LL.owes D.the-type D′.the-laws r (LL.owed D.the-type D′.the-laws r _ is)
 
-pub ended : (r : Answer) (u : Val) → Is D.the-row r (u ∷ []) → Is T.the-row (r .endpoint) (of-end (r .endpoint) ∷ [])
+pub ended : (r : StepAnswer) (u : Val) → Is D.the-row r (u ∷ []) → Is T.the-row (r .endpoint) (of-end (r .endpoint) ∷ [])
 ended r u is = LL.owed D.the-type D′.the-laws r _ is .1 .0

@@ -2,21 +2,20 @@
 use mathlib.Core.Path.{_≡_}
 use Rattle.protocol.specs.Endpoint.{fresh}
 use Rattle.protocol.specs.World.{Ends}
-use Rattle.calls.specs.Calls.{Call, said}
+use Rattle.calls.specs.Calls.{Arguments, said}
 use Rattle.calls.specs.Claim.{Due}
 use Rattle.endpoint.specs.declared.Endpoint.{Endpoint}
 use Rattle.endpoint.specs.View.{pack}
-use Rattle.machine.specs.Calls.{answerOf}
-use Rattle.host.specs.Step.{outcomeOf}
+use Rattle.machine.specs.Calls.{outcomeOf, stepAnswerOf}
 
 abbrev pub ends : Ends
 ends =
     record {
       Record = Endpoint;
       Fresh = λ e. e ≡ pack fresh;
-      Call = Call;
-      said = said;
+      Call = Arguments;
+      said = λ e. said;
       comes = outcomeOf;
-      leaves = λ e o. answerOf e o .endpoint;
-      Due = Due;
+      leaves = λ e c o. stepAnswerOf e o .endpoint;
+      Due = λ this. Due;
     }

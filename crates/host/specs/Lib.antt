@@ -1,2 +1,1 @@
-pub mod Step
 pub mod Hosts

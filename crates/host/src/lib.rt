@@ -1,35 +1,27 @@
 // A host's own record, lent to one thin call that updates it.
+use calls::Call;
 use endpoint::Endpoint;
-use machine::Answer;
+use machine::StepAnswer;
 ghost use mathlib.Core.Path.{_≡_};
-ghost use Rattle.machine.specs.Calls.{Answered};
-ghost use Rattle.host.specs.Step.{callOf, outcomeOf};
+ghost use lib.ListN.{length};
+ghost use Rattle.calls.specs.Calls.{given};
+ghost use Rattle.machine.specs.Calls.{outcomeOf, Advances};
 
-// A request, the timer call among them, or a frame received: the step by value.
-pub fn step(asked: bool, e: Endpoint, s: &[u8], out: &mut [u8]) -> Answer
-    ensures { λ r. ⌜ Answered e (outcomeOf e (callOf asked (now (s .entry)) (now (out .entry)))) (now (s .entry)) (now (out .entry)) (now (out .exit)) r ⌝ }
+// The step by value on a record that is lent. A refusal's answer has the record as it was.
+pub fn advance(call: Call, e: &mut Endpoint, s: &[u8], out: &mut [u8]) -> StepAnswer
+    ensures { λ r. ⌜ Advances (now (e .entry)) (outcomeOf (now (e .entry)) (given call (now (s .entry)) (length (now (out .entry))))) (now (s .entry)) (now (out .entry)) (now (out .exit)) r × (now (e .exit) ≡ r .endpoint) ⌝ }
 {
-    if asked {
-        return machine::request(e, s, out);
-    }
-    machine::receive(e, s, out)
-}
-
-// The same step on a record that is lent. A refusal's answer has the record as it was.
-pub fn advance(asked: bool, e: &mut Endpoint, s: &[u8], out: &mut [u8]) -> Answer
-    ensures { λ r. ⌜ Answered (now (e .entry)) (outcomeOf (now (e .entry)) (callOf asked (now (s .entry)) (now (out .entry)))) (now (s .entry)) (now (out .entry)) (now (out .exit)) r × (now (e .exit) ≡ r .endpoint) ⌝ }
-{
-    let r = step(asked, *e, s, out);
+    let r = machine::step(call, *e, s, out);
     *e = r.endpoint;
     r
 }
 
 // The same for callers that hold the record by value, who need no walk: it is lent from here, and answered as the call left it.
-pub fn lend(asked: bool, e: Endpoint, s: &[u8], out: &mut [u8]) -> Answer
-    ensures { λ r. ⌜ Answered e (outcomeOf e (callOf asked (now (s .entry)) (now (out .entry)))) (now (s .entry)) (now (out .entry)) (now (out .exit)) r ⌝ }
+pub fn lend(call: Call, e: Endpoint, s: &[u8], out: &mut [u8]) -> StepAnswer
+    ensures { λ r. ⌜ Advances e (outcomeOf e (given call (now (s .entry)) (length (now (out .entry))))) (now (s .entry)) (now (out .entry)) (now (out .exit)) r ⌝ }
 {
     let mut held = e;
-    let mut r = advance(asked, &mut held, s, out);
+    let mut r = advance(call, &mut held, s, out);
     r.endpoint = held;
     r
 }

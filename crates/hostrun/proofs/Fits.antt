@@ -1,37 +1,47 @@
--- The frame of an answer has room in its buffer, and its block a place in the frame received. Assumes nothing.
+-- The frame of an answer has room in its buffer, and its block a place in the frame received.
 use Prim.Native.Nat.{ℕ, _+_, _≤_}
 use mathlib.Core.Path.{_≡_, refl, sym, ap, _∙_}
-use mathlib.Core.Logic.{_≢_}
 use native.Mathlib.Omega.{arith}
 use mathlib.Core.List.{List}
-use lib.ListN.{length, drop, length-take, length-drop}
-use Rattle.octets.specs.Test.{Outcome, refused, ok}
+use lib.ListN.{length, drop, length-append, length-drop}
+use Rattle.octets.specs.Sizes.{longestFrame, longestBlock}
+use Rattle.octets.specs.Test.{Outcome, refused, ok, mapped}
+use Rattle.octets.specs.Octets.{put, left}
+use Rattle.octets.proofs.Test.{by-eq, eq-yes, eq-no}
 use Rattle.protocol.specs.Table.{Step}
-use Rattle.plan.specs.Plan.{blockPart}
+use Rattle.calls.specs.Calls.{Arguments, wire, bufferAfter}
+use Rattle.plan.specs.Plan.{noticeOf, blockBy}
+use Rattle.plan.proofs.Up.{right}
 use Rattle.endpoint.specs.declared.Endpoint.{Endpoint}
-use Rattle.machine.specs.declared.Answer.{Answer}
-use Rattle.machine.specs.Calls.{answerOf, Answered}
-use Rattle.machine.proofs.Carries.{block-is}
-use Rattle.link.specs.Lent.{sentOf}
-use Rattle.console.proofs.Ends.{sent-fits}
+use Rattle.endpoint.specs.View.{view}
+use Rattle.endpoint.specs.Sound.{sound}
+use Rattle.machine.specs.declared.StepAnswer.{StepAnswer}
+use Rattle.machine.specs.Calls.{outcomeOf, stepAnswerOf, Advances}
 
-sent-is : (e : Endpoint) (o : Outcome Step) → answerOf e o .sent ≡ sentOf o
-unfolding answerOf sentOf
-sent-is e (refused n) = refl
-sent-is e (ok x) = refl
+-- what is written at the start of a buffer fits, since no buffer grows
+pub put-fits : (d s : List ℕ) {x : List ℕ} → x ≡ put d 0 s → length x ≡ length d → length s ≤ length d
+unfolding put
+put-fits d s e l = omega (arith, ap length e, length-append s (drop (0 + length s) d), length-drop (0 + length s) d)
 
-pub frame-fits : (e : Endpoint) (o : Outcome Step) (out : List ℕ) {s out′ : List ℕ} {r : Answer} → Answered e o s out out′ r → length out′ ≡ length out → r .sent ≤ length out
-frame-fits e o out a l = sent-fits out o (a .octets) l (ap (λ (r : Answer). r .sent) (a .answer) ∙ sent-is e o)
+sent-fits : (e : Endpoint) (o : Outcome Step) (d : List ℕ) {x : List ℕ} → x ≡ bufferAfter d o → length x ≡ length d → stepAnswerOf e o .sent ≤ length d
+unfolding stepAnswerOf bufferAfter mapped left
+sent-fits e (refused n) d h l = omega arith
+sent-fits e (ok x) d h l = put-fits d (wire (x .sent)) h l
 
--- the block is as long as its answer tells
-pub block-long : (e : Endpoint) (o : Outcome Step) {s out out′ : List ℕ} {r : Answer} → Answered e o s out out′ r → length (blockPart s (r .block)) ≡ r .block
-block-long e o a = ap length (a .block) ∙ block-is e o ∙ ap (λ (r : Answer). r .block) (sym (a .answer))
+notice-is : (e : Endpoint) (o : Outcome Step) → stepAnswerOf e o .notice ≡ noticeOf o
+unfolding stepAnswerOf noticeOf
+notice-is e (refused n) = refl
+notice-is e (ok x) = refl
 
--- so there is room for it after octet 14
-pub block-fits : (s : List ℕ) (n : ℕ) → length (blockPart s n) ≡ n → n ≢ 0 → 14 + n ≤ length s
-unfolding blockPart
-block-fits s n l z = omega (arith, l, z, length-take n (drop 14 s), length-drop 14 s)
+module _ (e : Endpoint) (c : Arguments) {out out′ : List ℕ} {r : StepAnswer} (a : Advances e (outcomeOf e c) (c .octets) out out′ r) where
+  pub frame-fits : length out′ ≡ length out → r .sent ≤ length out
+  frame-fits l = rw (a .answer) (sent-fits e (outcomeOf e c) out (a .octets) l)
 
-pub block-short : (s : List ℕ) (n : ℕ) → length s ≤ 78 → length (blockPart s n) ≤ 64
-unfolding blockPart
-block-short s n h = omega (arith, length-take n (drop 14 s), length-drop 14 s)
+  -- a frame whose block is handed up reaches to its octet 14
+  pub long-enough : r .notice ≡ 5 → 14 ≤ length (c .octets)
+  unfolding outcomeOf
+  long-enough z = right (sound e) (view e) c .some (sym (ap (λ (r : StepAnswer). r .notice) (a .answer) ∙ notice-is e _) ∙ z) .1
+
+pub block-short : (n : ℕ) (s : List ℕ) → length s ≤ longestFrame → length (blockBy n s) ≤ longestBlock
+unfolding blockBy
+block-short n s h = by-eq n 5 (λ z. rw (eq-yes n 5 (drop 14 s) _ z) (omega (arith, length-drop 14 s))) (λ z. rw (eq-no n 5 (drop 14 s) _ z) (omega arith))
