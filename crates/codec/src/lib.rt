@@ -1,14 +1,16 @@
 // The codec for programs in C and Rust: numbers and byte slices alone. The comparison with the second implementation goes through these calls.
-use frame::Header;
+use frame::ACK;
+use frame::CRAO;
+use frame::DATA;
 use frame::InputRead;
+use frame::SEND;
 use hexline::Line;
+use octets::refusal;
 ghost use mathlib.Core.Path.{_≡_};
-ghost use mathlib.Core.List.{List};
-ghost use Prim.Native.Nat.{ℕ, _≤_};
 ghost use Rattle.octets.specs.Octets.{left};
 ghost use Rattle.octets.specs.Test.{numberOf};
 ghost use Rattle.hexline.specs.Line.{readInto};
-ghost use Rattle.frame.specs.Answer.{frameOf, frameWith, inputRead};
+ghost use Rattle.frame.specs.Answer.{inputRead};
 ghost use lib.ListN.{length, drop};
 ghost use Rattle.codec.specs.Calls.{Filled, writeLine, readKnown, shown, BlockTold, writeFrame};
 ghost use Rattle.codec.specs.Parts.{blockAfter};
@@ -36,20 +38,27 @@ pub extern "C" fn codec_write_line(s: &[u8], out: &mut [u8]) -> u8
     ensures { λ r. ⌜ (r ≡ numberOf (writeLine (now (s .entry)) (now (out .entry)))) × (now (out .exit) ≡ left (writeLine (now (s .entry)) (now (out .entry))) (now (out .entry))) ⌝ }
 {
     if out.len() / 2 < s.len() {
-        return 11;
+        return refusal::SHORT_BUFFER;
     }
     hexline::write(s, out);
     0
 }
 
+// What a call knows.
+const FRAMES: u8 = 1;
+
+const REQUESTS: u8 = 2;
+
+const BOTH: u8 = 3;
+
 fn read_known(known: u8, s: &[u8]) -> InputRead
     ensures { λ r. ⌜ inputRead r (now (s .entry)) ≡ readKnown known (now (s .entry)) ⌝ }
 {
     match known {
-        1 => reader::frame_input(reader::read_frame(s)),
-        2 => reader::request_input(reader::read_request(s)),
-        3 => reader::read_input(s),
-        _ => InputRead::Refused(3),
+        FRAMES => reader::frame_input(reader::read_frame(s)),
+        REQUESTS => reader::request_input(reader::read_request(s)),
+        BOTH => reader::read_input(s),
+        _ => InputRead::Refused(refusal::UNKNOWN_KIND),
     }
 }
 
@@ -68,8 +77,8 @@ fn block_length(kind: u8, s: &[u8]) -> usize
     ensures { λ r. ⌜ r ≡ length (blockAfter kind (now (s .entry))) ⌝ }
 {
     match kind {
-        0x08 => count_from(s, 14),
-        0x44 => count_from(s, 2),
+        DATA => count_from(s, frame::DATA_BLOCK_AT),
+        SEND => count_from(s, frame::SEND_BLOCK_AT),
         _ => 0,
     }
 }
@@ -116,25 +125,6 @@ pub extern "C" fn codec_read(
     }
 }
 
-fn header_of(kind: u8, sender: u32, quoted: u32, number: u32) -> Header
-    requires { ⌜ (1 ≤ kind) × (kind ≤ 9) ⌝ }
-    ensures { λ r. ⌜ ((b : List ℕ) → frameOf r b ≡ frameWith (record { kind = kind; sender = sender; quoted = quoted; number = number }) b) ⌝ }
-{
-    match kind {
-        0x08 => Header::Data {
-            sender,
-            quoted,
-            number,
-        },
-        0x09 => Header::Ack {
-            sender,
-            quoted,
-            count: number,
-        },
-        _ => frame::control_header(kind, sender, quoted),
-    }
-}
-
 // Writes a frame to the start of out; its length goes to length. Only DATA has a block, only DATA and ACK have a number.
 #[no_mangle]
 pub extern "C" fn codec_write(
@@ -149,21 +139,21 @@ pub extern "C" fn codec_write(
     ensures { λ r. ⌜ Filled (writeFrame (record { kind = kind; sender = sender; quoted = quoted; number = number }) (now (block .entry)) (now (out .entry))) (now (out .entry)) (now (out .exit)) (now (length .entry)) (now (length .exit)) r ⌝ }
 {
     if out.len() < octets::LONGEST_FRAME {
-        return 11;
+        return refusal::SHORT_BUFFER;
     }
-    if kind < 1 {
-        return 3;
+    if kind < CRAO {
+        return refusal::UNKNOWN_KIND;
     }
-    if 9 < kind {
-        return 3;
+    if ACK < kind {
+        return refusal::UNKNOWN_KIND;
     }
-    let header = header_of(kind, sender, quoted, number);
-    if kind == 0x08 {
+    let header = frame::header_of(kind, sender, quoted, number);
+    if kind == DATA {
         if block.len() < 1 {
-            return 5;
+            return refusal::BAD_COUNT;
         }
         if octets::LONGEST_BLOCK < block.len() {
-            return 5;
+            return refusal::BAD_COUNT;
         }
         *length = frame::write(header, block, out);
         return 0;
