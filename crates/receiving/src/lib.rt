@@ -23,7 +23,7 @@ ghost use mathlib.Core.Path.{_≡_};
 ghost use Prim.Native.Nat.{_-_, _≤_, _<_};
 ghost use Rattle.octets.specs.Sizes.{lastNumber};
 ghost use Rattle.octets.specs.Test.{ok};
-ghost use Rattle.frame.specs.Frame.{Block};
+ghost use Rattle.frame.specs.Frame.{Block, DATA};
 ghost use Rattle.protocol.specs.Table.{rule, apply};
 ghost use Rattle.decide.specs.Rows.{carrying, Chosen};
 ghost use Rattle.plan.specs.Plan.{heard, Planned};
@@ -68,7 +68,7 @@ fn release(n: Numbers, number: u32) -> Plan
 
 // What the row of the step table does that applies to the frame f.
 fn apply(row: Rule, n: Numbers, f: Values) -> Plan
-    requires { ⌜ (n .waiting ≤ n .accepted) × ((f .kind ≡ 8 → f .number < lastNumber) × Chosen rule n f row) ⌝ }
+    requires { ⌜ (n .waiting ≤ n .accepted) × ((f .kind ≡ DATA → f .number < lastNumber) × Chosen rule n f row) ⌝ }
     ensures { λ r. ⌜ ((x b : Block) → Planned n b (λ e. ok (apply row e (carrying f x))) r) ⌝ }
 {
     let sender = n.local;
@@ -165,7 +165,7 @@ fn apply(row: Rule, n: Numbers, f: Values) -> Plan
     }
 }
 
-// Receiving: s has the frame's octets. The block of notice 5 is octets 14 on of s.
+// Receiving: s has the frame's octets. The block of notice 5 stands at frame::DATA_BLOCK_AT of s.
 pub fn receive(n: Numbers, s: &[u8]) -> Plan
     requires { ⌜ n .waiting ≤ n .accepted ⌝ }
     ensures { λ r. ⌜ ((b : Block) → Planned n b (heard (now (s .entry))) r) ⌝ }

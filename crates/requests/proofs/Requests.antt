@@ -1,4 +1,4 @@
--- What the requests answer, a question at a time. Assumes nothing.
+-- What the requests answer, a question at a time.
 use Prim.Native.Nat.{ℕ, suc, _-_, _≤_, _<_}
 use mathlib.Core.Path.{_≡_, refl, ap, _∙_}
 use mathlib.Core.Logic.{_≢_}
@@ -10,26 +10,12 @@ use lib.Dec.{ltb, eqb}
 use lib.ListN.{length}
 use Rattle.octets.specs.Sizes.{lastNumber, queueSize}
 use Rattle.octets.specs.Test.{when, Question, first, refused, ok, outcome}
-use Rattle.octets.proofs.Test.{picks}
+use Rattle.octets.proofs.Test.{picks, no, yes, done}
 use Rattle.frame.specs.Frame.{Block, Frame, dataFrame, connect, listen, endListening, close, timer, send}
 use Rattle.protocol.specs.Endpoint.{Endpoint, waiting}
 use Rattle.protocol.specs.Table.{none, Sent, nothing, frame, quiet, says}
 use Rattle.protocol.specs.Requests.{questions, refusal, accept, request, oldest, resent}
 use Rattle.plan.specs.Plan.{Oldest}
-
--- questions, one at a time
-module _ {A : Type 0} (x : A) where
-  no : (n : ℕ) (b : Bool) (qs : List Question) → b ≡ false → outcome (first ((suc n, b) ∷ qs)) x ≡ refused (suc n)
-  unfolding first when outcome
-  no n b qs h = rw h refl
-
-  yes : (n : ℕ) (b : Bool) (qs : List Question) → b ≡ true → outcome (first ((n, b) ∷ qs)) x ≡ outcome (first qs) x
-  unfolding first when
-  yes n b qs h = rw h refl
-
-  done : outcome (first []) x ≡ ok x
-  unfolding first outcome
-  done = refl
 
 module _ (a : Endpoint) where
   pub connect-8 : a .state ≢ 0 → request connect a ≡ refused 8
