@@ -1,4 +1,4 @@
--- The struct that holds a sound endpoint is sound. Assumes nothing.
+-- The struct that holds a sound endpoint is sound.
 use Prim.Native.Nat.{ℕ, zero, suc, _+_, _-_, _*_, _≤_, _<_}
 use mathlib.Core.Path.{_≡_, refl, sym, ap, _∙_}
 use mathlib.Core.Bool.{Bool, true, _&&_}
@@ -13,15 +13,14 @@ use Rattle.octets.specs.Test.{when, inRange}
 use Rattle.octets.proofs.Test.{both, joined, in-range}
 use Rattle.frame.specs.Frame.{Block}
 use Rattle.protocol.specs.Endpoint as abstract
-use Rattle.protocol.specs.Endpoint.{sized, allOf}
+use Rattle.protocol.specs.Endpoint.{sized}
 use Rattle.protocol.proofs.Sound.{sized-at, sound-so}
 use Rattle.endpoint.specs.View.{padded, places, lengthsOf, pack, view}
 use Rattle.endpoint.specs.Sound.{zeros, lengthOk, lengthsOk, unusedAt, unusedOk, sound}
-use Rattle.endpoint.specs.Parts.{numbersOk}
 use Rattle.endpoint.proofs.Tests.{all-hold, zeros-of}
 use Rattle.endpoint.proofs.Pad.{length-padded}
 use Rattle.endpoint.proofs.Packs.{Small, view-pack, length-lengths, length-places, drop-places, getD-lengths}
-use Rattle.endpoint.proofs.Sounds.{by-lt, parts}
+use Rattle.endpoint.proofs.Sounds.{Numbers, by-lt}
 
 pub small-of : (q : List Block) → sized q ≡ true → Small q
 unfolding sized
@@ -86,13 +85,6 @@ module _ (q : List Block) (s : sized q ≡ true) where
       let at : i * 64 + (n + j) ≡ i * 64 + n + j = omega arith in
       getD-take (64 - n) d j 0 h′ ∙ getD-drop (i * 64 + n) (padded 512 (places q)) j 0 ∙ rw at at (after i (n + j) (omega arith) (omega arith)))
 
-removed : (a b c s r : Bool) → (a && (b && (c && (s && r)))) ≡ true → (a && (b && (c && r))) ≡ true
-removed a b c s r h =
-    let x = both a _ h in
-    let y = both b _ (x .1) in
-    let z = both c _ (y .1) in
-    joined (x .0) (joined (y .0) (joined (z .0) (both s r (z .1) .1)))
-
 module _ (a : abstract.Endpoint) (s : abstract.sound a ≡ true) where
   is-sized : sized (a .queue) ≡ true
   is-sized = sound-so a s .blocks
@@ -100,16 +92,11 @@ module _ (a : abstract.Endpoint) (s : abstract.sound a ≡ true) where
   pub held : view (pack a) ≡ a
   held = view-pack a (small-of (a .queue) is-sized)
 
-  numbers-hold : numbersOk (a .state) (a .local) (a .remote) (a .accepted) (a .delivered) (length (a .queue)) ≡ true
-  unfolding abstract.sound abstract.soundness allOf numbersOk
-  numbers-hold = removed (inRange 0 5 (a .state)) (leb (length (a .queue)) 8) (leb (length (a .queue)) (a .accepted)) (sized (a .queue)) _ s
-
   pub pack-sound : sound (pack a) ≡ true
-  unfolding pack lengthsOk unusedOk
+  unfolding sound abstract.sound pack lengthsOk unusedOk
   pack-sound =
       let q = a .queue in
-      parts (pack a)
-      ∙ joined numbers-hold
+      joined (both (Numbers (pack a)) (sized q) s .0)
       (joined
       (all-hold (λ i. lengthOk (length q) i (getD (padded 8 (lengthsOf q)) i 0)) 8 (λ i _. lengths-fine q is-sized i))
       (all-hold (λ i. zeros (unusedAt (padded 8 (lengthsOf q)) (padded 512 (places q)) i)) 8 (λ i _. unused-fine q is-sized i)))

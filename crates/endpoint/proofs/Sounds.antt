@@ -1,5 +1,4 @@
 -- What a sound struct is known to be, and that soundness means the same of the struct and of the endpoint that it holds.
--- Assumes nothing.
 use Prim.Native.Nat.{ℕ, zero, suc, _+_, _-_, _*_, _/_, _%_, _≤_, _<_}
 use mathlib.Core.Path.{_≡_, refl, sym, _∙_}
 use mathlib.Core.Bool.{Bool, true, false, _&&_}
@@ -10,31 +9,25 @@ use lib.Dec.{leb}
 use lib.ListN.{length, take, drop, getD, length-take, length-drop}
 use lib.Seq.{getD-drop, getD-take}
 use borrow.Author.Tests.{lt-ltb, le-ltb, eq-eqb, eqb-true, leb-true}
+use Rattle.octets.specs.Sizes.{queueSize}
 use Rattle.octets.specs.Test.{when, inRange}
 use Rattle.octets.proofs.Test.{both, joined, within, in-range, if-lt}
 use Rattle.protocol.specs.Endpoint as abstract
-use Rattle.protocol.specs.Endpoint.{sized, allOf}
+use Rattle.protocol.specs.Endpoint.{sized, allOf, numbersSound}
 use Rattle.protocol.proofs.Sound.{sized-append, Sound, sound-so}
 use Rattle.endpoint.specs.declared.Endpoint.{Endpoint}
 use Rattle.endpoint.specs.View.{tab, blockAt, view}
 use Rattle.endpoint.specs.Sound.{allBelow, zeros, lengthOk, lengthsOk, unusedAt, unusedOk, sound}
-use Rattle.endpoint.specs.Parts.{numbersOk, placeOk}
-use Rattle.endpoint.proofs.Tests.{all-at, all-hold, alike, zeros-at, zeros-of, regroup}
+use Rattle.endpoint.specs.Parts.{placeOk}
+use Rattle.endpoint.proofs.Tests.{all-at, all-hold, alike, zeros-at, zeros-of}
 use Rattle.endpoint.proofs.Packs.{Tidy, length-tab, length-block}
 
 abbrev pub Numbers : Endpoint → Bool
-Numbers e = numbersOk (e .state) (e .local) (e .remote) (e .accepted) (e .delivered) (e .waiting)
+Numbers e = allOf (numbersSound (e .state) (e .local) (e .remote) (e .accepted) (e .delivered) (e .waiting))
 
--- the tests of the numbers, then those of the arrays
-pub parts : (e : Endpoint) → sound e ≡ (Numbers e && (lengthsOk (e .waiting) (e .lengths) && unusedOk (e .lengths) (e .blocks)))
-unfolding sound numbersOk allOf
-parts e =
-    regroup (inRange 0 5 (e .state)) (leb (e .waiting) 8) (leb (e .waiting) (e .accepted)) (lengthsOk (e .waiting) (e .lengths))
-    (unusedOk (e .lengths) (e .blocks)) _
-
-pub numbers-few : (e : Endpoint) → Numbers e ≡ true → e .waiting ≤ 8
-unfolding numbersOk allOf
-numbers-few e h = leb-true (e .waiting) 8 (both (leb (e .waiting) 8) _ (both (inRange 0 5 (e .state)) _ h .1) .0)
+pub numbers-few : (e : Endpoint) → Numbers e ≡ true → e .waiting ≤ queueSize
+unfolding numbersSound allOf
+numbers-few e h = leb-true (e .waiting) queueSize (both (leb (e .waiting) queueSize) _ (both (inRange 0 5 (e .state)) _ h .1) .0)
 
 -- lengths
 waits : (w i x : ℕ) → lengthOk w i x ≡ true → i < w → (1 ≤ x) × (x ≤ 64)
@@ -136,16 +129,10 @@ module _ (w : ℕ) (l b : List ℕ) (w8 : w ≤ 8) (l8 : length l ≡ 8) (l512 :
       let p = both (lengthsOk w l) (unusedOk l b) t in
       joined (all-hold (placeOk l b) w (λ i m. waiting-so (p .0) (p .1) i m)) (after-so (p .0) (p .1)))
 
-inserted : (a b c s r : Bool) → (a && (b && (c && r))) ≡ true → s ≡ true → (a && (b && (c && (s && r)))) ≡ true
-inserted a b c s r h k =
-    let x = both a _ h in
-    let y = both b _ (x .1) in
-    let z = both c r (y .1) in
-    joined (x .0) (joined (y .0) (joined (z .0) (joined k (z .1))))
-
 module _ (e : Endpoint) (s : sound e ≡ true) (l8 : length (e .lengths) ≡ 8) (l512 : length (e .blocks) ≡ 512) where
   arrays-ok : (Numbers e ≡ true) × ((lengthsOk (e .waiting) (e .lengths) && unusedOk (e .lengths) (e .blocks)) ≡ true)
-  arrays-ok = both (Numbers e) _ (sym (parts e) ∙ s)
+  unfolding sound
+  arrays-ok = both (Numbers e) _ s
 
   lengths-ok : lengthsOk (e .waiting) (e .lengths) ≡ true
   lengths-ok = both (lengthsOk (e .waiting) (e .lengths)) _ (arrays-ok .1) .0
@@ -178,10 +165,10 @@ module _ (e : Endpoint) (s : sound e ≡ true) (l8 : length (e .lengths) ≡ 8) 
 
   -- the endpoint that a sound struct holds is sound
   pub view-sound : abstract.sound (view e) ≡ true
-  unfolding abstract.sound abstract.soundness allOf view numbersOk
+  unfolding abstract.sound view
   view-sound =
       rw (length-tab (e .waiting) (blockAt (e .lengths) (e .blocks)))
-      (inserted (inRange 0 5 (e .state)) (leb (e .waiting) 8) (leb (e .waiting) (e .accepted)) _ _ (arrays-ok .0) (sized-tab (e .waiting) (omega arith)))
+      (joined (arrays-ok .0) (sized-tab (e .waiting) (omega arith)))
 
   pub facts : Sound (view e)
   facts = sound-so (view e) view-sound

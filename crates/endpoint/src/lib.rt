@@ -13,10 +13,11 @@ ghost use Rattle.octets.specs.Sizes.{queueSize};
 ghost use Rattle.octets.specs.Test.{when};
 ghost use Rattle.octets.specs.Octets.{put, bytes};
 ghost use Rattle.protocol.specs.Endpoint as abstract;
+ghost use Rattle.protocol.specs.Endpoint.{allOf, numbersSound};
 ghost use Rattle.endpoint.specs.View.{placesSize, pack};
 ghost use Rattle.endpoint.specs.Sound.{zeros, lengthsOk, unusedOk, sound};
 ghost use Rattle.endpoint.specs.Record.{recordSize, encode, decode};
-ghost use Rattle.endpoint.specs.Parts.{numbersOk, placeOk, recordOf, numbersOf, numbersIn};
+ghost use Rattle.endpoint.specs.Parts.{placeOk, recordOf, numbersOf, numbersIn};
 
 // Document 01's record of an end: L and D are local and remote, t is accepted, e is delivered, w is waiting.
 pub struct Endpoint {
@@ -86,7 +87,7 @@ fn numbers_ok(
     delivered: u32,
     waiting: u32,
 ) -> bool
-    ensures { λ r. ⌜ r ≡ numbersOk state local remote accepted delivered waiting ⌝ }
+    ensures { λ r. ⌜ r ≡ allOf (numbersSound state local remote accepted delivered waiting) ⌝ }
 {
     (state <= CLOSING)
         & ((waiting <= Endpoint::QUEUE_SIZE as u32)
