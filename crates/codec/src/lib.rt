@@ -10,6 +10,8 @@ ghost use mathlib.Core.Path.{_≡_};
 ghost use Rattle.octets.specs.Octets.{left};
 ghost use Rattle.octets.specs.Test.{numberOf};
 ghost use Rattle.hexline.specs.Line.{readInto};
+ghost use Rattle.frame.specs.Layout.{isFrame};
+ghost use Rattle.frame.specs.Read.{countOk};
 ghost use Rattle.frame.specs.Answer.{inputRead};
 ghost use lib.ListN.{length, drop};
 ghost use Rattle.codec.specs.Calls.{Filled, writeLine, readKnown, shown, BlockTold, writeFrame};
@@ -125,6 +127,18 @@ pub extern "C" fn codec_read(
     }
 }
 
+fn is_frame(kind: u8) -> bool
+    ensures { λ r. ⌜ r ≡ isFrame kind ⌝ }
+{
+    (CRAO <= kind) & (kind <= ACK)
+}
+
+fn count_ok(count: usize) -> bool
+    ensures { λ r. ⌜ r ≡ countOk count ⌝ }
+{
+    (1 <= count) & (count <= octets::LONGEST_BLOCK)
+}
+
 // Writes a frame to the start of out; its length goes to length. Only DATA has a block, only DATA and ACK have a number.
 #[no_mangle]
 pub extern "C" fn codec_write(
@@ -141,18 +155,12 @@ pub extern "C" fn codec_write(
     if out.len() < octets::LONGEST_FRAME {
         return refusal::SHORT_BUFFER;
     }
-    if kind < CRAO {
-        return refusal::UNKNOWN_KIND;
-    }
-    if ACK < kind {
+    if !is_frame(kind) {
         return refusal::UNKNOWN_KIND;
     }
     let header = frame::header_of(kind, sender, quoted, number);
     if kind == DATA {
-        if block.len() < 1 {
-            return refusal::BAD_COUNT;
-        }
-        if octets::LONGEST_BLOCK < block.len() {
+        if !count_ok(block.len()) {
             return refusal::BAD_COUNT;
         }
         *length = frame::write(header, block, out);

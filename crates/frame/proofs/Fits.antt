@@ -58,7 +58,7 @@ frame-fits r o =
     rw e (control-fits j lo hi (sender-is j _ _ _ q) (field-32 0 r o (omega arith)) (quoted-is j _ _ _ q) (field-32 4 r o (omega arith))))
     (λ p.
     let e = frame-at DATA r (4 ∷ 4 ∷ 4 ∷ 1 ∷ []) true true data-shape in
-    let q : numbersOk DATA (field 4 0 r) (field 4 4 r) (field 4 8 r) ≡ true = rw e at (seven DATA r p) in
+    let q : numbersOk DATA (field 4 0 r) (field 4 4 r) (field 4 controlNumbers r) ≡ true = rw e at (seven DATA r p) in
     let c = within 1 longestBlock (getD r (controlNumbers + 4) 0) (p .count) in
     let m = eqb-true (length r) (dataNumbers + getD r (controlNumbers + 4) 0) (p .exact) in
     let d = length-drop dataNumbers r in
@@ -67,7 +67,7 @@ frame-fits r o =
     (quoted-is DATA _ _ _ q (λ z. omega arith)) (field-32 4 r o (omega arith)) (number-is DATA _ _ _ q refl) (omega arith) (omega arith)))
     (λ p.
     let e = frame-at ACK r (4 ∷ 4 ∷ 4 ∷ []) false true ack-shape in
-    let q : numbersOk ACK (field 4 0 r) (field 4 4 r) (field 4 8 r) ≡ true = rw e at (seven ACK r p) in
+    let q : numbersOk ACK (field 4 0 r) (field 4 4 r) (field 4 controlNumbers r) ≡ true = rw e at (seven ACK r p) in
     let n = numbers-there ACK (length r) (p .fixed) in
     rw e
     (ack-fits (sender-is ACK _ _ _ q (λ z. omega arith) (λ z. omega arith)) (field-32 0 r o (omega arith))

@@ -3,6 +3,7 @@ use borrow.Author.Needs.{needs}
 use borrow.Author.Tests.{ne-eqb}
 use mathlib.Core.Path.{_≡_, refl}
 use native.Mathlib.Omega.{arith}
+use Rattle.frame.specs.Frame.{CRAO, CRPO, REJ, DR, DRACK}
 use Rattle.protocol.specs.Table.{whenClosing}
 use Rattle.decide.proofs.when_closing.Statement.{statement}
 use Rattle.decide.proofs.when_closing.Tie as tie
@@ -18,9 +19,9 @@ when-closing-spec =
     (λ c κs. search needs)
     (λ c κs. search needs)
     (λ c κs. search needs)
-    (λ c q b h. let e : c .before .before .before .args .f .kind ≡ 6 = omega arith in rw e (rw (c .before .quotes .ensures) at (c .exceeds .ensures)))
-    (λ c q b h. let e : c .before .before .args .f .kind ≡ 7 = omega arith in rw e (c .quotes2 .ensures))
-    (λ c q b h. let e : c .before .before .args .f .kind ≡ 4 = omega arith in rw e (c .quotes3 .ensures))
-    (λ c q b h. let e : c .before .before .args .f .kind ≡ 1 = omega arith in rw e (c .exceeds2 .ensures))
-    (λ c q b h. let e : c .before .before .args .f .kind ≡ 2 = omega arith in rw e (c .exceeds3 .ensures))
-    (λ c q b h. let k = c .before .args .f .kind in rw (ne-eqb k 6 (λ z. omega arith), ne-eqb k 7 (λ z. omega arith), ne-eqb k 4 (λ z. omega arith), ne-eqb k 1 (λ z. omega arith), ne-eqb k 2 (λ z. omega arith)) refl))
+    (λ c q b h. let e : c .before .before .before .args .f .kind ≡ DR = omega arith in rw e (rw (c .before .quotes .ensures) at (c .exceeds .ensures)))
+    (λ c q b h. let e : c .before .before .args .f .kind ≡ DRACK = omega arith in rw e (c .quotes2 .ensures))
+    (λ c q b h. let e : c .before .before .args .f .kind ≡ REJ = omega arith in rw e (c .quotes3 .ensures))
+    (λ c q b h. let e : c .before .before .args .f .kind ≡ CRAO = omega arith in rw e (c .exceeds2 .ensures))
+    (λ c q b h. let e : c .before .before .args .f .kind ≡ CRPO = omega arith in rw e (c .exceeds3 .ensures))
+    (λ c q b h. let k = c .before .args .f .kind in rw (ne-eqb k DR (λ z. omega arith), ne-eqb k DRACK (λ z. omega arith), ne-eqb k REJ (λ z. omega arith), ne-eqb k CRAO (λ z. omega arith), ne-eqb k CRPO (λ z. omega arith)) refl))

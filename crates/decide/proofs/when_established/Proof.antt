@@ -5,7 +5,7 @@ use Rattle.decide.proofs.when_established.Statement.{statement}
 use Rattle.decide.proofs.when_established.Tie as tie
 
 pub when-established-spec : {M : Type 1} → statement M
-unfolding whenEstablished
+unfolding whenEstablished 
 when-established-spec =
     tie.close
     (tie.spec
