@@ -1,12 +1,11 @@
 -- The struct that holds a sound endpoint is sound.
 use Prim.Native.Nat.{ℕ, zero, suc, _+_, _-_, _*_, _≤_, _<_}
 use mathlib.Core.Path.{_≡_, refl, sym, ap, _∙_}
-use mathlib.Core.Bool.{Bool, true, _&&_}
+use mathlib.Core.Bool.{true}
 use mathlib.Core.List.{List, [], _∷_}
 use native.Mathlib.Nat.{min-le-left}
 use native.Mathlib.Omega.{arith}
 use borrow.Author.Tests.{lt-ltb, le-ltb, eq-eqb}
-use lib.Dec.{leb}
 use lib.ListN.{length, take, drop, getD, replicate, length-take, List·getD-append}
 use lib.Seq.{getD-append-add, getD-drop, getD-take, drop-cons}
 use Rattle.octets.specs.Sizes.{longestBlock, queueSize}

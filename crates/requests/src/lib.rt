@@ -18,8 +18,11 @@ use plan::Queue;
 use plan::Reply;
 ghost use mathlib.Core.Path.{_≡_};
 ghost use Prim.Native.Nat.{_≤_, _<_};
+ghost use mathlib.Core.List.{[], _∷_};
+ghost use lib.Dec.{ltb, eqb};
 ghost use lib.ListN.{length, drop};
 ghost use Rattle.octets.specs.Sizes.{longestBlock, lastNumber};
+ghost use Rattle.octets.specs.Test.{first};
 ghost use Rattle.frame.specs.Frame.{Block, connect, listen, endListening, close, timer, send};
 ghost use Rattle.frame.specs.Layout.{sendBlockAt};
 ghost use Rattle.frame.specs.Answer.{requestOf};
@@ -31,6 +34,19 @@ ghost use Rattle.plan.specs.Parts.{beginning};
 
 // The most blocks that wait.
 const QUEUE_SIZE: u8 = octets::QUEUE_SIZE as u8;
+
+// Questions 8 and 9 of a request that one state allows and that takes the next of some numbers; 0 where both are answered yes.
+fn refusal_of(n: Numbers, allowed: u8, number: u32) -> u8
+    ensures { λ r. ⌜ r ≡ first ((8, eqb (n .state) allowed) ∷ (9, ltb number lastNumber) ∷ []) ⌝ }
+{
+    if n.state != allowed {
+        return refusal::WRONG_STATE;
+    }
+    if number >= LAST_NUMBER {
+        return refusal::NO_NUMBER_LEFT;
+    }
+    0
+}
 
 // The next incarnation in this state, with no partner known.
 fn begin(n: Numbers, state: u8, reply: Reply) -> Plan
@@ -56,11 +72,9 @@ fn begin(n: Numbers, state: u8, reply: Reply) -> Plan
 fn connect(n: Numbers) -> Plan
     ensures { λ r. ⌜ ((b : Block) → Planned n b (request connect) r) ⌝ }
 {
-    if n.state != CLOSED {
-        return plan::refuse(n, refusal::WRONG_STATE);
-    }
-    if n.local >= LAST_NUMBER {
-        return plan::refuse(n, refusal::NO_NUMBER_LEFT);
+    let refusal = refusal_of(n, CLOSED, n.local);
+    if refusal != 0 {
+        return plan::refuse(n, refusal);
     }
     begin(
         n,
@@ -75,11 +89,9 @@ fn connect(n: Numbers) -> Plan
 fn listen(n: Numbers) -> Plan
     ensures { λ r. ⌜ ((b : Block) → Planned n b (request listen) r) ⌝ }
 {
-    if n.state != CLOSED {
-        return plan::refuse(n, refusal::WRONG_STATE);
-    }
-    if n.local >= LAST_NUMBER {
-        return plan::refuse(n, refusal::NO_NUMBER_LEFT);
+    let refusal = refusal_of(n, CLOSED, n.local);
+    if refusal != 0 {
+        return plan::refuse(n, refusal);
     }
     begin(n, LISTENING, Reply::Nothing)
 }
@@ -109,11 +121,9 @@ fn close(n: Numbers) -> Plan
 fn send(n: Numbers) -> Plan
     ensures { λ r. ⌜ ((b : Block) → 1 ≤ length b → length b ≤ longestBlock → Planned n b (request (send b)) r) ⌝ }
 {
-    if n.state != ESTABLISHED {
-        return plan::refuse(n, refusal::WRONG_STATE);
-    }
-    if n.accepted >= LAST_NUMBER {
-        return plan::refuse(n, refusal::NO_NUMBER_LEFT);
+    let refusal = refusal_of(n, ESTABLISHED, n.accepted);
+    if refusal != 0 {
+        return plan::refuse(n, refusal);
     }
     if n.waiting >= QUEUE_SIZE {
         return plan::refuse(n, refusal::QUEUE_FULL);

@@ -1,11 +1,10 @@
 use borrow.Author.Needs.{needs}
-use mathlib.Core.Path.{_≡_}
 use Rattle.protocol.specs.Table.{whenEstablished}
 use Rattle.decide.proofs.when_established.Statement.{statement}
 use Rattle.decide.proofs.when_established.Tie as tie
 
 pub when-established-spec : {M : Type 1} → statement M
-unfolding whenEstablished 
+unfolding whenEstablished
 when-established-spec =
     tie.close
     (tie.spec

@@ -1,7 +1,6 @@
-use mathlib.Core.Path.{_≡_, sym, ap, _∙_}
+use mathlib.Core.Path.{sym, ap, _∙_}
 use denote.Ref.{now}
-use Rattle.octets.specs.Test.{first, ok}
-use Rattle.frame.specs.Read.{sizeQuestions}
+use Rattle.octets.specs.Test.{ok}
 use Rattle.frame.proofs.Classes.{request-no-frame}
 use Rattle.frame.proofs.Reading.{request-refused, request-read}
 use borrow.Author.Needs.{needs}

@@ -2,7 +2,6 @@ use mathlib.Core.Path.{sym, _∙_}
 use denote.Ref.{now}
 use Rattle.frame.proofs.Shape.{Numbered, numbered}
 use native.Mathlib.Omega.{arith}
-use borrow.Author.Needs.{needs}
 use Rattle.reader.proofs.number_of.Statement.{statement}
 use Rattle.reader.proofs.number_of.Tie as tie
 
