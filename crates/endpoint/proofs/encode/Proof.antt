@@ -13,9 +13,6 @@ use Rattle.endpoint.proofs.encode.Tie as tie
 lens : (c : tie.Start) → (length (c .args .e .lengths) ≡ queueSize) × (length (c .args .e .blocks) ≡ placesSize)
 lens c = (search needs, search needs)
 
-copy-requires : tie.Need-copy-requires
-copy-requires c κs = omega (arith, lens (c .before .before .before .before .before .before .before .before .before))
-
 copy-requires-2 : tie.Need-copy-requires-2
 copy-requires-2 c κs = omega (arith, lens (c .before .before .before .before .before .before .before .before .before .before .before .before .before .before .before))
 
@@ -35,7 +32,7 @@ encode-spec =
     (λ c κs. search needs)
     (λ c κs. search needs)
     (λ c. search needs)
-    copy-requires
+    (λ c κs. omega (arith, lens (c .before .before .before .before .before .before .before .before .before)))
     (λ c. search needs)
     copy-requires-2
     (λ c. search needs)
