@@ -1,4 +1,4 @@
--- The struct that a list of blocks is packed into. Assumes nothing.
+-- The struct that a list of blocks is packed into: blocks join and leave, and the way back from a tidy struct.
 use mathlib.Core.Path.{_≡_, refl, sym, ap, ap₂, _∙_}
 use mathlib.Core.List.{List, [], _∷_, _++_, append-nil, append-assoc}
 use Prim.Native.Nat.{ℕ, zero, suc, _+_, _-_, _*_, _/_, _%_, _≤_, _<_}

@@ -1,4 +1,4 @@
--- The record in octets: what the stores leave, and both round trips. Assumes nothing.
+-- The record in octets: what the stores leave, and both round trips.
 use Prim.Native.Nat.{ℕ, _+_, _%_, _≤_, _<_}
 use mathlib.Core.Path.{_≡_, refl, sym, ap, _∙_}
 use mathlib.Core.List.{List, [], _∷_, _++_, append-assoc}

@@ -19,7 +19,7 @@ ghost use Rattle.endpoint.specs.Sound.{zeros, lengthsOk, unusedOk, sound
 ghost use Rattle.endpoint.specs.Record.{recordSize, encode, decode};
 ghost use Rattle.endpoint.specs.Parts.{placeOk, recordOf, numbersOf, numbersIn};
 
-// The octets of all places.
+// The octets of all places, which are one flat array: 512.
 pub const PLACES_SIZE: usize = octets::QUEUE_SIZE * octets::LONGEST_BLOCK;
 
 // The places of the record in its octets: state, L, D, t, e, w, lengths, blocks.
@@ -79,7 +79,7 @@ impl Endpoint {
     }
 }
 
-// The octet as a wider number.
+// The same as those of octets, for the crates that still call them here.
 pub fn wide(x: u8) -> usize
     ensures { λ r. ⌜ (r ≡ x) × (r < 256) ⌝ }
 {

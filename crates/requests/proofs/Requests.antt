@@ -11,7 +11,7 @@ use lib.ListN.{length}
 use Rattle.octets.specs.Sizes.{lastNumber, queueSize}
 use Rattle.octets.specs.Test.{first, refused, ok, outcome}
 use Rattle.octets.proofs.Test.{picks, no, yes, done, all-yes, refused-of, no-before, all-before}
-use Rattle.frame.specs.Frame.{Block, Frame, Request, dataFrame, connect, listen, endListening, close, timer, send}
+use Rattle.frame.specs.Frame.{Block, Frame, Request, dataFrame, endListening, close, timer, send}
 use Rattle.protocol.specs.Endpoint.{listening, established, Endpoint, waiting}
 use Rattle.protocol.specs.Table.{none, Sent, nothing, frame, quiet, says}
 use Rattle.protocol.specs.Requests.{placeLeft, questions, refusal, accept, request, oldest, resent}

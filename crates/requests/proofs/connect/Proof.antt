@@ -1,8 +1,6 @@
 use Prim.Native.Nat.{_+_, _<_}
-use mathlib.Core.Path.{_≡_, sym, _∙_}
-use lib.Dec.{ltb, eqb}
+use mathlib.Core.Path.{sym, _∙_}
 use Rattle.octets.specs.Sizes.{lastNumber}
-use Rattle.octets.specs.Test.{first}
 use Rattle.frame.specs.Frame.{connect}
 use Rattle.frame.specs.declared.Header.the-variants.{Crao}
 use Rattle.frame.specs.Answer.{frameOf}

@@ -1,8 +1,6 @@
-use Prim.Native.Nat.{_+_, _<_}
-use mathlib.Core.Path.{_≡_, sym, _∙_}
-use lib.Dec.{ltb, eqb}
+use Prim.Native.Nat.{_<_}
+use mathlib.Core.Path.{sym, _∙_}
 use Rattle.octets.specs.Sizes.{lastNumber}
-use Rattle.octets.specs.Test.{first}
 use Rattle.frame.specs.Frame.{listen}
 use Rattle.protocol.specs.Endpoint.{listening}
 use Rattle.protocol.specs.Requests.{questions, refusal, accept}
@@ -11,7 +9,6 @@ use Rattle.plan.specs.declared.Reply.the-variants.{Nothing}
 use Rattle.plan.specs.Plan.{sentBy}
 use Rattle.plan.proofs.Comes.{refuses, begins}
 use Rattle.requests.proofs.Requests.{refused-by, allowed, left}
-use native.Mathlib.Omega.{arith}
 use borrow.Author.Needs.{needs}
 use Rattle.requests.proofs.listen.Statement.{statement}
 use Rattle.requests.proofs.listen.Tie as tie
