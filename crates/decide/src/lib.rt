@@ -197,7 +197,9 @@ pub fn choose(e: Numbers, f: Values) -> Rule
     requires { ⌜ e .waiting ≤ e .accepted ⌝ }
     ensures { λ r. ⌜ Chosen rule e f r ⌝ }
 {
-    if f.sender < e.remote {
+    let sender = f.sender;
+    let remote = e.remote;
+    if sender < remote {
         return Rule::Ignore;
     }
     let state = e.state;
