@@ -1,4 +1,4 @@
--- The block that codec_read tells of. Assumes nothing.
+-- The block that codec_read tells of: it is the end of the octets.
 use Prim.Native.Nat.{ℕ, zero, suc, _-_}
 use mathlib.Core.Path.{_≡_, refl, sym, ap, _∙_}
 use mathlib.Core.List.{List, [], _∷_}
@@ -6,6 +6,8 @@ use native.Mathlib.Omega.{arith}
 use lib.ListN.{length, drop, length-drop, drop-of-length-le}
 use Rattle.octets.specs.Test.{ifEq, when, Outcome, refused, ok, mapped}
 use Rattle.octets.proofs.Test.{if-eq}
+use Rattle.frame.specs.Frame.{DATA, SEND}
+use Rattle.frame.specs.Layout.{dataBlockAt, sendBlockAt}
 use Rattle.frame.specs.Read.{Input, frame, request}
 use Rattle.frame.specs.Answer.{frameOf, requestOf, requestNumber}
 use Rattle.frame.specs.declared.Header.{Header}
@@ -15,7 +17,7 @@ use Rattle.frame.specs.declared.RequestKind.the-variants.{Connect, Listen, EndL
 use Rattle.codec.specs.Calls.{counted, blockIn, BlockTold}
 use Rattle.codec.specs.Parts.{blockAfter}
 
-pub frame-block : (h : Header) (s : List ℕ) → blockIn (frame (frameOf h (drop 14 s))) ≡ blockAfter (frameOf h (drop 14 s) .kind) s
+pub frame-block : (h : Header) (s : List ℕ) → blockIn (frame (frameOf h (drop dataBlockAt s))) ≡ blockAfter (frameOf h (drop dataBlockAt s) .kind) s
 unfolding blockIn frameOf blockAfter ifEq when
 frame-block (Crao s r) l = refl
 frame-block (Crpo s r) l = refl
@@ -27,7 +29,7 @@ frame-block (Drack s r) l = refl
 frame-block (Data s r n) l = refl
 frame-block (Ack s r n) l = refl
 
-pub request-block : (q : RequestKind) (s : List ℕ) → blockIn (request (requestOf q (drop 2 s))) ≡ blockAfter (requestNumber (requestOf q (drop 2 s))) s
+pub request-block : (q : RequestKind) (s : List ℕ) → blockIn (request (requestOf q (drop sendBlockAt s))) ≡ blockAfter (requestNumber (requestOf q (drop sendBlockAt s))) s
 unfolding blockIn requestOf requestNumber blockAfter ifEq when
 request-block Connect l = refl
 request-block Listen l = refl
@@ -47,8 +49,8 @@ at-end (suc k) (x ∷ s) =
 after-end : (k : ℕ) (s : List ℕ) → drop (length s - length (blockAfter k s)) s ≡ blockAfter k s
 unfolding blockAfter
 after-end k s =
-    if-eq (λ (b : List ℕ). drop (length s - length b) s ≡ b) k 8 (λ _. at-end 14 s)
-    (λ _. if-eq (λ (b : List ℕ). drop (length s - length b) s ≡ b) k 68 (λ _. at-end 2 s)
+    if-eq (λ (b : List ℕ). drop (length s - length b) s ≡ b) k DATA (λ _. at-end dataBlockAt s)
+    (λ _. if-eq (λ (b : List ℕ). drop (length s - length b) s ≡ b) k SEND (λ _. at-end sendBlockAt s)
     (λ _. none-at-end s))
   where
     none-at-end : (s : List ℕ) → drop (length s - 0) s ≡ []

@@ -1,4 +1,4 @@
--- What the answer of reading a line says of its outcome. Assumes nothing.
+-- What the answer of reading a line says of its outcome.
 use Prim.Native.Nat.{ℕ}
 use mathlib.Core.Path.{_≡_, refl}
 use mathlib.Core.List.{List}

@@ -1,14 +1,18 @@
 // The codec for programs in C and Rust: numbers and byte slices alone. The comparison with the second implementation goes through these calls.
-use frame::Header;
+use frame::ACK;
+use frame::CRAO;
+use frame::DATA;
 use frame::InputRead;
+use frame::SEND;
 use hexline::Line;
+use octets::refusal;
 ghost use mathlib.Core.Path.{_≡_};
-ghost use mathlib.Core.List.{List};
-ghost use Prim.Native.Nat.{ℕ, _≤_};
 ghost use Rattle.octets.specs.Octets.{left};
 ghost use Rattle.octets.specs.Test.{numberOf};
 ghost use Rattle.hexline.specs.Line.{readInto};
-ghost use Rattle.frame.specs.Answer.{frameOf, frameWith, inputRead};
+ghost use Rattle.frame.specs.Layout.{isFrame};
+ghost use Rattle.frame.specs.Read.{countOk};
+ghost use Rattle.frame.specs.Answer.{inputRead};
 ghost use lib.ListN.{length, drop};
 ghost use Rattle.codec.specs.Calls.{Filled, writeLine, readKnown, shown, BlockTold, writeFrame};
 ghost use Rattle.codec.specs.Parts.{blockAfter};
@@ -36,20 +40,27 @@ pub extern "C" fn codec_write_line(s: &[u8], out: &mut [u8]) -> u8
     ensures { λ r. ⌜ (r ≡ numberOf (writeLine (now (s .entry)) (now (out .entry)))) × (now (out .exit) ≡ left (writeLine (now (s .entry)) (now (out .entry))) (now (out .entry))) ⌝ }
 {
     if out.len() / 2 < s.len() {
-        return 11;
+        return refusal::SHORT_BUFFER;
     }
     hexline::write(s, out);
     0
 }
 
+// What a call knows.
+const FRAMES: u8 = 1;
+
+const REQUESTS: u8 = 2;
+
+const BOTH: u8 = 3;
+
 fn read_known(known: u8, s: &[u8]) -> InputRead
     ensures { λ r. ⌜ inputRead r (now (s .entry)) ≡ readKnown known (now (s .entry)) ⌝ }
 {
     match known {
-        1 => reader::frame_input(reader::read_frame(s)),
-        2 => reader::request_input(reader::read_request(s)),
-        3 => reader::read_input(s),
-        _ => InputRead::Refused(3),
+        FRAMES => reader::frame_input(reader::read_frame(s)),
+        REQUESTS => reader::request_input(reader::read_request(s)),
+        BOTH => reader::read_input(s),
+        _ => InputRead::Refused(refusal::UNKNOWN_KIND),
     }
 }
 
@@ -68,8 +79,8 @@ fn block_length(kind: u8, s: &[u8]) -> usize
     ensures { λ r. ⌜ r ≡ length (blockAfter kind (now (s .entry))) ⌝ }
 {
     match kind {
-        0x08 => count_from(s, 14),
-        0x44 => count_from(s, 2),
+        DATA => count_from(s, frame::DATA_BLOCK_AT),
+        SEND => count_from(s, frame::SEND_BLOCK_AT),
         _ => 0,
     }
 }
@@ -116,23 +127,16 @@ pub extern "C" fn codec_read(
     }
 }
 
-fn header_of(kind: u8, sender: u32, quoted: u32, number: u32) -> Header
-    requires { ⌜ (1 ≤ kind) × (kind ≤ 9) ⌝ }
-    ensures { λ r. ⌜ ((b : List ℕ) → frameOf r b ≡ frameWith (record { kind = kind; sender = sender; quoted = quoted; number = number }) b) ⌝ }
+fn is_frame(kind: u8) -> bool
+    ensures { λ r. ⌜ r ≡ isFrame kind ⌝ }
 {
-    match kind {
-        0x08 => Header::Data {
-            sender,
-            quoted,
-            number,
-        },
-        0x09 => Header::Ack {
-            sender,
-            quoted,
-            count: number,
-        },
-        _ => frame::control_header(kind, sender, quoted),
-    }
+    (CRAO <= kind) & (kind <= ACK)
+}
+
+fn count_ok(count: usize) -> bool
+    ensures { λ r. ⌜ r ≡ countOk count ⌝ }
+{
+    (1 <= count) & (count <= octets::LONGEST_BLOCK)
 }
 
 // Writes a frame to the start of out; its length goes to length. Only DATA has a block, only DATA and ACK have a number.
@@ -149,21 +153,15 @@ pub extern "C" fn codec_write(
     ensures { λ r. ⌜ Filled (writeFrame (record { kind = kind; sender = sender; quoted = quoted; number = number }) (now (block .entry)) (now (out .entry))) (now (out .entry)) (now (out .exit)) (now (length .entry)) (now (length .exit)) r ⌝ }
 {
     if out.len() < octets::LONGEST_FRAME {
-        return 11;
+        return refusal::SHORT_BUFFER;
     }
-    if kind < 1 {
-        return 3;
+    if !is_frame(kind) {
+        return refusal::UNKNOWN_KIND;
     }
-    if 9 < kind {
-        return 3;
-    }
-    let header = header_of(kind, sender, quoted, number);
-    if kind == 0x08 {
-        if block.len() < 1 {
-            return 5;
-        }
-        if octets::LONGEST_BLOCK < block.len() {
-            return 5;
+    let header = frame::header_of(kind, sender, quoted, number);
+    if kind == DATA {
+        if !count_ok(block.len()) {
+            return refusal::BAD_COUNT;
         }
         *length = frame::write(header, block, out);
         return 0;

@@ -1,7 +1,18 @@
 // Which row of the step table applies to a frame: the rules in code, one function for a state.
+use frame::ACK;
+use frame::CRACK;
+use frame::CRAO;
+use frame::CRPO;
+use frame::DATA;
+use frame::DR;
+use frame::DRACK;
+use frame::REJ;
+use frame::RESET;
 use frame::Values;
 use protocol::Rule;
+ghost use mathlib.Core.Path.{_≡_};
 ghost use Prim.Native.Nat.{_≤_};
+ghost use Rattle.octets.specs.Test.{ifEq, ifLt};
 ghost use Rattle.protocol.specs.Table.{whenClosed, whenListening, whenActive, whenPassive, dataRow, ackRow, openRows, whenEstablished, whenClosing, rule};
 ghost use Rattle.decide.specs.Rows.{Chosen};
 
@@ -28,111 +39,89 @@ pub struct Numbers {
     pub waiting: u8,
 }
 
+// A row whose test is that r = L: what it leads to, and what counts where the test fails.
+fn quotes(e: Numbers, f: Values, row: Rule, other: Rule) -> Rule
+    ensures { λ r. ⌜ r ≡ ifEq (f .quoted) (e .local) row other ⌝ }
+{
+    if f.quoted == e.local {
+        return row;
+    }
+    other
+}
+
+// The same where the test is that s = D.
+fn matches(e: Numbers, f: Values, row: Rule, other: Rule) -> Rule
+    ensures { λ r. ⌜ r ≡ ifEq (f .sender) (e .remote) row other ⌝ }
+{
+    if f.sender == e.remote {
+        return row;
+    }
+    other
+}
+
+// The same where the test is that s > D.
+fn exceeds(e: Numbers, f: Values, row: Rule, other: Rule) -> Rule
+    ensures { λ r. ⌜ r ≡ ifLt (e .remote) (f .sender) row other ⌝ }
+{
+    if e.remote < f.sender {
+        return row;
+    }
+    other
+}
+
 fn when_closed(e: Numbers, f: Values) -> Rule
     ensures { λ r. ⌜ Chosen whenClosed e f r ⌝ }
 {
-    if f.kind == 0x01 {
-        return Rule::Refuse;
+    let kind = f.kind;
+    match kind {
+        CRAO => Rule::Refuse,
+        CRPO => Rule::Refuse,
+        DR => Rule::AcceptDisconnect,
+        _ => Rule::Ignore,
     }
-    if f.kind == 0x02 {
-        return Rule::Refuse;
-    }
-    if f.kind == 0x06 {
-        return Rule::AcceptDisconnect;
-    }
-    Rule::Ignore
 }
 
 fn when_listening(e: Numbers, f: Values) -> Rule
     ensures { λ r. ⌜ Chosen whenListening e f r ⌝ }
 {
-    if f.kind == 0x01 {
-        return Rule::Answer;
+    let kind = f.kind;
+    match kind {
+        CRAO => Rule::Answer,
+        CRPO => Rule::Reset,
+        DR => Rule::AcceptDisconnect,
+        _ => Rule::Ignore,
     }
-    if f.kind == 0x02 {
-        return Rule::Reset;
-    }
-    if f.kind == 0x06 {
-        return Rule::AcceptDisconnect;
-    }
-    Rule::Ignore
 }
 
 // Document 01: calling.
 fn when_active(e: Numbers, f: Values) -> Rule
     ensures { λ r. ⌜ Chosen whenActive e f r ⌝ }
 {
-    if f.kind == 0x01 {
-        if f.quoted == e.local {
-            return Rule::OpenAndConfirm;
-        }
-        return Rule::CallAgain;
+    let kind = f.kind;
+    match kind {
+        CRAO => quotes(e, f, Rule::OpenAndConfirm, Rule::CallAgain),
+        CRPO => quotes(e, f, Rule::OpenAndConfirm, Rule::Ignore),
+        CRACK => quotes(e, f, Rule::Open, Rule::Ignore),
+        REJ => quotes(e, f, Rule::Rejected, Rule::Ignore),
+        DR => quotes(e, f, Rule::RejectedByDisconnect, Rule::AcceptDisconnect),
+        _ => Rule::Ignore,
     }
-    if f.kind == 0x02 {
-        if f.quoted == e.local {
-            return Rule::OpenAndConfirm;
-        }
-        return Rule::Ignore;
-    }
-    if f.kind == 0x03 {
-        if f.quoted == e.local {
-            return Rule::Open;
-        }
-        return Rule::Ignore;
-    }
-    if f.kind == 0x04 {
-        if f.quoted == e.local {
-            return Rule::Rejected;
-        }
-        return Rule::Ignore;
-    }
-    if f.kind == 0x06 {
-        if f.quoted == e.local {
-            return Rule::RejectedByDisconnect;
-        }
-        return Rule::AcceptDisconnect;
-    }
-    Rule::Ignore
 }
 
 // Document 01: answering.
 fn when_passive(e: Numbers, f: Values) -> Rule
     ensures { λ r. ⌜ Chosen whenPassive e f r ⌝ }
 {
-    if f.kind == 0x01 {
-        return Rule::Answer;
+    let kind = f.kind;
+    match kind {
+        CRAO => Rule::Answer,
+        CRPO => Rule::Reset,
+        CRACK => matches(e, f, quotes(e, f, Rule::Open, Rule::Ignore), Rule::Ignore),
+        REJ => quotes(e, f, Rule::ListenAgain, Rule::Ignore),
+        RESET => quotes(e, f, Rule::ListenAgain, Rule::Ignore),
+        DR => quotes(e, f, Rule::ClosedByPartner, Rule::AcceptDisconnect),
+        _ => Rule::Ignore,
     }
-    if f.kind == 0x02 {
-        return Rule::Reset;
-    }
-    if f.kind == 0x03 {
-        if f.sender == e.remote {
-            if f.quoted == e.local {
-                return Rule::Open;
-            }
-            return Rule::Ignore;
-        }
-        return Rule::Ignore;
-    }
-    if f.kind == 0x04 {
-        if f.quoted == e.local {
-            return Rule::ListenAgain;
-        }
-        return Rule::Ignore;
-    }
-    if f.kind == 0x05 {
-        if f.quoted == e.local {
-            return Rule::ListenAgain;
-        }
-        return Rule::Ignore;
-    }
-    if f.kind == 0x06 {
-        if f.quoted == e.local {
-            return Rule::ClosedByPartner;
-        }
-        return Rule::AcceptDisconnect;
-    }
-    Rule::Ignore
 }
 
 // Open, a DATA.
@@ -164,22 +153,15 @@ fn open_rows(e: Numbers, f: Values) -> Rule
     requires { ⌜ e .waiting ≤ e .accepted ⌝ }
     ensures { λ r. ⌜ Chosen openRows e f r ⌝ }
 {
-    if f.kind == 0x01 {
-        return Rule::Confirm;
+    let kind = f.kind;
+    match kind {
+        CRAO => Rule::Confirm,
+        CRPO => Rule::Confirm,
+        DR => Rule::ClosedByPartner,
+        DATA => data_row(e, f),
+        ACK => ack_row(e, f),
+        _ => Rule::Ignore,
     }
-    if f.kind == 0x02 {
-        return Rule::Confirm;
-    }
-    if f.kind == 0x06 {
-        return Rule::ClosedByPartner;
-    }
-    if f.kind == 0x08 {
-        return data_row(e, f);
-    }
-    if f.kind == 0x09 {
-        return ack_row(e, f);
-    }
-    Rule::Ignore
 }
 
 // Only with s = D and r = L.
@@ -187,52 +169,27 @@ fn when_established(e: Numbers, f: Values) -> Rule
     requires { ⌜ e .waiting ≤ e .accepted ⌝ }
     ensures { λ r. ⌜ Chosen whenEstablished e f r ⌝ }
 {
-    if f.sender == e.remote {
-        if f.quoted == e.local {
-            return open_rows(e, f);
-        }
-        return Rule::Ignore;
-    }
-    Rule::Ignore
+    let rows = open_rows(e, f);
+    matches(e, f, quotes(e, f, rows, Rule::Ignore), Rule::Ignore)
 }
 
 fn when_closing(e: Numbers, f: Values) -> Rule
     ensures { λ r. ⌜ Chosen whenClosing e f r ⌝ }
 {
-    if f.kind == 0x06 {
-        if e.remote < f.sender {
-            return Rule::FinishedByDisconnect;
-        }
-        if f.quoted == e.local {
-            return Rule::FinishedByDisconnect;
-        }
-        return Rule::Ignore;
+    let kind = f.kind;
+    match kind {
+        DR => exceeds(
+            e,
+            f,
+            Rule::FinishedByDisconnect,
+            quotes(e, f, Rule::FinishedByDisconnect, Rule::Ignore),
+        ),
+        DRACK => quotes(e, f, Rule::Finished, Rule::Ignore),
+        REJ => quotes(e, f, Rule::Finished, Rule::Ignore),
+        CRAO => exceeds(e, f, Rule::Finished, Rule::Ignore),
+        CRPO => exceeds(e, f, Rule::Finished, Rule::Ignore),
+        _ => Rule::Ignore,
     }
-    if f.kind == 0x07 {
-        if f.quoted == e.local {
-            return Rule::Finished;
-        }
-        return Rule::Ignore;
-    }
-    if f.kind == 0x04 {
-        if f.quoted == e.local {
-            return Rule::Finished;
-        }
-        return Rule::Ignore;
-    }
-    if f.kind == 0x01 {
-        if e.remote < f.sender {
-            return Rule::Finished;
-        }
-        return Rule::Ignore;
-    }
-    if f.kind == 0x02 {
-        if e.remote < f.sender {
-            return Rule::Finished;
-        }
-        return Rule::Ignore;
-    }
-    Rule::Ignore
 }
 
 // The row that applies. If s < D, the frame is passed over in every state.
@@ -240,26 +197,19 @@ pub fn choose(e: Numbers, f: Values) -> Rule
     requires { ⌜ e .waiting ≤ e .accepted ⌝ }
     ensures { λ r. ⌜ Chosen rule e f r ⌝ }
 {
-    if f.sender < e.remote {
+    let sender = f.sender;
+    let remote = e.remote;
+    if sender < remote {
         return Rule::Ignore;
     }
-    if e.state == CLOSED {
-        return when_closed(e, f);
+    let state = e.state;
+    match state {
+        CLOSED => when_closed(e, f),
+        LISTENING => when_listening(e, f),
+        ACTIVE_OPENING => when_active(e, f),
+        PASSIVE_OPENING => when_passive(e, f),
+        ESTABLISHED => when_established(e, f),
+        CLOSING => when_closing(e, f),
+        _ => Rule::Ignore,
     }
-    if e.state == LISTENING {
-        return when_listening(e, f);
-    }
-    if e.state == ACTIVE_OPENING {
-        return when_active(e, f);
-    }
-    if e.state == PASSIVE_OPENING {
-        return when_passive(e, f);
-    }
-    if e.state == ESTABLISHED {
-        return when_established(e, f);
-    }
-    if e.state == CLOSING {
-        return when_closing(e, f);
-    }
-    Rule::Ignore
 }

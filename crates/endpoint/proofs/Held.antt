@@ -1,32 +1,31 @@
--- The struct that holds a sound endpoint is sound. Assumes nothing.
+-- The struct that holds a sound endpoint is sound.
 use Prim.Native.Nat.{ℕ, zero, suc, _+_, _-_, _*_, _≤_, _<_}
 use mathlib.Core.Path.{_≡_, refl, sym, ap, _∙_}
-use mathlib.Core.Bool.{Bool, true, _&&_}
+use mathlib.Core.Bool.{true}
 use mathlib.Core.List.{List, [], _∷_}
 use native.Mathlib.Nat.{min-le-left}
 use native.Mathlib.Omega.{arith}
 use borrow.Author.Tests.{lt-ltb, le-ltb, eq-eqb}
-use lib.Dec.{leb}
 use lib.ListN.{length, take, drop, getD, replicate, length-take, List·getD-append}
 use lib.Seq.{getD-append-add, getD-drop, getD-take, drop-cons}
+use Rattle.octets.specs.Sizes.{longestBlock, queueSize}
 use Rattle.octets.specs.Test.{when, inRange}
 use Rattle.octets.proofs.Test.{both, joined, in-range}
 use Rattle.frame.specs.Frame.{Block}
 use Rattle.protocol.specs.Endpoint as abstract
-use Rattle.protocol.specs.Endpoint.{sized, allOf}
+use Rattle.protocol.specs.Endpoint.{sized}
 use Rattle.protocol.proofs.Sound.{sized-at, sound-so}
-use Rattle.endpoint.specs.View.{padded, places, lengthsOf, pack, view}
+use Rattle.endpoint.specs.View.{placesSize, padded, places, lengthsOf, pack, view}
 use Rattle.endpoint.specs.Sound.{zeros, lengthOk, lengthsOk, unusedAt, unusedOk, sound}
-use Rattle.endpoint.specs.Parts.{numbersOk}
 use Rattle.endpoint.proofs.Tests.{all-hold, zeros-of}
 use Rattle.endpoint.proofs.Pad.{length-padded}
 use Rattle.endpoint.proofs.Packs.{Small, view-pack, length-lengths, length-places, drop-places, getD-lengths}
-use Rattle.endpoint.proofs.Sounds.{by-lt, parts}
+use Rattle.endpoint.proofs.Sounds.{Numbers, by-lt}
 
 pub small-of : (q : List Block) → sized q ≡ true → Small q
 unfolding sized
 small-of [] s = tt
-small-of (b ∷ q) s = (sized-at 0 (b ∷ q) s (omega arith) .1, small-of q (both (inRange 1 64 (length b)) (sized q) s .1))
+small-of (b ∷ q) s = (sized-at 0 (b ∷ q) s (omega arith) .1, small-of q (both (inRange 1 longestBlock (length b)) (sized q) s .1))
 
 zeros-in : (n i : ℕ) → getD {A = ℕ} (replicate n 0) i 0 ≡ 0
 zeros-in zero i = refl
@@ -44,54 +43,47 @@ unfolding padded
 inside n s i h = List·getD-append s (replicate (n - length s) 0) 0 i h
 
 module _ (q : List Block) (s : sized q ≡ true) where
-  length-in : (i : ℕ) → i < length q → getD (padded 8 (lengthsOf q)) i 0 ≡ length (getD q i [])
-  length-in i h = inside 8 (lengthsOf q) i (omega (arith, length-lengths q)) ∙ getD-lengths q i
+  length-in : (i : ℕ) → i < length q → getD (padded queueSize (lengthsOf q)) i 0 ≡ length (getD q i [])
+  length-in i h = inside queueSize (lengthsOf q) i (omega (arith, length-lengths q)) ∙ getD-lengths q i
 
-  length-out : (i : ℕ) → length q ≤ i → getD (padded 8 (lengthsOf q)) i 0 ≡ 0
-  length-out i h = past 8 (lengthsOf q) i (omega (arith, length-lengths q))
+  length-out : (i : ℕ) → length q ≤ i → getD (padded queueSize (lengthsOf q)) i 0 ≡ 0
+  length-out i h = past queueSize (lengthsOf q) i (omega (arith, length-lengths q))
 
-  lengths-fine : (i : ℕ) → lengthOk (length q) i (getD (padded 8 (lengthsOf q)) i 0) ≡ true
+  lengths-fine : (i : ℕ) → lengthOk (length q) i (getD (padded queueSize (lengthsOf q)) i 0) ≡ true
   unfolding lengthOk when
   lengths-fine i =
-      let x = getD (padded 8 (lengthsOf q)) i 0 in
+      let x = getD (padded queueSize (lengthsOf q)) i 0 in
       by-lt i (length q)
-      (λ h. let z = sized-at i q s h in rw (lt-ltb i (length q) h) (in-range 1 64 x (rw (length-in i h) (z .0)) (rw (length-in i h) (z .1))))
+      (λ h. let z = sized-at i q s h in rw (lt-ltb i (length q) h) (in-range 1 longestBlock x (rw (length-in i h) (z .0)) (rw (length-in i h) (z .1))))
       (λ h. rw (le-ltb i (length q) h) (eq-eqb x 0 (length-out i h)))
 
   -- an octet of place i after its block
-  after : (i j : ℕ) → j < 64 → getD (padded 8 (lengthsOf q)) i 0 ≤ j → getD (padded 512 (places q)) (i * 64 + j) 0 ≡ 0
+  after : (i j : ℕ) → j < longestBlock → getD (padded queueSize (lengthsOf q)) i 0 ≤ j → getD (padded placesSize (places q)) (i * longestBlock + j) 0 ≡ 0
   unfolding places
   after i j k m =
-      let lp : length (places q) ≡ length q * 64 = length-places q (small-of q s) in
+      let lp : length (places q) ≡ length q * longestBlock = length-places q (small-of q s) in
       by-lt i (length q)
       (λ h.
       let b : Block = getD q i [] in
       let z = sized-at i q s h in
       let m′ : length b ≤ j = rw (length-in i h) at m in
-      inside 512 (places q) (i * 64 + j) (omega arith)
-      ∙ sym (getD-drop (i * 64) (places q) j 0)
+      inside placesSize (places q) (i * longestBlock + j) (omega arith)
+      ∙ sym (getD-drop (i * longestBlock) (places q) j 0)
       ∙ ap (λ (l : List ℕ). getD l j 0) (drop-places i q (small-of q s) ∙ ap places (drop-cons q i [] h))
-      ∙ List·getD-append (padded 64 b) (places (drop (suc i) q)) 0 j (rw (length-padded 64 b (z .1)) k)
-      ∙ past 64 b j m′)
-      (λ h. past 512 (places q) (i * 64 + j) (omega arith))
+      ∙ List·getD-append (padded longestBlock b) (places (drop (suc i) q)) 0 j (rw (length-padded longestBlock b (z .1)) k)
+      ∙ past longestBlock b j m′)
+      (λ h. past placesSize (places q) (i * longestBlock + j) (omega arith))
 
-  unused-fine : (i : ℕ) → zeros (unusedAt (padded 8 (lengthsOf q)) (padded 512 (places q)) i) ≡ true
+  unused-fine : (i : ℕ) → zeros (unusedAt (padded queueSize (lengthsOf q)) (padded placesSize (places q)) i) ≡ true
   unfolding unusedAt
   unused-fine i =
-      let n = getD (padded 8 (lengthsOf q)) i 0 in
-      let d : List ℕ = drop (i * 64 + n) (padded 512 (places q)) in
-      zeros-of (take (64 - n) d)
+      let n = getD (padded queueSize (lengthsOf q)) i 0 in
+      let d : List ℕ = drop (i * longestBlock + n) (padded placesSize (places q)) in
+      zeros-of (take (longestBlock - n) d)
       (λ j h.
-      let h′ : j < 64 - n = omega (arith, length-take (64 - n) d, min-le-left (64 - n) (length d)) in
-      let at : i * 64 + (n + j) ≡ i * 64 + n + j = omega arith in
-      getD-take (64 - n) d j 0 h′ ∙ getD-drop (i * 64 + n) (padded 512 (places q)) j 0 ∙ rw at at (after i (n + j) (omega arith) (omega arith)))
-
-removed : (a b c s r : Bool) → (a && (b && (c && (s && r)))) ≡ true → (a && (b && (c && r))) ≡ true
-removed a b c s r h =
-    let x = both a _ h in
-    let y = both b _ (x .1) in
-    let z = both c _ (y .1) in
-    joined (x .0) (joined (y .0) (joined (z .0) (both s r (z .1) .1)))
+      let h′ : j < longestBlock - n = omega (arith, length-take (longestBlock - n) d, min-le-left (longestBlock - n) (length d)) in
+      let at : i * longestBlock + (n + j) ≡ i * longestBlock + n + j = omega arith in
+      getD-take (longestBlock - n) d j 0 h′ ∙ getD-drop (i * longestBlock + n) (padded placesSize (places q)) j 0 ∙ rw at at (after i (n + j) (omega arith) (omega arith)))
 
 module _ (a : abstract.Endpoint) (s : abstract.sound a ≡ true) where
   is-sized : sized (a .queue) ≡ true
@@ -100,16 +92,11 @@ module _ (a : abstract.Endpoint) (s : abstract.sound a ≡ true) where
   pub held : view (pack a) ≡ a
   held = view-pack a (small-of (a .queue) is-sized)
 
-  numbers-hold : numbersOk (a .state) (a .local) (a .remote) (a .accepted) (a .delivered) (length (a .queue)) ≡ true
-  unfolding abstract.sound abstract.soundness allOf numbersOk
-  numbers-hold = removed (inRange 0 5 (a .state)) (leb (length (a .queue)) 8) (leb (length (a .queue)) (a .accepted)) (sized (a .queue)) _ s
-
   pub pack-sound : sound (pack a) ≡ true
-  unfolding pack lengthsOk unusedOk
+  unfolding sound abstract.sound pack lengthsOk unusedOk
   pack-sound =
       let q = a .queue in
-      parts (pack a)
-      ∙ joined numbers-hold
+      joined (both (Numbers (pack a)) (sized q) s .0)
       (joined
-      (all-hold (λ i. lengthOk (length q) i (getD (padded 8 (lengthsOf q)) i 0)) 8 (λ i _. lengths-fine q is-sized i))
-      (all-hold (λ i. zeros (unusedAt (padded 8 (lengthsOf q)) (padded 512 (places q)) i)) 8 (λ i _. unused-fine q is-sized i)))
+      (all-hold (λ i. lengthOk (length q) i (getD (padded queueSize (lengthsOf q)) i 0)) queueSize (λ i _. lengths-fine q is-sized i))
+      (all-hold (λ i. zeros (unusedAt (padded queueSize (lengthsOf q)) (padded placesSize (places q)) i)) queueSize (λ i _. unused-fine q is-sized i)))

@@ -1,23 +1,24 @@
--- The struct that a list of blocks is packed into. Assumes nothing.
+-- The struct that a list of blocks is packed into: blocks join and leave, and the way back from a tidy struct.
 use mathlib.Core.Path.{_≡_, refl, sym, ap, ap₂, _∙_}
 use mathlib.Core.List.{List, [], _∷_, _++_, append-nil, append-assoc}
 use Prim.Native.Nat.{ℕ, zero, suc, _+_, _-_, _*_, _/_, _%_, _≤_, _<_}
 use native.Mathlib.Omega.{arith}
 use lib.ListN.{length, take, drop, getD, replicate, length-append, length-drop, List·getD-append}
 use lib.Seq.{take-at, drop-at, take-length, take-suc, take-add, take-take, drop-cons, drop-drop, drop-nil, getD-take, getD-drop, drop-append-le, length-take-le}
+use Rattle.octets.specs.Sizes.{longestBlock, queueSize}
 use Rattle.octets.specs.Octets.{put}
 use Rattle.frame.specs.Frame.{Block}
 use Rattle.protocol.specs.Endpoint as abstract
 use Rattle.endpoint.specs.declared.Endpoint.{Endpoint}
-use Rattle.endpoint.specs.View.{padded, places, lengthsOf, pack, tab, blockAt, view}
+use Rattle.endpoint.specs.View.{placesSize, padded, places, lengthsOf, pack, tab, blockAt, view}
 use Rattle.endpoint.proofs.Pad.{length-padded, put-padded, padded-padded, drop-padded, padded-is}
 
 -- every block has at most 64 bytes
 abbrev pub Small : List Block → Type 0
 Small [] = Unit {0}
-Small (b ∷ q) = (length b ≤ 64) × Small q
+Small (b ∷ q) = (length b ≤ longestBlock) × Small q
 
-small-append : (q : List Block) (b : Block) → Small q → length b ≤ 64 → Small (q ++ (b ∷ []))
+small-append : (q : List Block) (b : Block) → Small q → length b ≤ longestBlock → Small (q ++ (b ∷ []))
 small-append [] b h k = (k, tt)
 small-append (c ∷ q) b h k = (h .0, small-append q b (h .1) k)
 
@@ -26,10 +27,10 @@ unfolding lengthsOf
 length-lengths [] = refl
 length-lengths (b ∷ q) = ap suc (length-lengths q)
 
-pub length-places : (q : List Block) → Small q → length (places q) ≡ length q * 64
+pub length-places : (q : List Block) → Small q → length (places q) ≡ length q * longestBlock
 unfolding places
 length-places [] h = refl
-length-places (b ∷ q) h = rw (length-append, length-padded 64 b (h .0), length-places q (h .1)) (omega arith)
+length-places (b ∷ q) h = rw (length-append, length-padded longestBlock b (h .0), length-places q (h .1)) (omega arith)
 
 lengths-append : (q r : List Block) → lengthsOf (q ++ r) ≡ lengthsOf q ++ lengthsOf r
 unfolding lengthsOf
@@ -39,7 +40,7 @@ lengths-append (b ∷ q) r = ap (λ (l : List ℕ). length b ∷ l) (lengths-app
 places-append : (q r : List Block) → places (q ++ r) ≡ places q ++ places r
 unfolding places
 places-append [] r = refl
-places-append (b ∷ q) r = rw (places-append q r) (sym (append-assoc (padded 64 b) (places q) (places r)))
+places-append (b ∷ q) r = rw (places-append q r) (sym (append-assoc (padded longestBlock b) (places q) (places r)))
 
 drop-lengths : (k : ℕ) (q : List Block) → drop k (lengthsOf q) ≡ lengthsOf (drop k q)
 unfolding lengthsOf
@@ -47,43 +48,43 @@ drop-lengths zero q = refl
 drop-lengths (suc k) [] = refl
 drop-lengths (suc k) (b ∷ q) = drop-lengths k q
 
-pub drop-places : (k : ℕ) (q : List Block) → Small q → drop (k * 64) (places q) ≡ places (drop k q)
+pub drop-places : (k : ℕ) (q : List Block) → Small q → drop (k * longestBlock) (places q) ≡ places (drop k q)
 unfolding places
 drop-places zero q h = refl
-drop-places (suc k) [] h = drop-nil (suc k * 64)
+drop-places (suc k) [] h = drop-nil (suc k * longestBlock)
 drop-places (suc k) (b ∷ q) h =
-    let e : suc k * 64 ≡ 64 + k * 64 = omega arith in
-    rw (e, ← drop-drop (k * 64) 64 (padded 64 b ++ places q), drop-at (padded 64 b) (places q) 64 (length-padded 64 b (h .0)))
+    let e : suc k * longestBlock ≡ longestBlock + k * longestBlock = omega arith in
+    rw (e, ← drop-drop (k * longestBlock) longestBlock (padded longestBlock b ++ places q), drop-at (padded longestBlock b) (places q) longestBlock (length-padded longestBlock b (h .0)))
     (drop-places k q (h .1))
 
 -- a block joins
-pub lengths-added : (q : List Block) (b : Block) → length q < 8 → put (padded 8 (lengthsOf q)) (length q) (length b ∷ []) ≡ padded 8 (lengthsOf (q ++ (b ∷ [])))
+pub lengths-added : (q : List Block) (b : Block) → length q < queueSize → put (padded queueSize (lengthsOf q)) (length q) (length b ∷ []) ≡ padded queueSize (lengthsOf (q ++ (b ∷ [])))
 unfolding lengthsOf
 lengths-added q b h =
     let ll : length (lengthsOf q) ≡ length q = length-lengths q in
-    rw (← ll) (put-padded 8 (lengthsOf q) (length b ∷ []) (omega arith)) ∙ ap (padded 8) (sym (lengths-append q (b ∷ [])))
+    rw (← ll) (put-padded queueSize (lengthsOf q) (length b ∷ []) (omega arith)) ∙ ap (padded queueSize) (sym (lengths-append q (b ∷ [])))
 
-pub blocks-added : (q : List Block) (b : Block) → Small q → length q < 8 → length b ≤ 64
-    → put (padded 512 (places q)) (length q * 64) b ≡ padded 512 (places (q ++ (b ∷ [])))
+pub blocks-added : (q : List Block) (b : Block) → Small q → length q < queueSize → length b ≤ longestBlock
+    → put (padded placesSize (places q)) (length q * longestBlock) b ≡ padded placesSize (places (q ++ (b ∷ [])))
 unfolding places
 blocks-added q b s h k =
-    let lp : length (places q) ≡ length q * 64 = length-places q s in
-    rw (← lp) (put-padded 512 (places q) b (omega arith))
-    ∙ sym (padded-padded 512 64 (places q) b k (omega arith))
-    ∙ ap (λ (l : List ℕ). padded 512 (places q ++ l)) (sym (append-nil (padded 64 b)))
-    ∙ ap (padded 512) (sym (places-append q (b ∷ [])))
+    let lp : length (places q) ≡ length q * longestBlock = length-places q s in
+    rw (← lp) (put-padded placesSize (places q) b (omega arith))
+    ∙ sym (padded-padded placesSize longestBlock (places q) b k (omega arith))
+    ∙ ap (λ (l : List ℕ). padded placesSize (places q ++ l)) (sym (append-nil (padded longestBlock b)))
+    ∙ ap (padded placesSize) (sym (places-append q (b ∷ [])))
 
 -- the k oldest blocks leave
-module _ (q : List Block) (k : ℕ) (h : length q ≤ 8) (m : k ≤ length q) where
-  pub lengths-dropped : drop k (padded 8 (lengthsOf q)) ++ replicate k 0 ≡ padded 8 (lengthsOf (drop k q))
+module _ (q : List Block) (k : ℕ) (h : length q ≤ queueSize) (m : k ≤ length q) where
+  pub lengths-dropped : drop k (padded queueSize (lengthsOf q)) ++ replicate k 0 ≡ padded queueSize (lengthsOf (drop k q))
   lengths-dropped =
       let ll : length (lengthsOf q) ≡ length q = length-lengths q in
-      drop-padded 8 k (lengthsOf q) (omega arith) (omega arith) ∙ ap (padded 8) (drop-lengths k q)
+      drop-padded queueSize k (lengthsOf q) (omega arith) (omega arith) ∙ ap (padded queueSize) (drop-lengths k q)
 
-  pub blocks-dropped : Small q → drop (k * 64) (padded 512 (places q)) ++ replicate (k * 64) 0 ≡ padded 512 (places (drop k q))
+  pub blocks-dropped : Small q → drop (k * longestBlock) (padded placesSize (places q)) ++ replicate (k * longestBlock) 0 ≡ padded placesSize (places (drop k q))
   blocks-dropped s =
-      let lp : length (places q) ≡ length q * 64 = length-places q s in
-      drop-padded 512 (k * 64) (places q) (omega arith) (omega arith) ∙ ap (padded 512) (drop-places k q s)
+      let lp : length (places q) ≡ length q * longestBlock = length-places q s in
+      drop-padded placesSize (k * longestBlock) (places q) (omega arith) (omega arith) ∙ ap (padded placesSize) (drop-places k q s)
 
 -- view
 pub length-tab : (n : ℕ) (f : ℕ → Block) → length (tab n f) ≡ n
@@ -102,16 +103,16 @@ getD-lengths [] i = refl
 getD-lengths (b ∷ q) zero = refl
 getD-lengths (b ∷ q) (suc i) = getD-lengths q i
 
-block-is : (q : List Block) (i : ℕ) → Small q → i < length q → blockAt (padded 8 (lengthsOf q)) (padded 512 (places q)) i ≡ getD q i []
+block-is : (q : List Block) (i : ℕ) → Small q → i < length q → blockAt (padded queueSize (lengthsOf q)) (padded placesSize (places q)) i ≡ getD q i []
 unfolding blockAt padded places
 block-is q i s h =
     let b : Block = getD q i [] in
-    let zl : List ℕ = replicate (8 - length (lengthsOf q)) 0 in
-    let zp : List ℕ = replicate (512 - length (places q)) 0 in
-    let zb : List ℕ = replicate (64 - length b) 0 in
+    let zl : List ℕ = replicate (queueSize - length (lengthsOf q)) 0 in
+    let zp : List ℕ = replicate (placesSize - length (places q)) 0 in
+    let zb : List ℕ = replicate (longestBlock - length b) 0 in
     let x : getD (lengthsOf q ++ zl) i 0 ≡ length b = List·getD-append (lengthsOf q) zl 0 i (omega (arith, length-lengths q)) ∙ getD-lengths q i in
-    let y : drop (i * 64) (places q ++ zp) ≡ ((b ++ zb) ++ places (drop (suc i) q)) ++ zp =
-    drop-append-le (i * 64) (places q) zp (omega (arith, length-places q s)) ∙ ap (λ (l : List ℕ). l ++ zp) (drop-places i q s ∙ ap places (drop-cons q i [] h)) in
+    let y : drop (i * longestBlock) (places q ++ zp) ≡ ((b ++ zb) ++ places (drop (suc i) q)) ++ zp =
+    drop-append-le (i * longestBlock) (places q) zp (omega (arith, length-places q s)) ∙ ap (λ (l : List ℕ). l ++ zp) (drop-places i q s ∙ ap places (drop-cons q i [] h)) in
     ap₂ (λ (n : ℕ) (l : List ℕ). take n l) x y
     ∙ simp append-assoc (take-at b (zb ++ (places (drop (suc i) q) ++ zp)) (length b) refl)
 
@@ -119,24 +120,24 @@ pub view-pack : (a : abstract.Endpoint) → Small (a .queue) → view (pack a) �
 unfolding view pack
 view-pack a s =
     let q = a .queue in
-    let eq : tab (length q) (blockAt (padded 8 (lengthsOf q)) (padded 512 (places q))) ≡ q =
-    tab-is q (blockAt (padded 8 (lengthsOf q)) (padded 512 (places q))) (length q) (omega arith) (λ i h. block-is q i s h) ∙ take-length q in
+    let eq : tab (length q) (blockAt (padded queueSize (lengthsOf q)) (padded placesSize (places q))) ≡ q =
+    tab-is q (blockAt (padded queueSize (lengthsOf q)) (padded placesSize (places q))) (length q) (omega arith) (λ i h. block-is q i s h) ∙ take-length q in
     λ i. record { state = a .state; local = a .local; remote = a .remote; accepted = a .accepted; delivered = a .delivered; queue = eq i }
 
 -- what soundness says of the arrays
 pub record Tidy (w : ℕ) (l b : List ℕ) : Type 0 where
-  pub eight : length l ≡ 8
-  pub bytes : length b ≡ 512
-  pub few : w ≤ 8
+  pub eight : length l ≡ queueSize
+  pub bytes : length b ≡ placesSize
+  pub few : w ≤ queueSize
   pub some : (i : ℕ) → i < w → 1 ≤ getD l i 0
-  pub short : (i : ℕ) → i < w → getD l i 0 ≤ 64
-  pub unused : (i : ℕ) → w ≤ i → i < 8 → getD l i 0 ≡ 0
-  pub clear : (k : ℕ) → k < 512 → getD l (k / 64) 0 ≤ k % 64 → getD b k 0 ≡ 0
+  pub short : (i : ℕ) → i < w → getD l i 0 ≤ longestBlock
+  pub unused : (i : ℕ) → w ≤ i → i < queueSize → getD l i 0 ≡ 0
+  pub clear : (k : ℕ) → k < placesSize → getD l (k / longestBlock) 0 ≤ k % longestBlock → getD b k 0 ≡ 0
 
 module _ (l b : List ℕ) (W : ℕ) (T : Tidy W l b) where
   pub length-block : (i : ℕ) → i < W → length (blockAt l b i) ≡ getD l i 0
   unfolding blockAt
-  length-block i h = length-take-le (getD l i 0) (drop (i * 64) b) (rw length-drop (omega (arith, T .short i h)))
+  length-block i h = length-take-le (getD l i 0) (drop (i * longestBlock) b) (rw length-drop (omega (arith, T .short i h)))
 
   lengths-tab : (w : ℕ) → w ≤ W → lengthsOf (tab w (blockAt l b)) ≡ take w l
   unfolding tab lengthsOf
@@ -150,36 +151,36 @@ module _ (l b : List ℕ) (W : ℕ) (T : Tidy W l b) where
   small-tab zero h = tt
   small-tab (suc w) h = small-append (tab w (blockAt l b)) (blockAt l b w) (small-tab w (omega arith)) (rw (length-block w h) (T .short w h))
 
-  place-is : (w : ℕ) → w < W → padded 64 (blockAt l b w) ≡ take 64 (drop (w * 64) b)
+  place-is : (w : ℕ) → w < W → padded longestBlock (blockAt l b w) ≡ take longestBlock (drop (w * longestBlock) b)
   unfolding blockAt
   place-is w h =
-      let d : List ℕ = drop (w * 64) b in
+      let d : List ℕ = drop (w * longestBlock) b in
       let x = getD l w 0 in
-      let hx : x ≤ 64 = T .short w h in
-      let ld : length (take 64 d) ≡ 64 = length-take-le 64 d (rw length-drop (omega arith)) in
-      rw (← take-take x 64 d hx)
-      (padded-is 64 (take 64 d) x ld hx
+      let hx : x ≤ longestBlock = T .short w h in
+      let ld : length (take longestBlock d) ≡ longestBlock = length-take-le longestBlock d (rw length-drop (omega arith)) in
+      rw (← take-take x longestBlock d hx)
+      (padded-is longestBlock (take longestBlock d) x ld hx
       (λ i v u.
-      let k1 : (w * 64 + i) / 64 ≡ w = omega arith in
-      let k2 : (w * 64 + i) % 64 ≡ i = omega arith in
-      rw (getD-take 64 d i 0 u, getD-drop) (T .clear (w * 64 + i) (omega arith) (rw (k1, k2) v))))
+      let k1 : (w * longestBlock + i) / longestBlock ≡ w = omega arith in
+      let k2 : (w * longestBlock + i) % longestBlock ≡ i = omega arith in
+      rw (getD-take longestBlock d i 0 u, getD-drop) (T .clear (w * longestBlock + i) (omega arith) (rw (k1, k2) v))))
 
-  places-tab : (w : ℕ) → w ≤ W → places (tab w (blockAt l b)) ≡ take (w * 64) b
+  places-tab : (w : ℕ) → w ≤ W → places (tab w (blockAt l b)) ≡ take (w * longestBlock) b
   unfolding tab places
   places-tab zero h = refl
   places-tab (suc w) h =
-      let e : suc w * 64 ≡ w * 64 + 64 = omega arith in
-      rw (places-append (tab w (blockAt l b)) (blockAt l b w ∷ []), places-tab w (omega arith), append-nil (padded 64 (blockAt l b w)), place-is w h, e)
-      (sym (take-add (w * 64) 64 b))
+      let e : suc w * longestBlock ≡ w * longestBlock + longestBlock = omega arith in
+      rw (places-append (tab w (blockAt l b)) (blockAt l b w ∷ []), places-tab w (omega arith), append-nil (padded longestBlock (blockAt l b w)), place-is w h, e)
+      (sym (take-add (w * longestBlock) longestBlock b))
 
-  pub lengths-back : padded 8 (lengthsOf (tab W (blockAt l b))) ≡ l
-  lengths-back = rw (lengths-tab W (omega arith)) (padded-is 8 l W (T .eight) (T .few) (T .unused))
+  pub lengths-back : padded queueSize (lengthsOf (tab W (blockAt l b))) ≡ l
+  lengths-back = rw (lengths-tab W (omega arith)) (padded-is queueSize l W (T .eight) (T .few) (T .unused))
 
-  pub blocks-back : padded 512 (places (tab W (blockAt l b))) ≡ b
+  pub blocks-back : padded placesSize (places (tab W (blockAt l b))) ≡ b
   blocks-back =
       rw (places-tab W (omega arith))
-      (padded-is 512 b (W * 64) (T .bytes) (omega arith)
-      (λ k v u. T .clear k u (omega (arith, T .unused (k / 64) (omega arith) (omega arith)))))
+      (padded-is placesSize b (W * longestBlock) (T .bytes) (omega arith)
+      (λ k v u. T .clear k u (omega (arith, T .unused (k / longestBlock) (omega arith) (omega arith)))))
 
 pub pack-view : (e : Endpoint) → Tidy (e .waiting) (e .lengths) (e .blocks) → pack (view e) ≡ e
 unfolding pack view

@@ -1,15 +1,17 @@
--- The record in octets: what the stores leave, and both round trips. Assumes nothing.
+-- The record in octets: what the stores leave, and both round trips.
 use Prim.Native.Nat.{ℕ, _+_, _%_, _≤_, _<_}
 use mathlib.Core.Path.{_≡_, refl, sym, ap, _∙_}
 use mathlib.Core.List.{List, [], _∷_, _++_, append-assoc}
 use native.Mathlib.Omega.{arith}
 use lib.ListN.{length, take, drop, getD, length-append, length-drop, take-append-drop}
 use lib.Seq.{take-at, drop-at, take-add, drop-drop, length-take-le}
+use Rattle.octets.specs.Sizes.{queueSize}
+use Rattle.endpoint.specs.View.{placesSize}
 use Rattle.octets.specs.Octets.{put, bytes, number, field, lay, fields, size, Octets}
 use Rattle.octets.proofs.Octets.{width, octets-take, octets-drop, then-put, Fit, none, one, fields-lay, lay-fields, length-lay}
 use Rattle.endpoint.specs.declared.Endpoint.{Endpoint}
 use Rattle.decide.specs.declared.Numbers.{Numbers}
-use Rattle.endpoint.specs.Record.{numbersLayout, encode, decode, Fits}
+use Rattle.endpoint.specs.Record.{acceptedAt, blocksAt, deliveredAt, lengthsAt, localAt, recordSize, remoteAt, waitingAt, numbersLayout, encode, decode, Fits}
 use Rattle.endpoint.specs.Parts.{recordOf, numbersIn}
 
 -- a number written over itself
@@ -24,9 +26,9 @@ put-same d at o h =
 byte : (v : ℕ) → v < 256 → v % 256 ≡ v
 byte v h = omega arith
 
-pub numbers-put : (n : Numbers) (d : List ℕ) → n .state < 256 → n .waiting < 256 → 538 ≤ length d
-    → {a b c f g h : List ℕ} → a ≡ put d 0 (n .state ∷ []) → b ≡ put a 1 (bytes 4 (n .local)) → c ≡ put b 5 (bytes 4 (n .remote))
-    → f ≡ put c 9 (bytes 4 (n .accepted)) → g ≡ put f 13 (bytes 4 (n .delivered)) → h ≡ put g 17 (n .waiting ∷ []) → h ≡ put d 0 (numbersIn n)
+pub numbers-put : (n : Numbers) (d : List ℕ) → n .state < 256 → n .waiting < 256 → recordSize ≤ length d
+    → {a b c f g h : List ℕ} → a ≡ put d 0 (n .state ∷ []) → b ≡ put a localAt (bytes 4 (n .local)) → c ≡ put b remoteAt (bytes 4 (n .remote))
+    → f ≡ put c acceptedAt (bytes 4 (n .accepted)) → g ≡ put f deliveredAt (bytes 4 (n .delivered)) → h ≡ put g waitingAt (n .waiting ∷ []) → h ≡ put d 0 (numbersIn n)
 unfolding numbersIn lay bytes
 numbers-put e d rs rw′ n {a} {b} {c} {f} {g} {h} ea eb ec ef eg eh =
     let p1 : List ℕ = e .state ∷ [] in
@@ -34,26 +36,26 @@ numbers-put e d rs rw′ n {a} {b} {c} {f} {g} {h} ea eb ec ef eg eh =
     let p3 : List ℕ = p2 ++ bytes 4 (e .remote) in
     let p4 : List ℕ = p3 ++ bytes 4 (e .accepted) in
     let p5 : List ℕ = p4 ++ bytes 4 (e .delivered) in
-    let s2 : b ≡ put d 0 p2 = then-put d p1 (bytes 4 (e .local)) 1 refl (omega arith) ea eb in
-    let s3 : c ≡ put d 0 p3 = then-put d p2 (bytes 4 (e .remote)) 5 refl (omega arith) s2 ec in
-    let s4 : f ≡ put d 0 p4 = then-put d p3 (bytes 4 (e .accepted)) 9 refl (omega arith) s3 ef in
-    let s5 : g ≡ put d 0 p5 = then-put d p4 (bytes 4 (e .delivered)) 13 refl (omega arith) s4 eg in
-    let s6 : h ≡ put d 0 (p5 ++ (e .waiting ∷ [])) = then-put d p5 (e .waiting ∷ []) 17 refl (omega arith) s5 eh in
+    let s2 : b ≡ put d 0 p2 = then-put d p1 (bytes 4 (e .local)) localAt refl (omega arith) ea eb in
+    let s3 : c ≡ put d 0 p3 = then-put d p2 (bytes 4 (e .remote)) remoteAt refl (omega arith) s2 ec in
+    let s4 : f ≡ put d 0 p4 = then-put d p3 (bytes 4 (e .accepted)) acceptedAt refl (omega arith) s3 ef in
+    let s5 : g ≡ put d 0 p5 = then-put d p4 (bytes 4 (e .delivered)) deliveredAt refl (omega arith) s4 eg in
+    let s6 : h ≡ put d 0 (p5 ++ (e .waiting ∷ [])) = then-put d p5 (e .waiting ∷ []) waitingAt refl (omega arith) s5 eh in
     rw (byte (e .state) rs, byte (e .waiting) rw′) s6
 
-pub numbers-18 : (n : Numbers) → length (numbersIn n) ≡ 18
+pub numbers-18 : (n : Numbers) → length (numbersIn n) ≡ lengthsAt
 unfolding numbersIn lay bytes
 numbers-18 n = refl
 
 -- the numbers, then the arrays, each at its place
-pub encode-puts : (n : Numbers) (l b d : List ℕ) → length l ≡ 8 → length b ≡ 512 → 538 ≤ length d
-    → {x y z : List ℕ} → x ≡ put d 0 (numbersIn n) → y ≡ put x 18 l → z ≡ put y 26 b → z ≡ put d 0 (encode (recordOf n l b))
+pub encode-puts : (n : Numbers) (l b d : List ℕ) → length l ≡ queueSize → length b ≡ placesSize → recordSize ≤ length d
+    → {x y z : List ℕ} → x ≡ put d 0 (numbersIn n) → y ≡ put x lengthsAt l → z ≡ put y blocksAt b → z ≡ put d 0 (encode (recordOf n l b))
 unfolding encode numbersIn
 encode-puts n l b d l8 l512 h {x} {y} {z} ex ey ez =
     let p = numbersIn n in
-    let sy : y ≡ put d 0 (p ++ l) = then-put d p l 18 (numbers-18 n) (omega arith) ex ey in
-    let l26 : length (p ++ l) ≡ 26 = length-append p l ∙ omega (arith, numbers-18 n) in
-    then-put d (p ++ l) b 26 l26 (omega arith) sy ez ∙ ap (put d 0) (append-assoc p l b)
+    let sy : y ≡ put d 0 (p ++ l) = then-put d p l lengthsAt (numbers-18 n) (omega arith) ex ey in
+    let l26 : length (p ++ l) ≡ blocksAt = length-append p l ∙ omega (arith, numbers-18 n) in
+    then-put d (p ++ l) b blocksAt l26 (omega arith) sy ez ∙ ap (put d 0) (append-assoc p l b)
 
 -- what was laid out is read again
 fit : (e : Endpoint) → Fits e → Fit numbersLayout (e .state ∷ e .local ∷ e .remote ∷ e .accepted ∷ e .delivered ∷ e .waiting ∷ [])
@@ -73,11 +75,11 @@ decode-encode e d r =
     let t = e .lengths ++ (e .blocks ++ d) in
     let whole : encode e ++ d ≡ h ++ t = append-assoc h (e .lengths ++ e .blocks) d ∙ ap (λ (x : List ℕ). h ++ x) (append-assoc (e .lengths) (e .blocks) d) in
     let all : fields 0 numbersLayout (h ++ t) ≡ vs = fields-lay [] t 0 refl (fit e r) in
-    let l : length h ≡ 18 = length-lay (fit e r) in
-    let m : length (h ++ e .lengths) ≡ 26 = length-append h (e .lengths) ∙ omega (arith, l, r .lengths) in
-    let ls : take 8 (drop 18 (h ++ t)) ≡ e .lengths = rw (drop-at h t 18 l) (take-at (e .lengths) (e .blocks ++ d) 8 (r .lengths)) in
-    let bs : take 512 (drop 26 (h ++ t)) ≡ e .blocks =
-    rw (← append-assoc h (e .lengths) (e .blocks ++ d), drop-at (h ++ e .lengths) (e .blocks ++ d) 26 m) (take-at (e .blocks) d 512 (r .blocks)) in
+    let l : length h ≡ lengthsAt = length-lay (fit e r) in
+    let m : length (h ++ e .lengths) ≡ blocksAt = length-append h (e .lengths) ∙ omega (arith, l, r .lengths) in
+    let ls : take queueSize (drop lengthsAt (h ++ t)) ≡ e .lengths = rw (drop-at h t lengthsAt l) (take-at (e .lengths) (e .blocks ++ d) queueSize (r .lengths)) in
+    let bs : take placesSize (drop blocksAt (h ++ t)) ≡ e .blocks =
+    rw (← append-assoc h (e .lengths) (e .blocks ++ d), drop-at (h ++ e .lengths) (e .blocks ++ d) blocksAt m) (take-at (e .blocks) d placesSize (r .blocks)) in
     ap decode whole
     ∙ (λ i. record {
       state = getD (all i) 0 0;
@@ -91,8 +93,8 @@ decode-encode e d r =
     })
 
 -- what was read is laid out again
-pub encode-decode : (s : List ℕ) → Octets s → 538 ≤ length s → encode (decode s) ≡ take 538 s
+pub encode-decode : (s : List ℕ) → Octets s → recordSize ≤ length s → encode (decode s) ≡ take recordSize s
 unfolding decode encode fields size
 encode-decode s o n =
-    ap (λ (x : List ℕ). x ++ (take 8 (drop 18 s) ++ take 512 (drop 26 s))) (lay-fields numbersLayout s 0 (omega arith) o)
-    ∙ sym (take-add 18 520 s ∙ ap (λ (x : List ℕ). take 18 s ++ x) (take-add 8 512 (drop 18 s) ∙ ap (λ (x : List ℕ). take 8 (drop 18 s) ++ take 512 x) (drop-drop 8 18 s)))
+    ap (λ (x : List ℕ). x ++ (take queueSize (drop lengthsAt s) ++ take placesSize (drop blocksAt s))) (lay-fields numbersLayout s 0 (omega arith) o)
+    ∙ sym (take-add lengthsAt (queueSize + placesSize) s ∙ ap (λ (x : List ℕ). take lengthsAt s ++ x) (take-add queueSize placesSize (drop lengthsAt s) ∙ ap (λ (x : List ℕ). take queueSize (drop lengthsAt s) ++ take placesSize x) (drop-drop queueSize lengthsAt s)))

@@ -1,5 +1,4 @@
 -- What a sound struct is known to be, and that soundness means the same of the struct and of the endpoint that it holds.
--- Assumes nothing.
 use Prim.Native.Nat.{ℕ, zero, suc, _+_, _-_, _*_, _/_, _%_, _≤_, _<_}
 use mathlib.Core.Path.{_≡_, refl, sym, _∙_}
 use mathlib.Core.Bool.{Bool, true, false, _&&_}
@@ -10,36 +9,30 @@ use lib.Dec.{leb}
 use lib.ListN.{length, take, drop, getD, length-take, length-drop}
 use lib.Seq.{getD-drop, getD-take}
 use borrow.Author.Tests.{lt-ltb, le-ltb, eq-eqb, eqb-true, leb-true}
+use Rattle.octets.specs.Sizes.{longestBlock, queueSize}
 use Rattle.octets.specs.Test.{when, inRange}
 use Rattle.octets.proofs.Test.{both, joined, within, in-range, if-lt}
 use Rattle.protocol.specs.Endpoint as abstract
-use Rattle.protocol.specs.Endpoint.{sized, allOf}
+use Rattle.protocol.specs.Endpoint.{sized, allOf, numbersSound}
 use Rattle.protocol.proofs.Sound.{sized-append, Sound, sound-so}
 use Rattle.endpoint.specs.declared.Endpoint.{Endpoint}
-use Rattle.endpoint.specs.View.{tab, blockAt, view}
+use Rattle.endpoint.specs.View.{placesSize, tab, blockAt, view}
 use Rattle.endpoint.specs.Sound.{allBelow, zeros, lengthOk, lengthsOk, unusedAt, unusedOk, sound}
-use Rattle.endpoint.specs.Parts.{numbersOk, placeOk}
-use Rattle.endpoint.proofs.Tests.{all-at, all-hold, alike, zeros-at, zeros-of, regroup}
+use Rattle.endpoint.specs.Parts.{placeOk}
+use Rattle.endpoint.proofs.Tests.{all-at, all-hold, alike, zeros-at, zeros-of}
 use Rattle.endpoint.proofs.Packs.{Tidy, length-tab, length-block}
 
 abbrev pub Numbers : Endpoint → Bool
-Numbers e = numbersOk (e .state) (e .local) (e .remote) (e .accepted) (e .delivered) (e .waiting)
+Numbers e = allOf (numbersSound (e .state) (e .local) (e .remote) (e .accepted) (e .delivered) (e .waiting))
 
--- the tests of the numbers, then those of the arrays
-pub parts : (e : Endpoint) → sound e ≡ (Numbers e && (lengthsOk (e .waiting) (e .lengths) && unusedOk (e .lengths) (e .blocks)))
-unfolding sound numbersOk allOf
-parts e =
-    regroup (inRange 0 5 (e .state)) (leb (e .waiting) 8) (leb (e .waiting) (e .accepted)) (lengthsOk (e .waiting) (e .lengths))
-    (unusedOk (e .lengths) (e .blocks)) _
-
-pub numbers-few : (e : Endpoint) → Numbers e ≡ true → e .waiting ≤ 8
-unfolding numbersOk allOf
-numbers-few e h = leb-true (e .waiting) 8 (both (leb (e .waiting) 8) _ (both (inRange 0 5 (e .state)) _ h .1) .0)
+pub numbers-few : (e : Endpoint) → Numbers e ≡ true → e .waiting ≤ queueSize
+unfolding numbersSound allOf
+numbers-few e h = leb-true (e .waiting) queueSize (both (leb (e .waiting) queueSize) _ (both (inRange 0 5 (e .state)) _ h .1) .0)
 
 -- lengths
-waits : (w i x : ℕ) → lengthOk w i x ≡ true → i < w → (1 ≤ x) × (x ≤ 64)
+waits : (w i x : ℕ) → lengthOk w i x ≡ true → i < w → (1 ≤ x) × (x ≤ longestBlock)
 unfolding lengthOk when
-waits w i x h k = within 1 64 x (rw (lt-ltb i w k) at h)
+waits w i x h k = within 1 longestBlock x (rw (lt-ltb i w k) at h)
 
 rests : (w i x : ℕ) → lengthOk w i x ≡ true → w ≤ i → x ≡ 0
 unfolding lengthOk when
@@ -50,43 +43,43 @@ pub by-lt : {A : Type 0} (a b : ℕ) → (a < b → A) → (b ≤ a → A) → A
 by-lt {A} a b h g = if-lt (λ (b : Bool). A) a b {x = true} {y = false} h g
 
 module _ (w : ℕ) (l : List ℕ) (h : lengthsOk w l ≡ true) where
-  length-at : (i : ℕ) → i < 8 → lengthOk w i (getD l i 0) ≡ true
+  length-at : (i : ℕ) → i < queueSize → lengthOk w i (getD l i 0) ≡ true
   unfolding lengthsOk
-  length-at i k = all-at (λ j. lengthOk w j (getD l j 0)) 8 i k h
+  length-at i k = all-at (λ j. lengthOk w j (getD l j 0)) queueSize i k h
 
 -- blocks
-clear-at : (l b : List ℕ) → unusedOk l b ≡ true → (k : ℕ) → k < 512 → getD l (k / 64) 0 ≤ k % 64 → getD b k 0 ≡ 0
+clear-at : (l b : List ℕ) → unusedOk l b ≡ true → (k : ℕ) → k < placesSize → getD l (k / longestBlock) 0 ≤ k % longestBlock → getD b k 0 ≡ 0
 unfolding unusedOk unusedAt
 clear-at l b u k h m =
-    let i = k / 64 in
+    let i = k / longestBlock in
     let n = getD l i 0 in
-    let z = all-at (λ j. zeros (unusedAt l b j)) 8 i (omega arith) u in
-    let at : i * 64 + n + (k % 64 - n) ≡ k = omega arith in
-    let d = drop (i * 64 + n) b in
-    rw at at (sym (getD-drop (i * 64 + n) b (k % 64 - n) 0) ∙ sym (getD-take (64 - n) d (k % 64 - n) 0 (omega arith)) ∙ zeros-at (take (64 - n) d) (k % 64 - n) z)
+    let z = all-at (λ j. zeros (unusedAt l b j)) queueSize i (omega arith) u in
+    let at : i * longestBlock + n + (k % longestBlock - n) ≡ k = omega arith in
+    let d = drop (i * longestBlock + n) b in
+    rw at at (sym (getD-drop (i * longestBlock + n) b (k % longestBlock - n) 0) ∙ sym (getD-take (longestBlock - n) d (k % longestBlock - n) 0 (omega arith)) ∙ zeros-at (take (longestBlock - n) d) (k % longestBlock - n) z)
 
 -- The places where blocks wait, and what is unused after them in one run: the same tests in another order.
-module _ (w : ℕ) (l b : List ℕ) (w8 : w ≤ 8) (l8 : length l ≡ 8) (l512 : length b ≡ 512) where
+module _ (w : ℕ) (l b : List ℕ) (w8 : w ≤ queueSize) (l8 : length l ≡ queueSize) (l512 : length b ≡ placesSize) where
   abbrev Waiting : Bool
   Waiting = allBelow w (placeOk l b)
 
   abbrev After : Bool
-  After = zeros (drop w l) && zeros (drop (w * 64) b)
+  After = zeros (drop w l) && zeros (drop (w * longestBlock) b)
 
   module _ (h : Waiting ≡ true) (k : After ≡ true) where
-    place-at : (i : ℕ) → i < w → (inRange 1 64 (getD l i 0) ≡ true) × (zeros (unusedAt l b i) ≡ true)
+    place-at : (i : ℕ) → i < w → (inRange 1 longestBlock (getD l i 0) ≡ true) × (zeros (unusedAt l b i) ≡ true)
     unfolding placeOk
-    place-at i m = both (inRange 1 64 (getD l i 0)) _ (all-at (placeOk l b) w i m h)
+    place-at i m = both (inRange 1 longestBlock (getD l i 0)) _ (all-at (placeOk l b) w i m h)
 
     no-length : (i : ℕ) → w ≤ i → getD l i 0 ≡ 0
     no-length i m =
         let at : w + (i - w) ≡ i = omega arith in
         rw at at (sym (getD-drop w l (i - w) 0) ∙ zeros-at (drop w l) (i - w) (both (zeros (drop w l)) _ k .0))
 
-    no-octet : (j : ℕ) → w * 64 ≤ j → getD b j 0 ≡ 0
+    no-octet : (j : ℕ) → w * longestBlock ≤ j → getD b j 0 ≡ 0
     no-octet j m =
-        let at : w * 64 + (j - w * 64) ≡ j = omega arith in
-        rw at at (sym (getD-drop (w * 64) b (j - w * 64) 0) ∙ zeros-at (drop (w * 64) b) (j - w * 64) (both (zeros (drop w l)) _ k .1))
+        let at : w * longestBlock + (j - w * longestBlock) ≡ j = omega arith in
+        rw at at (sym (getD-drop (w * longestBlock) b (j - w * longestBlock) 0) ∙ zeros-at (drop (w * longestBlock) b) (j - w * longestBlock) (both (zeros (drop w l)) _ k .1))
 
     lengths-so : (i : ℕ) → lengthOk w i (getD l i 0) ≡ true
     unfolding lengthOk when
@@ -99,30 +92,30 @@ module _ (w : ℕ) (l b : List ℕ) (w8 : w ≤ 8) (l8 : length l ≡ 8) (l512 :
         by-lt i w (λ m. place-at i m .1)
         (λ m.
         let n = getD l i 0 in
-        let d = drop (i * 64 + n) b in
-        zeros-of (take (64 - n) d)
+        let d = drop (i * longestBlock + n) b in
+        zeros-of (take (longestBlock - n) d)
         (λ j v.
-        let v′ : j < 64 - n = omega (arith, length-take (64 - n) d, min-le-left (64 - n) (length d)) in
-        getD-take (64 - n) d j 0 v′ ∙ getD-drop (i * 64 + n) b j 0 ∙ no-octet (i * 64 + n + j) (omega arith)))
+        let v′ : j < longestBlock - n = omega (arith, length-take (longestBlock - n) d, min-le-left (longestBlock - n) (length d)) in
+        getD-take (longestBlock - n) d j 0 v′ ∙ getD-drop (i * longestBlock + n) b j 0 ∙ no-octet (i * longestBlock + n + j) (omega arith)))
 
   module _ (h : lengthsOk w l ≡ true) (k : unusedOk l b ≡ true) where
     waiting-so : (i : ℕ) → i < w → placeOk l b i ≡ true
     unfolding placeOk unusedOk
     waiting-so i m =
         let x = waits w i (getD l i 0) (length-at w l h i (omega arith)) m in
-        joined (in-range 1 64 (getD l i 0) (x .0) (x .1)) (all-at (λ j. zeros (unusedAt l b j)) 8 i (omega arith) k)
+        joined (in-range 1 longestBlock (getD l i 0) (x .0) (x .1)) (all-at (λ j. zeros (unusedAt l b j)) queueSize i (omega arith) k)
 
     after-so : After ≡ true
     after-so =
         joined
         (zeros-of (drop w l)
         (λ j v. getD-drop w l j 0 ∙ rests w (w + j) (getD l (w + j) 0) (length-at w l h (w + j) (omega (arith, length-drop w l))) (omega arith)))
-        (zeros-of (drop (w * 64) b)
+        (zeros-of (drop (w * longestBlock) b)
         (λ j v.
-        let n : w * 64 + j < 512 = omega (arith, length-drop (w * 64) b) in
-        let i = (w * 64 + j) / 64 in
-        getD-drop (w * 64) b j 0
-        ∙ clear-at l b k (w * 64 + j) n (omega (arith, rests w i (getD l i 0) (length-at w l h i (omega arith)) (omega arith)))))
+        let n : w * longestBlock + j < placesSize = omega (arith, length-drop (w * longestBlock) b) in
+        let i = (w * longestBlock + j) / longestBlock in
+        getD-drop (w * longestBlock) b j 0
+        ∙ clear-at l b k (w * longestBlock + j) n (omega (arith, rests w i (getD l i 0) (length-at w l h i (omega arith)) (omega arith)))))
 
   pub in-one-run : (Waiting && After) ≡ (lengthsOk w l && unusedOk l b)
   unfolding lengthsOk unusedOk
@@ -130,22 +123,16 @@ module _ (w : ℕ) (l b : List ℕ) (w8 : w ≤ 8) (l8 : length l ≡ 8) (l512 :
       alike (Waiting && After) (lengthsOk w l && unusedOk l b)
       (λ t.
       let p = both Waiting After t in
-      joined (all-hold (λ i. lengthOk w i (getD l i 0)) 8 (λ i _. lengths-so (p .0) (p .1) i))
-      (all-hold (λ i. zeros (unusedAt l b i)) 8 (λ i _. unused-so (p .0) (p .1) i)))
+      joined (all-hold (λ i. lengthOk w i (getD l i 0)) queueSize (λ i _. lengths-so (p .0) (p .1) i))
+      (all-hold (λ i. zeros (unusedAt l b i)) queueSize (λ i _. unused-so (p .0) (p .1) i)))
       (λ t.
       let p = both (lengthsOk w l) (unusedOk l b) t in
       joined (all-hold (placeOk l b) w (λ i m. waiting-so (p .0) (p .1) i m)) (after-so (p .0) (p .1)))
 
-inserted : (a b c s r : Bool) → (a && (b && (c && r))) ≡ true → s ≡ true → (a && (b && (c && (s && r)))) ≡ true
-inserted a b c s r h k =
-    let x = both a _ h in
-    let y = both b _ (x .1) in
-    let z = both c r (y .1) in
-    joined (x .0) (joined (y .0) (joined (z .0) (joined k (z .1))))
-
-module _ (e : Endpoint) (s : sound e ≡ true) (l8 : length (e .lengths) ≡ 8) (l512 : length (e .blocks) ≡ 512) where
+module _ (e : Endpoint) (s : sound e ≡ true) (l8 : length (e .lengths) ≡ queueSize) (l512 : length (e .blocks) ≡ placesSize) where
   arrays-ok : (Numbers e ≡ true) × ((lengthsOk (e .waiting) (e .lengths) && unusedOk (e .lengths) (e .blocks)) ≡ true)
-  arrays-ok = both (Numbers e) _ (sym (parts e) ∙ s)
+  unfolding sound
+  arrays-ok = both (Numbers e) _ s
 
   lengths-ok : lengthsOk (e .waiting) (e .lengths) ≡ true
   lengths-ok = both (lengthsOk (e .waiting) (e .lengths)) _ (arrays-ok .1) .0
@@ -153,7 +140,7 @@ module _ (e : Endpoint) (s : sound e ≡ true) (l8 : length (e .lengths) ≡ 8) 
   unused-ok : unusedOk (e .lengths) (e .blocks) ≡ true
   unused-ok = both (lengthsOk (e .waiting) (e .lengths)) _ (arrays-ok .1) .1
 
-  few : e .waiting ≤ 8
+  few : e .waiting ≤ queueSize
   few = numbers-few e (arrays-ok .0)
 
   pub tidy : Tidy (e .waiting) (e .lengths) (e .blocks)
@@ -174,14 +161,14 @@ module _ (e : Endpoint) (s : sound e ≡ true) (l8 : length (e .lengths) ≡ 8) 
       let b = blockAt (e .lengths) (e .blocks) w in
       let n = length-block (e .lengths) (e .blocks) (e .waiting) tidy w h in
       sized-append (tab w (blockAt (e .lengths) (e .blocks))) (b ∷ []) (sized-tab w (omega arith))
-      (joined (in-range 1 64 (length b) (rw n (tidy .some w h)) (rw n (tidy .short w h))) refl)
+      (joined (in-range 1 longestBlock (length b) (rw n (tidy .some w h)) (rw n (tidy .short w h))) refl)
 
   -- the endpoint that a sound struct holds is sound
   pub view-sound : abstract.sound (view e) ≡ true
-  unfolding abstract.sound abstract.soundness allOf view numbersOk
+  unfolding abstract.sound view
   view-sound =
       rw (length-tab (e .waiting) (blockAt (e .lengths) (e .blocks)))
-      (inserted (inRange 0 5 (e .state)) (leb (e .waiting) 8) (leb (e .waiting) (e .accepted)) _ _ (arrays-ok .0) (sized-tab (e .waiting) (omega arith)))
+      (joined (arrays-ok .0) (sized-tab (e .waiting) (omega arith)))
 
   pub facts : Sound (view e)
   facts = sound-so (view e) view-sound

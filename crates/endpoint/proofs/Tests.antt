@@ -1,8 +1,8 @@
--- Laws of the tests of soundness. Assumes nothing.
+-- Laws of the tests of soundness.
 use Prim.Native.Nat.{ℕ, zero, suc, _+_, _<_}
 use mathlib.Core.Path.{_≡_, refl, sym, ap, _∙_}
 use mathlib.Core.Logic.{⊎-elim}
-use mathlib.Core.Bool.{Bool, true, false, _&&_, and-true, and-false, and-assoc}
+use mathlib.Core.Bool.{Bool, true, false, _&&_, and-true, and-assoc}
 use mathlib.Core.List.{List, [], _∷_, _++_}
 use native.Mathlib.Nat.{le-of-suc-le-suc, not-suc-le-zero, eq-or-lt-of-le}
 use native.Mathlib.Numerals.{add-one}
@@ -57,16 +57,3 @@ pub zeros-of : (s : List ℕ) → ((i : ℕ) → i < length s → getD s i 0 ≡
 unfolding zeros
 zeros-of [] h = refl
 zeros-of (x ∷ s) h = joined (eq-eqb x 0 (h 0 (omega arith))) (zeros-of s (λ i k. h (suc i) (omega arith)))
-
--- the tests of the numbers first
-swapped : (p r : Bool) → (p && r) ≡ (r && p)
-swapped true true = refl
-swapped true false = refl
-swapped false r = sym (and-false r)
-
-pub regroup : (a b c l p r : Bool) → (a && (b && (c && (l && (p && r))))) ≡ ((a && (b && (c && r))) && (l && p))
-regroup false b c l p r = refl
-regroup true false c l p r = refl
-regroup true true false l p r = refl
-regroup true true true false p r = sym (and-false r)
-regroup true true true true p r = swapped p r

@@ -1,5 +1,5 @@
--- The record in octets, 538 of them: state, L, D, t, e, w (one octet), lengths, blocks.
-use Prim.Native.Nat.{ℕ, _<_, _^_}
+-- The record in octets: state, L, D, t, e, w (one octet), lengths, blocks.
+use Prim.Native.Nat.{ℕ, _+_, _<_, _^_}
 use mathlib.Core.Path.{_≡_}
 use mathlib.Core.List.{List, [], _∷_, _++_}
 use lib.ListN.{length, take, drop}
@@ -8,12 +8,35 @@ use Rattle.octets.specs.Octets.{field, lay}
 use Rattle.endpoint.specs.declared.Endpoint.{Endpoint}
 use Rattle.endpoint.specs.View.{placesSize}
 
-abbrev pub recordSize : ℕ
-recordSize = 538
-
 -- the widths of the numbers
 abbrev pub numbersLayout : List ℕ
 numbersLayout = 1 ∷ 4 ∷ 4 ∷ 4 ∷ 4 ∷ 1 ∷ []
+
+-- where each stands, and the lengths and the blocks after them
+abbrev pub localAt : ℕ
+localAt = 1
+
+abbrev pub remoteAt : ℕ
+remoteAt = localAt + 4
+
+abbrev pub acceptedAt : ℕ
+acceptedAt = remoteAt + 4
+
+abbrev pub deliveredAt : ℕ
+deliveredAt = acceptedAt + 4
+
+abbrev pub waitingAt : ℕ
+waitingAt = deliveredAt + 4
+
+abbrev pub lengthsAt : ℕ
+lengthsAt = waitingAt + 1
+
+abbrev pub blocksAt : ℕ
+blocksAt = lengthsAt + queueSize
+
+-- 538 in all
+abbrev pub recordSize : ℕ
+recordSize = blocksAt + placesSize
 
 unfoldable pub encode : Endpoint → List ℕ
 encode e =
@@ -24,13 +47,13 @@ unfoldable pub decode : List ℕ → Endpoint
 decode s =
     record {
       state = field 1 0 s;
-      local = field 4 1 s;
-      remote = field 4 5 s;
-      accepted = field 4 9 s;
-      delivered = field 4 13 s;
-      waiting = field 1 17 s;
-      lengths = take queueSize (drop 18 s);
-      blocks = take placesSize (drop 26 s);
+      local = field 4 localAt s;
+      remote = field 4 remoteAt s;
+      accepted = field 4 acceptedAt s;
+      delivered = field 4 deliveredAt s;
+      waiting = field 1 waitingAt s;
+      lengths = take queueSize (drop lengthsAt s);
+      blocks = take placesSize (drop blocksAt s);
     }
 
 -- each field has room

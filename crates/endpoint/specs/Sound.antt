@@ -3,10 +3,10 @@ use Prim.Native.Nat.{ℕ, zero, suc, _+_, _-_, _*_}
 use mathlib.Core.Bool.{Bool, true, _&&_}
 use mathlib.Core.List.{List, [], _∷_}
 use lib.ListN.{take, drop, getD}
-use lib.Dec.{ltb, leb, eqb}
+use lib.Dec.{ltb, eqb}
 use Rattle.octets.specs.Sizes.{longestBlock, queueSize}
 use Rattle.octets.specs.Test.{when, inRange}
-use Rattle.protocol.specs.Endpoint.{closed, listening, passiveOpening, established, allOf}
+use Rattle.protocol.specs.Endpoint.{allOf, numbersSound}
 use Rattle.endpoint.specs.declared.Endpoint.{Endpoint}
 
 -- the test holds of each number below n
@@ -33,18 +33,9 @@ unusedAt lengths blocks i = take (longestBlock - getD lengths i 0) (drop (i * lo
 unfoldable pub unusedOk : List ℕ → List ℕ → Bool
 unusedOk lengths blocks = allBelow queueSize (λ i. zeros (unusedAt lengths blocks i))
 
--- A record is sound if its state is 0 to 5, w ≤ 8 and w ≤ t, each waiting length is 1 to 64, what is unused is 0, and: closed
--- and listening have D = 0; L ≥ 1 in all states but closed; D ≥ 1 in states 3, 4, 5; t = w = e = 0 outside open.
+-- A record is sound if its numbers are (its state is 0 to 5, w ≤ 8 and w ≤ t, and what follows of the states), each waiting length is
+-- 1 to 64, and what is unused is 0.
 unfoldable pub sound : Endpoint → Bool
 sound e =
-    allOf
-    (inRange 0 5 (e .state)
-    ∷ leb (e .waiting) queueSize
-    ∷ leb (e .waiting) (e .accepted)
-    ∷ lengthsOk (e .waiting) (e .lengths)
-    ∷ unusedOk (e .lengths) (e .blocks)
-    ∷ when (leb (e .state) listening) (eqb (e .remote) 0) true
-    ∷ when (eqb (e .state) closed) true (leb 1 (e .local))
-    ∷ when (leb passiveOpening (e .state)) (leb 1 (e .remote)) true
-    ∷ when (eqb (e .state) established) true (allOf (eqb (e .accepted) 0 ∷ eqb (e .waiting) 0 ∷ eqb (e .delivered) 0 ∷ []))
-    ∷ [])
+    allOf (numbersSound (e .state) (e .local) (e .remote) (e .accepted) (e .delivered) (e .waiting))
+    && (lengthsOk (e .waiting) (e .lengths) && unusedOk (e .lengths) (e .blocks))

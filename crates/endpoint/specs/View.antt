@@ -7,9 +7,9 @@ use Rattle.frame.specs.Frame.{Block}
 use Rattle.protocol.specs.Endpoint as abstract
 use Rattle.endpoint.specs.declared.Endpoint.{Endpoint}
 
--- the octets of all places
+-- the octets of all places: 512
 abbrev pub placesSize : ℕ
-placesSize = 512
+placesSize = queueSize * longestBlock
 
 -- s, then zeros up to n elements
 unfoldable pub padded : ℕ → List ℕ → List ℕ

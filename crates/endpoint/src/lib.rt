@@ -1,4 +1,4 @@
-// The record of one end of a connection: a struct, question 12, and its 538 octets.
+// The record of one end of a connection: a struct, question 12, and its octets.
 use decide::CLOSED;
 use decide::CLOSING;
 use decide::ESTABLISHED;
@@ -13,10 +13,34 @@ ghost use Rattle.octets.specs.Sizes.{queueSize};
 ghost use Rattle.octets.specs.Test.{when};
 ghost use Rattle.octets.specs.Octets.{put, bytes};
 ghost use Rattle.protocol.specs.Endpoint as abstract;
+ghost use Rattle.protocol.specs.Endpoint.{allOf, numbersSound};
 ghost use Rattle.endpoint.specs.View.{placesSize, pack};
 ghost use Rattle.endpoint.specs.Sound.{zeros, lengthsOk, unusedOk, sound};
 ghost use Rattle.endpoint.specs.Record.{recordSize, encode, decode};
-ghost use Rattle.endpoint.specs.Parts.{numbersOk, placeOk, recordOf, numbersOf, numbersIn};
+ghost use Rattle.endpoint.specs.Parts.{placeOk, recordOf, numbersOf, numbersIn};
+
+// The octets of all places, which are one flat array: 512.
+pub const PLACES_SIZE: usize = octets::QUEUE_SIZE * octets::LONGEST_BLOCK;
+
+// The places of the record in its octets: state, L, D, t, e, w, lengths, blocks.
+const STATE_AT: usize = 0;
+
+const LOCAL_AT: usize = STATE_AT + 1;
+
+const REMOTE_AT: usize = LOCAL_AT + 4;
+
+const ACCEPTED_AT: usize = REMOTE_AT + 4;
+
+const DELIVERED_AT: usize = ACCEPTED_AT + 4;
+
+const WAITING_AT: usize = DELIVERED_AT + 4;
+
+pub const LENGTHS_AT: usize = WAITING_AT + 1;
+
+pub const BLOCKS_AT: usize = LENGTHS_AT + octets::QUEUE_SIZE;
+
+// 538 in all.
+pub const RECORD_SIZE: usize = BLOCKS_AT + PLACES_SIZE;
 
 // Document 01's record of an end: L and D are local and remote, t is accepted, e is delivered, w is waiting.
 pub struct Endpoint {
@@ -26,13 +50,13 @@ pub struct Endpoint {
     pub accepted: u32,
     pub delivered: u32,
     pub waiting: u8,
-    pub lengths: [u8; 8],
-    pub blocks: [u8; 512],
+    pub lengths: [u8; octets::QUEUE_SIZE],
+    pub blocks: [u8; PLACES_SIZE],
 }
 
 impl Endpoint {
     // The most blocks that wait.
-    pub const QUEUE_SIZE: usize = 8;
+    pub const QUEUE_SIZE: usize = octets::QUEUE_SIZE;
 
     pub const LONGEST_BLOCK: usize = octets::LONGEST_BLOCK;
 
@@ -43,19 +67,19 @@ impl Endpoint {
         ensures { λ r. ⌜ r ≡ pack abstract.fresh ⌝ }
     {
         Endpoint {
-            state: 0,
+            state: CLOSED,
             local: 0,
             remote: 0,
             accepted: 0,
             delivered: 0,
             waiting: 0,
-            lengths: [0; 8],
-            blocks: [0; 512],
+            lengths: [0; octets::QUEUE_SIZE],
+            blocks: [0; PLACES_SIZE],
         }
     }
 }
 
-// The octet as a wider number.
+// The same as those of octets, for the crates that still call them here.
 pub fn wide(x: u8) -> usize
     ensures { λ r. ⌜ (r ≡ x) × (r < 256) ⌝ }
 {
@@ -86,7 +110,7 @@ fn numbers_ok(
     delivered: u32,
     waiting: u32,
 ) -> bool
-    ensures { λ r. ⌜ r ≡ numbersOk state local remote accepted delivered waiting ⌝ }
+    ensures { λ r. ⌜ r ≡ allOf (numbersSound state local remote accepted delivered waiting) ⌝ }
 {
     (state <= CLOSING)
         & ((waiting <= Endpoint::QUEUE_SIZE as u32)
@@ -119,7 +143,7 @@ fn place_ok(lengths: &[u8], blocks: &[u8], i: usize) -> bool
     requires { ⌜ (length (now blocks) ≡ placesSize) × ((length (now lengths) ≡ queueSize) × (i < queueSize)) ⌝ }
     ensures { λ r. ⌜ r ≡ placeOk (now (lengths .entry)) (now (blocks .entry)) i ⌝ }
 {
-    let n = wide(lengths[i]);
+    let n = octets::wide(lengths[i]);
     if n < 1 {
         return false;
     }
@@ -156,11 +180,11 @@ pub fn is_sound<'a>(n: Numbers, lengths: &'a [u8], blocks: &'a [u8]) -> bool
         n.remote,
         n.accepted,
         n.delivered,
-        wide32(n.waiting),
+        octets::wide32(n.waiting),
     ) {
         return false;
     }
-    places_ok(wide(n.waiting), lengths, blocks)
+    places_ok(octets::wide(n.waiting), lengths, blocks)
 }
 
 pub fn numbers_of(e: Endpoint) -> Numbers
@@ -176,18 +200,18 @@ pub fn numbers_of(e: Endpoint) -> Numbers
     }
 }
 
-// The numbers of the record in the first 538 octets of s.
+// The numbers of the record at the start of s.
 pub fn load_numbers(s: &[u8]) -> Numbers
     requires { ⌜ recordSize ≤ length (now s) ⌝ }
     ensures { λ r. ⌜ r ≡ numbersOf (decode (now (s .entry))) ⌝ }
 {
     Numbers {
-        state: s[0],
-        local: octets::load32(s, 1),
-        remote: octets::load32(s, 5),
-        accepted: octets::load32(s, 9),
-        delivered: octets::load32(s, 13),
-        waiting: s[17],
+        state: s[STATE_AT],
+        local: octets::load32(s, LOCAL_AT),
+        remote: octets::load32(s, REMOTE_AT),
+        accepted: octets::load32(s, ACCEPTED_AT),
+        delivered: octets::load32(s, DELIVERED_AT),
+        waiting: s[WAITING_AT],
     }
 }
 
@@ -207,22 +231,22 @@ pub fn store_numbers(n: Numbers, out: &mut [u8])
     requires { ⌜ recordSize ≤ length (now out) ⌝ }
     ensures { λ _. ⌜ now (out .exit) ≡ put (now (out .entry)) 0 (numbersIn n) ⌝ }
 {
-    octets::store8(out, 0, n.state);
-    change32(out, 1, n.local);
-    change32(out, 5, n.remote);
-    change32(out, 9, n.accepted);
-    change32(out, 13, n.delivered);
-    octets::store8(out, 17, n.waiting);
+    octets::store8(out, STATE_AT, n.state);
+    change32(out, LOCAL_AT, n.local);
+    change32(out, REMOTE_AT, n.remote);
+    change32(out, ACCEPTED_AT, n.accepted);
+    change32(out, DELIVERED_AT, n.delivered);
+    octets::store8(out, WAITING_AT, n.waiting);
 }
 
-// Writes the record's 538 octets at the start of out. No other octet of out changes.
+// Writes the record's octets at the start of out. No other octet of out changes.
 pub fn encode(e: Endpoint, out: &mut [u8])
     requires { ⌜ recordSize ≤ length (now out) ⌝ }
     ensures { λ _. ⌜ now (out .exit) ≡ put (now (out .entry)) 0 (encode e) ⌝ }
 {
     store_numbers(numbers_of(e), out);
     let lengths = e.lengths;
-    octets::copy(out, 18, &lengths);
+    octets::copy(out, LENGTHS_AT, &lengths);
     let blocks = e.blocks;
-    octets::copy(out, 26, &blocks);
+    octets::copy(out, BLOCKS_AT, &blocks);
 }

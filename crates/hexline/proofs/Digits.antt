@@ -1,4 +1,4 @@
--- Laws of digits and lines. Assumes nothing.
+-- Laws of digits and lines: what each stands for, one octet more, and the way back.
 use Prim.Native.Nat.{ℕ, zero, suc, _+_, _-_, _*_, _/_, _%_, _<_, _≤_}
 use mathlib.Core.Path.{_≡_, refl, sym, ap, ap₂, _∙_}
 use mathlib.Core.Logic.{⊎-elim}
@@ -11,6 +11,7 @@ use lib.Dec.{eqb}
 use borrow.Author.Tests.{eqb-true}
 use lib.Arith.{digits-div, digits-mod}
 use lib.ListN.{length, take, getD}
+use Rattle.octets.specs.Sizes.{longestFrame}
 use Rattle.octets.specs.Test.{inRange}
 use Rattle.octets.specs.Octets.{Octets}
 use Rattle.octets.proofs.Test.{if-lt, lt-yes, lt-no, both, either, within, in-range}
@@ -171,12 +172,12 @@ hex-unhex (suc n) (x ∷ y ∷ l) h t =
 -- what question 1 asks
 pub record Even (n : ℕ) : Type 0 where
   pub least : 2 ≤ n
-  pub most : n ≤ 156
+  pub most : n ≤ 2 * longestFrame
   pub even : n % 2 ≡ 0
 
 pub right-length : (n : ℕ) → lengthOk n ≡ true → Even n
 unfolding lengthOk
 right-length n h =
-    let t = both (inRange 2 156 n) (eqb (n % 2) 0) h in
-    let r = within 2 156 n (t .0) in
+    let t = both (inRange 2 (2 * longestFrame) n) (eqb (n % 2) 0) h in
+    let r = within 2 (2 * longestFrame) n (t .0) in
     record { least = r .0; most = r .1; even = eqb-true (n % 2) 0 (t .1) }

@@ -1,4 +1,4 @@
--- A written line reads as its octets; a readable line, written again, is the same line; the edges. Assumes nothing.
+-- A written line reads as its octets; a readable line, written again, is the same line; the edges.
 use Prim.Native.Nat.{ℕ, _*_, _/_, _%_, _≤_}
 use mathlib.Core.Path.{_≡_, refl, sym, ap, _∙_}
 use mathlib.Core.Bool.{true}
@@ -6,18 +6,19 @@ use mathlib.Core.List.{List, [], _∷_}
 use native.Mathlib.Omega.{arith}
 use borrow.Author.Tests.{eq-eqb}
 use lib.ListN.{length, replicate}
+use Rattle.octets.specs.Sizes.{longestFrame}
 use Rattle.octets.specs.Test.{inRange, first, when, outcome, ok}
 use Rattle.octets.specs.Octets.{Octets}
 use Rattle.octets.proofs.Test.{accepted, all-yes, in-range}
 use Rattle.hexline.specs.Line.{isDigit, hex, unhex, all, lengthOk, lineQuestions, readLine}
 use Rattle.hexline.proofs.Digits.{right-length, length-hex, hex-digits, unhex-hex, hex-unhex}
 
-even-length : (n : ℕ) → 1 ≤ n → n ≤ 78 → lengthOk (2 * n) ≡ true
+even-length : (n : ℕ) → 1 ≤ n → n ≤ longestFrame → lengthOk (2 * n) ≡ true
 unfolding lengthOk
-even-length n h g = rw (in-range 2 156 (2 * n) (omega arith) (omega arith)) (eq-eqb (2 * n % 2) 0 (omega arith))
+even-length n h g = rw (in-range 2 (2 * longestFrame) (2 * n) (omega arith) (omega arith)) (eq-eqb (2 * n % 2) 0 (omega arith))
 
 -- a written line reads as its octets
-pub written-reads : (s : List ℕ) → Octets s → 1 ≤ length s → length s ≤ 78 → readLine (hex s) ≡ ok s
+pub written-reads : (s : List ℕ) → Octets s → 1 ≤ length s → length s ≤ longestFrame → readLine (hex s) ≡ ok s
 unfolding readLine first when outcome
 written-reads s o h g =
     let e : lengthOk (length (hex s)) ≡ true = ap lengthOk (length-hex s) ∙ even-length (length s) h g in

@@ -1,4 +1,5 @@
 // A line of text and the octets that it stands for.
+use octets::refusal;
 ghost use mathlib.Core.Path.{_≡_};
 ghost use mathlib.Core.Bool.{true};
 ghost use Prim.Native.Nat.{_*_, _/_, _%_, _≤_, _<_};
@@ -12,15 +13,18 @@ pub enum Line {
     Refused(u8),
 }
 
+// What a letter's character is more than its number: a stands for ten.
+const LETTERS: u8 = b'a' - 10;
+
 // The digit of a number below 16.
 fn to_digit(n: u8) -> u8
     requires { ⌜ n < 16 ⌝ }
     ensures { λ r. ⌜ r ≡ digit n ⌝ }
 {
     if n < 10 {
-        return 48 + n;
+        return b'0' + n;
     }
-    87 + n
+    LETTERS + n
 }
 
 // Writes the digits of s to the start of out.
@@ -39,7 +43,7 @@ pub fn write(s: &[u8], out: &mut [u8])
 fn is_digit(c: u8) -> bool
     ensures { λ r. ⌜ r ≡ isDigit c ⌝ }
 {
-    ((48 <= c) & (c <= 57)) | ((97 <= c) & (c <= 102))
+    ((b'0' <= c) & (c <= b'9')) | ((b'a' <= c) & (c <= b'f'))
 }
 
 fn all_digits(line: &[u8]) -> bool
@@ -59,10 +63,10 @@ fn to_value(c: u8) -> u8
     requires { ⌜ isDigit c ≡ true ⌝ }
     ensures { λ r. ⌜ (r ≡ value c) × (r < 16) ⌝ }
 {
-    if c < 97 {
-        return c - 48;
+    if c < b'a' {
+        return c - b'0';
     }
-    c - 87
+    c - LETTERS
 }
 
 // Writes the octets that the digits of line stand for to the start of out.
@@ -90,13 +94,13 @@ pub fn read(line: &[u8], out: &mut [u8]) -> Line
     ensures { λ r. ⌜ (r ≡ lineOf (readInto (now (line .entry)) (now (out .entry)))) × (now (out .exit) ≡ left (readInto (now (line .entry)) (now (out .entry))) (now (out .entry))) ⌝ }
 {
     if out.len() < octets::LONGEST_FRAME {
-        return Line::Refused(11);
+        return Line::Refused(refusal::SHORT_BUFFER);
     }
     if !length_ok(line.len()) {
-        return Line::Refused(1);
+        return Line::Refused(refusal::BAD_LENGTH);
     }
     if !all_digits(line) {
-        return Line::Refused(2);
+        return Line::Refused(refusal::BAD_DIGIT);
     }
     decode(line, out);
     Line::Decoded(line.len() / 2)

@@ -17,7 +17,7 @@ use Rattle.frame.specs.Frame.{DRACK, DATA, Frame}
 use Rattle.frame.specs.Fits.{Fits, control-fits, data-fits, ack-fits}
 use Rattle.frame.specs.Layout.{isFrame}
 use Rattle.frame.specs.Read.{kindOf, countOk, numbersOk, frameAt, readFrame, readRequest}
-use Rattle.frame.proofs.Reading.{control-read, ack-read, data-read}
+use Rattle.frame.proofs.Fits.{read-fits}
 use Rattle.protocol.specs.Table.{Step}
 use Rattle.protocol.specs.Network.{ask, deliver, perform}
 use Rattle.protocol.specs.Network as protocol
@@ -34,7 +34,6 @@ use Rattle.calls.proofs.Lift.{read-sized}
 use Rattle.endpoint.proofs.Sounds.{view-sound}
 use Rattle.endpoint.proofs.Held.{held, pack-sound}
 use Rattle.machine.specs.Calls.{outcomeOf}
-use Rattle.receiving.proofs.Reading.{good, passed, sender-is, quoted-is, number-is}
 
 -- four octets make a number of 32 bits
 pub field-32 : (at : ℕ) (s : List ℕ) → Octets s → at + 4 ≤ length s → field 4 at s ≤ lastNumber
@@ -42,58 +41,11 @@ unfolding Octets
 field-32 at s o h =
     omega (arith, field-one at s (omega arith), field-more 1 at s (omega arith), field-more 2 at s (omega arith), field-more 3 at s (omega arith), o at, o (at + 1), o (at + 2), o (at + 3))
 
-same : {A : Type 0} {x y : A} → ok x ≡ ok y → x ≡ y
-same {A} {x} h = ap value h
-  where
-    value : Outcome A → A
-    value (refused n) = x
-    value (ok z) = z
-
--- a frame that was read fits
-module _ (s : List ℕ) (o : Octets s) {f : Frame} (h : readFrame s ≡ ok f) where
-  control-read-fits : (k : ℕ) → kindOf s ≡ k → 1 ≤ k → k ≤ DRACK → Fits f
-  control-read-fits k e lo hi =
-      let p = passed (eqb (length s) 9) _ 4 (sym (control-read s k e lo hi) ∙ h) in
-      let q = passed (numbersOk k (field 4 1 s) (field 4 5 s) 0) _ 7 (p .1) in
-      let l = eqb-true (length s) 9 (p .0) in
-      subst Fits (same (q .1)) (control-fits k lo hi (sender-is k _ _ _ (q .0)) (field-32 1 s o (omega arith)) (quoted-is k _ _ _ (q .0)) (field-32 5 s o (omega arith)))
-
-  ack-read-fits : kindOf s ≡ 9 → Fits f
-  ack-read-fits e =
-      let p = passed (eqb (length s) 13) _ 4 (sym (ack-read s e) ∙ h) in
-      let q = passed (numbersOk 9 (field 4 1 s) (field 4 5 s) (field 4 9 s)) _ 7 (p .1) in
-      let l = eqb-true (length s) 13 (p .0) in
-      subst Fits (same (q .1))
-      (ack-fits (sender-is 9 _ _ _ (q .0) (λ z. omega arith) (λ z. omega arith)) (field-32 1 s o (omega arith))
-      (quoted-is 9 _ _ _ (q .0) (λ z. omega arith)) (field-32 5 s o (omega arith)) (field-32 9 s o (omega arith)))
-
-  data-read-fits : kindOf s ≡ DATA → Fits f
-  unfolding countOk
-  data-read-fits e =
-      let p = passed (leb 14 (length s)) _ 4 (sym (data-read s e) ∙ h) in
-      let c = passed (countOk (getD s 13 0)) _ 5 (p .1) in
-      let w = passed (eqb (length s) (14 + getD s 13 0)) _ 6 (c .1) in
-      let q = passed (numbersOk 8 (field 4 1 s) (field 4 5 s) (field 4 9 s)) _ 7 (w .1) in
-      let l = leb-true 14 (length s) (p .0) in
-      let m = eqb-true (length s) (14 + getD s 13 0) (w .0) in
-      let n = within 1 64 (getD s 13 0) (c .0) in
-      let d = length-drop 14 s in
-      subst Fits (same (q .1))
-      (data-fits (sender-is 8 _ _ _ (q .0) (λ z. omega arith) (λ z. omega arith)) (field-32 1 s o (omega arith))
-      (quoted-is 8 _ _ _ (q .0) (λ z. omega arith)) (field-32 5 s o (omega arith)) (number-is 8 _ _ _ (q .0) refl) (omega arith) (omega arith))
-
-  pub read-fits : Fits f
-  unfolding readFrame isFrame
-  read-fits =
-      let a = accepted _ (frameAt s) h in
-      let r = within 1 9 (kindOf s) (all-yes 3 _ _ (a .0) tt .0) in
-      by-eq (kindOf s) 8 data-read-fits (λ n. by-eq (kindOf s) 9 ack-read-fits (λ m. control-read-fits (kindOf s) refl (r .0) (omega arith)))
-
 -- the parts of an accepted call
 mapped-ok : {A B : Type 0} (f : A → B) (o : Outcome A) (next : B → Outcome Step) {y : Step} → andThen (mapped f o) next ≡ ok y
     → (x : A) × (o ≡ ok x) × (next (f x) ≡ ok y)
 unfolding andThen mapped
-mapped-ok f (refused n) next h = absurd (let z : _≡_ {A = ℕ} 0 1 = ap good h in omega arith)
+mapped-ok f (refused n) next h = absurd (let z : _≡_ {A = ℕ} 0 1 = cc in omega arith)
 mapped-ok f (ok x) next h = (x, refl, h)
 
 -- an accepted call of a sound endpoint performs what its octets say, which was read
@@ -113,7 +65,7 @@ performs : (c : Call) (s : List ℕ) (a : abstract.Endpoint) → InOctets c s �
     → (q : protocol.Call) × Readable q × (perform q a ≡ ok x)
 unfolding does reads
 performs call.Request s a o h = let q = mapped-ok ask (readRequest s) _ h in (ask (q .0), read-sized s (q .0) (q .1), q .2)
-performs call.Receive s a o h = let f = mapped-ok deliver (readFrame s) _ h in (deliver (f .0), read-fits s o (f .1), f .2)
+performs call.Receive s a o h = let f = mapped-ok deliver (readFrame s) _ h in (deliver (f .0), read-fits s (f .1) o, f .2)
 
 pub accepts : (fine : Bool) (a : abstract.Endpoint) (c : Arguments) → InOctets (c .call) (c .octets) → {x : Step} → asked fine a c ≡ ok x → Accepted fine a x
 unfolding asked

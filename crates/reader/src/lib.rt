@@ -1,31 +1,84 @@
 // Reading octets as a frame or a request: questions 3 to 7.
+use frame::ACK;
+use frame::ACK_NUMBERS;
+use frame::CLOSE;
+use frame::CONNECT;
+use frame::CONTROL_NUMBERS;
+use frame::CRAO;
 use frame::Class;
+use frame::DATA;
+use frame::DATA_NUMBERS;
+use frame::DRACK;
+use frame::END_LISTENING;
 use frame::FrameRead;
-use frame::Header;
+use frame::HEAD_SIZE;
 use frame::InputRead;
+use frame::LISTEN;
+use frame::NUMBER;
+use frame::QUOTED;
+use frame::REJ;
 use frame::RequestKind;
 use frame::RequestRead;
+use frame::SEND;
+use frame::SEND_NUMBERS;
+use frame::SENDER;
+use frame::TIMER;
+use octets::refusal;
 ghost use mathlib.Core.Path.{_≡_};
 ghost use mathlib.Core.List.{List};
 ghost use mathlib.Core.Bool.{true};
-ghost use Prim.Native.Nat.{ℕ, _≤_, _<_};
-ghost use Rattle.octets.specs.Test.{mapped};
-ghost use Rattle.frame.specs.Read.{kindOf, countOk, numbersOk, readFrame, readRequest, frame, request, readInput};
-ghost use Rattle.frame.specs.Layout.{isFrame, isRequest};
-ghost use Rattle.frame.specs.Answer.{classOf, frameRead, requestRead, inputRead};
+ghost use Prim.Native.Nat.{ℕ, _≤_};
+ghost use lib.ListN.{length, drop};
+ghost use Rattle.octets.specs.Test.{when, first, refused, ok, mapped};
+ghost use Rattle.frame.specs.Read.{kindOf, numberAt, frameAt, requestAt, countOk, numbersOk, readable, sizeQuestions, readFrameAs, readFrame, readRequestAs, readRequest, frame, request, readInput};
+ghost use Rattle.frame.specs.Layout.{isFrame, isRequest, hasBlock, numbersSize, dataNumbers, sendNumbers};
+ghost use Rattle.frame.specs.Answer.{classOf, requestOf, frameTold, requestTold, frameRead, requestRead, inputRead};
 
+// The largest number of a DATA.
+const LAST_DATA: u32 = octets::LAST_NUMBER - 1;
+
+// What the first octet selects.
 pub fn class_of(s: &[u8]) -> Class
     ensures { λ r. ⌜ r ≡ classOf (kindOf (now (s .entry))) ⌝ }
 {
     if s.len() == 0 {
         return Class::Unknown;
     }
-    let k = s[0];
-    match k {
-        0x01..=0x09 => Class::Frame,
-        0x40..=0x45 => Class::Request,
+    let kind = s[0];
+    match kind {
+        CRAO..=ACK => Class::Frame,
+        CONNECT..=TIMER => Class::Request,
         _ => Class::Unknown,
     }
+}
+
+// What follows is over the kind and the octets after the head.
+fn has_block(kind: u8) -> bool
+    ensures { λ r. ⌜ r ≡ hasBlock kind ⌝ }
+{
+    (kind == DATA) | (kind == SEND)
+}
+
+// The octets of the numbers of a kind.
+fn numbers_size(kind: u8) -> usize
+    ensures { λ r. ⌜ (r ≡ numbersSize kind) × (r ≤ dataNumbers) ⌝ }
+{
+    if kind == DATA {
+        return DATA_NUMBERS;
+    }
+    if kind == ACK {
+        return ACK_NUMBERS;
+    }
+    if kind == SEND {
+        return SEND_NUMBERS;
+    }
+    if kind < CRAO {
+        return 0;
+    }
+    if DRACK < kind {
+        return 0;
+    }
+    CONTROL_NUMBERS
 }
 
 // Question 5.
@@ -35,131 +88,99 @@ fn count_ok(count: u8) -> bool
     (1 <= count) & (count <= octets::LONGEST_BLOCK as u8)
 }
 
+// Questions 4 to 6; 0 where all are answered yes. A block is exactly as many octets as its count says.
+fn size_refusal(kind: u8, rest: &[u8]) -> u8
+    ensures { λ r. ⌜ r ≡ first (sizeQuestions kind (now (rest .entry))) ⌝ }
+{
+    let size = numbers_size(kind);
+    if !has_block(kind) {
+        if rest.len() != size {
+            return refusal::BAD_SIZE;
+        }
+        return 0;
+    }
+    if rest.len() < size {
+        return refusal::BAD_SIZE;
+    }
+    let count = rest[size - 1];
+    if !count_ok(count) {
+        return refusal::BAD_COUNT;
+    }
+    if rest.len() != size + octets::wide(count) {
+        return refusal::BAD_BLOCK;
+    }
+    0
+}
+
 // Question 7.
 fn numbers_ok(kind: u8, sender: u32, quoted: u32, number: u32) -> bool
     ensures { λ r. ⌜ r ≡ numbersOk kind sender quoted number ⌝ }
 {
-    ((1 <= sender) | ((kind == 0x04) | (kind == 0x07)))
-        & (((1 <= quoted) | (kind == 0x01)) & ((number <= 4294967294) | !(kind == 0x08)))
+    ((1 <= sender) | ((kind == REJ) | (kind == DRACK)))
+        & (((1 <= quoted) | (kind == CRAO)) & ((number <= LAST_DATA) | !(kind == DATA)))
 }
 
-fn read_control(s: &[u8], kind: u8) -> FrameRead
-    requires { ⌜ (kindOf (now s) ≡ kind) × ((1 ≤ kind) × (kind ≤ 7)) ⌝ }
-    ensures { λ r. ⌜ frameRead r (now (s .entry)) ≡ readFrame (now (s .entry)) ⌝ }
+// The number of a DATA or the count of an ACK; 0 of a frame that has two numbers only.
+fn number_of(kind: u8, rest: &[u8]) -> u32
+    requires { ⌜ (isFrame kind ≡ true) × (numbersSize kind ≤ length (now rest)) ⌝ }
+    ensures { λ r. ⌜ r ≡ numberAt 2 kind (now (rest .entry)) ⌝ }
 {
-    if s.len() != 9 {
-        return FrameRead::Refused(4);
+    if kind < DATA {
+        return 0;
     }
-    let sender = octets::load32(s, 1);
-    let quoted = octets::load32(s, 5);
-    if !numbers_ok(kind, sender, quoted, 0) {
-        return FrameRead::Refused(7);
-    }
-    FrameRead::Frame(frame::control_header(kind, sender, quoted))
+    octets::load32(rest, NUMBER)
 }
 
-fn read_data(s: &[u8]) -> FrameRead
-    requires { ⌜ kindOf (now s) ≡ 8 ⌝ }
-    ensures { λ r. ⌜ frameRead r (now (s .entry)) ≡ readFrame (now (s .entry)) ⌝ }
+// The frame whose questions 3 to 6 are passed.
+fn frame_of(kind: u8, rest: &[u8]) -> FrameRead
+    requires { ⌜ (isFrame kind ≡ true) × (numbersSize kind ≤ length (now rest)) ⌝ }
+    ensures { λ r. ⌜ frameTold r (drop dataNumbers (now (rest .entry))) ≡ when (readable (frameAt kind (now (rest .entry)))) (ok (frameAt kind (now (rest .entry)))) (refused 7) ⌝ }
 {
-    if s.len() < 14 {
-        return FrameRead::Refused(4);
+    let sender = octets::load32(rest, SENDER);
+    let quoted = octets::load32(rest, QUOTED);
+    let number = number_of(kind, rest);
+    if !numbers_ok(kind, sender, quoted, number) {
+        return FrameRead::Refused(refusal::BAD_NUMBER);
     }
-    let count = s[13];
-    if !count_ok(count) {
-        return FrameRead::Refused(5);
-    }
-    if s.len() != 14 + wide(count) {
-        return FrameRead::Refused(6);
-    }
-    let sender = octets::load32(s, 1);
-    let quoted = octets::load32(s, 5);
-    let number = octets::load32(s, 9);
-    if !numbers_ok(0x08, sender, quoted, number) {
-        return FrameRead::Refused(7);
-    }
-    FrameRead::Frame(Header::Data {
-        sender,
-        quoted,
-        number,
-    })
-}
-
-fn read_ack(s: &[u8]) -> FrameRead
-    requires { ⌜ kindOf (now s) ≡ 9 ⌝ }
-    ensures { λ r. ⌜ frameRead r (now (s .entry)) ≡ readFrame (now (s .entry)) ⌝ }
-{
-    if s.len() != 13 {
-        return FrameRead::Refused(4);
-    }
-    let sender = octets::load32(s, 1);
-    let quoted = octets::load32(s, 5);
-    let count = octets::load32(s, 9);
-    if !numbers_ok(0x09, sender, quoted, count) {
-        return FrameRead::Refused(7);
-    }
-    FrameRead::Frame(Header::Ack {
-        sender,
-        quoted,
-        count,
-    })
-}
-
-fn wide(x: u8) -> usize
-    ensures { λ r. ⌜ (r ≡ x) × (r < 256) ⌝ }
-{
-    x as usize
+    FrameRead::Frame(frame::header_of(kind, sender, quoted, number))
 }
 
 // A frame whose kind is known.
-fn known_frame(s: &[u8]) -> FrameRead
-    requires { ⌜ isFrame (kindOf (now s)) ≡ true ⌝ }
-    ensures { λ r. ⌜ frameRead r (now (s .entry)) ≡ readFrame (now (s .entry)) ⌝ }
+fn known_frame(kind: u8, rest: &[u8]) -> FrameRead
+    requires { ⌜ isFrame kind ≡ true ⌝ }
+    ensures { λ r. ⌜ frameTold r (drop dataNumbers (now (rest .entry))) ≡ readFrameAs kind (now (rest .entry)) ⌝ }
 {
-    let kind = s[0];
-    match kind {
-        0x08 => read_data(s),
-        0x09 => read_ack(s),
-        _ => read_control(s, kind),
+    let refusal = size_refusal(kind, rest);
+    if refusal != 0 {
+        return FrameRead::Refused(refusal);
     }
+    frame_of(kind, rest)
 }
 
-fn read_send(s: &[u8]) -> RequestRead
-    requires { ⌜ kindOf (now s) ≡ 68 ⌝ }
-    ensures { λ r. ⌜ requestRead r (now (s .entry)) ≡ readRequest (now (s .entry)) ⌝ }
+fn request_of(kind: u8) -> RequestKind
+    requires { ⌜ isRequest kind ≡ true ⌝ }
+    ensures { λ q. ⌜ ((r : List ℕ) → requestOf q (drop sendNumbers r) ≡ requestAt kind r) ⌝ }
 {
-    if s.len() < 2 {
-        return RequestRead::Refused(4);
+    match kind {
+        CONNECT => RequestKind::Connect,
+        LISTEN => RequestKind::Listen,
+        END_LISTENING => RequestKind::EndListening,
+        CLOSE => RequestKind::Close,
+        SEND => RequestKind::Send,
+        _ => RequestKind::Timer,
     }
-    let count = s[1];
-    if !count_ok(count) {
-        return RequestRead::Refused(5);
-    }
-    if s.len() != 2 + wide(count) {
-        return RequestRead::Refused(6);
-    }
-    RequestRead::Request(RequestKind::Send)
 }
 
 // A request whose kind is known.
-fn known_request(s: &[u8]) -> RequestRead
-    requires { ⌜ isRequest (kindOf (now s)) ≡ true ⌝ }
-    ensures { λ r. ⌜ requestRead r (now (s .entry)) ≡ readRequest (now (s .entry)) ⌝ }
+fn known_request(kind: u8, rest: &[u8]) -> RequestRead
+    requires { ⌜ isRequest kind ≡ true ⌝ }
+    ensures { λ r. ⌜ requestTold r (drop sendNumbers (now (rest .entry))) ≡ readRequestAs kind (now (rest .entry)) ⌝ }
 {
-    let kind = s[0];
-    if kind == 0x44 {
-        return read_send(s);
+    let refusal = size_refusal(kind, rest);
+    if refusal != 0 {
+        return RequestRead::Refused(refusal);
     }
-    if s.len() != 1 {
-        return RequestRead::Refused(4);
-    }
-    match kind {
-        0x40 => RequestRead::Request(RequestKind::Connect),
-        0x41 => RequestRead::Request(RequestKind::Listen),
-        0x42 => RequestRead::Request(RequestKind::EndListening),
-        0x43 => RequestRead::Request(RequestKind::Close),
-        _ => RequestRead::Request(RequestKind::Timer),
-    }
+    RequestRead::Request(request_of(kind))
 }
 
 // Reads any octets as a frame.
@@ -168,9 +189,9 @@ pub fn read_frame(s: &[u8]) -> FrameRead
 {
     let class = class_of(s);
     match class {
-        Class::Frame => known_frame(s),
-        Class::Request => FrameRead::Refused(3),
-        Class::Unknown => FrameRead::Refused(3),
+        Class::Frame => known_frame(s[0], &s[HEAD_SIZE..]),
+        Class::Request => FrameRead::Refused(refusal::UNKNOWN_KIND),
+        Class::Unknown => FrameRead::Refused(refusal::UNKNOWN_KIND),
     }
 }
 
@@ -180,9 +201,9 @@ pub fn read_request(s: &[u8]) -> RequestRead
 {
     let class = class_of(s);
     match class {
-        Class::Frame => RequestRead::Refused(3),
-        Class::Request => known_request(s),
-        Class::Unknown => RequestRead::Refused(3),
+        Class::Frame => RequestRead::Refused(refusal::UNKNOWN_KIND),
+        Class::Request => known_request(s[0], &s[HEAD_SIZE..]),
+        Class::Unknown => RequestRead::Refused(refusal::UNKNOWN_KIND),
     }
 }
 
@@ -206,14 +227,14 @@ pub fn request_input(q: RequestRead) -> InputRead
     }
 }
 
-// Reads any octets as a frame or a request.
+// Reads any octets as a request, or else as a frame.
 pub fn read_input(s: &[u8]) -> InputRead
     ensures { λ r. ⌜ inputRead r (now (s .entry)) ≡ readInput (now (s .entry)) ⌝ }
 {
     let class = class_of(s);
     match class {
-        Class::Frame => frame_input(known_frame(s)),
-        Class::Request => request_input(known_request(s)),
-        Class::Unknown => InputRead::Refused(3),
+        Class::Request => request_input(read_request(s)),
+        Class::Frame => frame_input(read_frame(s)),
+        Class::Unknown => frame_input(read_frame(s)),
     }
 }

@@ -1,4 +1,4 @@
--- What the step table has found where a block is handed up, and where blocks leave. Assumes nothing.
+-- What the step table has found where a block is handed up, and where blocks leave.
 use Prim.Native.Nat.{_-_, _≤_, _<_}
 use mathlib.Core.Path.{_≡_, subst}
 use Rattle.frame.specs.Frame.{DATA, Frame}

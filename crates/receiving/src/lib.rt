@@ -23,7 +23,7 @@ ghost use mathlib.Core.Path.{_≡_};
 ghost use Prim.Native.Nat.{_-_, _≤_, _<_};
 ghost use Rattle.octets.specs.Sizes.{lastNumber};
 ghost use Rattle.octets.specs.Test.{ok};
-ghost use Rattle.frame.specs.Frame.{Block};
+ghost use Rattle.frame.specs.Frame.{Block, DATA};
 ghost use Rattle.protocol.specs.Table.{rule, apply};
 ghost use Rattle.decide.specs.Rows.{carrying, Chosen};
 ghost use Rattle.calls.specs.declared.Call.the-variants.{Receive};
@@ -68,106 +68,60 @@ fn release(n: Numbers, number: u32) -> Plan
     }
 }
 
+fn acknowledge(sender: u32, quoted: u32, count: u32) -> Reply
+    ensures { λ r. ⌜ r ≡ Reply.Frame (Header.Ack sender quoted count) ⌝ }
+{
+    Reply::Frame(Header::Ack {
+        sender,
+        quoted,
+        count,
+    })
+}
+
 // What the row of the step table does that applies to the frame f.
 fn apply(row: Rule, n: Numbers, f: Values) -> Plan
-    requires { ⌜ (n .waiting ≤ n .accepted) × ((f .kind ≡ 8 → f .number < lastNumber) × Chosen rule n f row) ⌝ }
+    requires { ⌜ (n .waiting ≤ n .accepted) × ((f .kind ≡ DATA → f .number < lastNumber) × Chosen rule n f row) ⌝ }
     ensures { λ r. ⌜ ((x b : Block) → Planned n b (λ e. ok (apply row e (carrying f x))) r) ⌝ }
 {
     let sender = n.local;
     let quoted = f.sender;
     let remote = n.remote;
+    let crao = Reply::Frame(Header::Crao { sender, quoted });
+    let crpo = Reply::Frame(Header::Crpo { sender, quoted });
+    let crack = Reply::Frame(Header::Crack { sender, quoted });
+    let confirm = Reply::Frame(Header::Crack {
+        sender,
+        quoted: remote,
+    });
+    let rej = Reply::Frame(Header::Rej { sender, quoted });
+    let reset = Reply::Frame(Header::Reset { sender, quoted });
+    let drack = Reply::Frame(Header::Drack { sender, quoted });
     match row {
         Rule::Ignore => plan::keep(n, NONE, Reply::Nothing),
-        Rule::Refuse => plan::keep(n, NONE, Reply::Frame(Header::Rej { sender, quoted })),
-        Rule::AcceptDisconnect => plan::keep(
-            n,
-            NONE,
-            Reply::Frame(Header::Drack { sender, quoted }),
-        ),
-        Rule::Answer => plan::turn(
-            n,
-            PASSIVE_OPENING,
-            quoted,
-            NONE,
-            Reply::Frame(Header::Crpo { sender, quoted }),
-        ),
-        Rule::Reset => plan::keep(n, NONE, Reply::Frame(Header::Reset { sender, quoted })),
-        Rule::OpenAndConfirm => plan::turn(
-            n,
-            ESTABLISHED,
-            quoted,
-            CONNECTED,
-            Reply::Frame(Header::Crack { sender, quoted }),
-        ),
-        Rule::CallAgain => plan::turn(
-            n,
-            ACTIVE_OPENING,
-            quoted,
-            NONE,
-            Reply::Frame(Header::Crao { sender, quoted }),
-        ),
+        Rule::Refuse => plan::keep(n, NONE, rej),
+        Rule::AcceptDisconnect => plan::keep(n, NONE, drack),
+        Rule::Answer => plan::turn(n, PASSIVE_OPENING, quoted, NONE, crpo),
+        Rule::Reset => plan::keep(n, NONE, reset),
+        Rule::OpenAndConfirm => plan::turn(n, ESTABLISHED, quoted, CONNECTED, crack),
+        Rule::CallAgain => plan::turn(n, ACTIVE_OPENING, quoted, NONE, crao),
         Rule::Open => plan::turn(n, ESTABLISHED, quoted, CONNECTED, Reply::Nothing),
         Rule::Rejected => plan::turn(n, CLOSED, 0, REJECTED, Reply::Nothing),
-        Rule::RejectedByDisconnect => plan::turn(
-            n,
-            CLOSED,
-            0,
-            REJECTED,
-            Reply::Frame(Header::Drack { sender, quoted }),
-        ),
+        Rule::RejectedByDisconnect => plan::turn(n, CLOSED, 0, REJECTED, drack),
         Rule::ListenAgain => plan::turn(n, LISTENING, 0, NONE, Reply::Nothing),
-        Rule::ClosedByPartner => plan::turn(
-            n,
-            CLOSED,
-            0,
-            CLOSED_BY_PARTNER,
-            Reply::Frame(Header::Drack { sender, quoted }),
-        ),
-        Rule::Confirm => plan::keep(
-            n,
-            NONE,
-            Reply::Frame(Header::Crack {
-                sender,
-                quoted: remote,
-            }),
-        ),
+        Rule::ClosedByPartner => plan::turn(n, CLOSED, 0, CLOSED_BY_PARTNER, drack),
+        Rule::Confirm => plan::keep(n, NONE, confirm),
         Rule::HandUp => {
             let count = n.delivered + 1;
-            plan::keep(
-                deliver(n),
-                HANDED_UP,
-                Reply::Frame(Header::Ack {
-                    sender,
-                    quoted: remote,
-                    count,
-                }),
-            )
+            plan::keep(deliver(n), HANDED_UP, acknowledge(sender, remote, count))
         }
-        Rule::Acknowledge => {
-            let count = n.delivered;
-            plan::keep(
-                n,
-                NONE,
-                Reply::Frame(Header::Ack {
-                    sender,
-                    quoted: remote,
-                    count,
-                }),
-            )
-        }
+        Rule::Acknowledge => plan::keep(n, NONE, acknowledge(sender, remote, n.delivered)),
         Rule::Release => release(n, f.number),
-        Rule::FinishedByDisconnect => plan::turn(
-            n,
-            CLOSED,
-            0,
-            CLOSE_FINISHED,
-            Reply::Frame(Header::Drack { sender, quoted }),
-        ),
+        Rule::FinishedByDisconnect => plan::turn(n, CLOSED, 0, CLOSE_FINISHED, drack),
         Rule::Finished => plan::turn(n, CLOSED, 0, CLOSE_FINISHED, Reply::Nothing),
     }
 }
 
-// Receiving: s has the frame's octets. The block of notice 5 is octets 14 on of s.
+// Receiving: s has the frame's octets. The block of notice 5 stands at frame::DATA_BLOCK_AT of s.
 pub fn receive(n: Numbers, s: &[u8]) -> Plan
     requires { ⌜ n .waiting ≤ n .accepted ⌝ }
     ensures { λ r. ⌜ ((b : Block) → Planned n b (does Receive (now (s .entry))) r) ⌝ }

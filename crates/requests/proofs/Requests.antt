@@ -1,86 +1,51 @@
--- What the requests answer, a question at a time. Assumes nothing.
-use Prim.Native.Nat.{ℕ, suc, _-_, _≤_, _<_}
-use mathlib.Core.Path.{_≡_, refl, ap, _∙_}
+-- What the requests answer, a question at a time.
+use Prim.Native.Nat.{ℕ, _-_, _≤_, _<_}
+use mathlib.Core.Path.{_≡_, refl, sym, ap, _∙_}
 use mathlib.Core.Logic.{_≢_}
-use mathlib.Core.Bool.{Bool, true, false}
+use mathlib.Core.Bool.{Bool}
 use mathlib.Core.List.{List, [], _∷_}
 use native.Mathlib.Omega.{arith}
-use borrow.Author.Tests.{eq-eqb, ne-eqb, lt-ltb, le-ltb}
+use borrow.Author.Tests.{eq-eqb, ne-eqb, lt-ltb, le-ltb, ltb-true}
 use lib.Dec.{ltb, eqb}
 use lib.ListN.{length}
 use Rattle.octets.specs.Sizes.{lastNumber, queueSize}
-use Rattle.octets.specs.Test.{when, Question, first, refused, ok, outcome}
-use Rattle.octets.proofs.Test.{picks}
-use Rattle.frame.specs.Frame.{Block, Frame, dataFrame, connect, listen, endListening, close, timer, send}
-use Rattle.protocol.specs.Endpoint.{Endpoint, waiting}
+use Rattle.octets.specs.Test.{first, refused, ok, outcome}
+use Rattle.octets.proofs.Test.{picks, no, yes, done, all-yes, refused-of, no-before, all-before}
+use Rattle.frame.specs.Frame.{Block, Frame, Request, dataFrame, endListening, close, timer, send}
+use Rattle.protocol.specs.Endpoint.{listening, established, Endpoint, waiting}
 use Rattle.protocol.specs.Table.{none, Sent, nothing, frame, quiet, says}
-use Rattle.protocol.specs.Requests.{questions, refusal, accept, request, oldest, resent}
+use Rattle.protocol.specs.Requests.{placeLeft, questions, refusal, accept, request, oldest, resent}
 use Rattle.plan.specs.Plan.{Oldest}
 
--- questions, one at a time
-module _ {A : Type 0} (x : A) where
-  no : (n : ℕ) (b : Bool) (qs : List Question) → b ≡ false → outcome (first ((suc n, b) ∷ qs)) x ≡ refused (suc n)
-  unfolding first when outcome
-  no n b qs h = rw h refl
-
-  yes : (n : ℕ) (b : Bool) (qs : List Question) → b ≡ true → outcome (first ((n, b) ∷ qs)) x ≡ outcome (first qs) x
-  unfolding first when
-  yes n b qs h = rw h refl
-
-  done : outcome (first []) x ≡ ok x
-  unfolding first outcome
-  done = refl
+-- where a number is left
+pub left : (b : Bool) (n : ℕ) → first ((8, b) ∷ (9, ltb n lastNumber) ∷ []) ≡ 0 → n < lastNumber
+left b n h = ltb-true n lastNumber (all-yes 9 _ _ (all-yes 8 _ _ h tt .1) tt .0)
 
 module _ (a : Endpoint) where
-  pub connect-8 : a .state ≢ 0 → request connect a ≡ refused 8
-  unfolding request refusal questions
-  connect-8 h = no (accept connect a) 7 (eqb (a .state) 0) _ (ne-eqb (a .state) 0 h)
+  -- a request whose questions are answered
+  pub refused-by : (r : Request) {n : ℕ} → n ≡ refusal r a → n ≢ 0 → request r a ≡ refused n
+  unfolding request
+  refused-by r {n} e h = ap (λ (m : ℕ). outcome m (accept r a)) (sym e) ∙ refused-of (accept r a) n h
 
-  pub connect-9 : a .state ≡ 0 → lastNumber ≤ a .local → request connect a ≡ refused 9
-  unfolding request refusal questions
-  connect-9 h k =
-      yes (accept connect a) 8 (eqb (a .state) 0) _ (eq-eqb (a .state) 0 h)
-      ∙ no (accept connect a) 8 (ltb (a .local) lastNumber) _ (le-ltb (a .local) lastNumber k)
+  pub allowed : (r : Request) → refusal r a ≡ 0 → request r a ≡ ok (accept r a)
+  unfolding request outcome
+  allowed r e = rw e refl
 
-  pub connect-0 : a .state ≡ 0 → a .local < lastNumber → request connect a ≡ ok (accept connect a)
+  pub end-listening-8 : a .state ≢ listening → request endListening a ≡ refused 8
   unfolding request refusal questions
-  connect-0 h k =
-      yes (accept connect a) 8 (eqb (a .state) 0) _ (eq-eqb (a .state) 0 h)
-      ∙ yes (accept connect a) 9 (ltb (a .local) lastNumber) _ (lt-ltb (a .local) lastNumber k)
-      ∙ done (accept connect a)
+  end-listening-8 h = no (accept endListening a) 7 (eqb (a .state) listening) _ (ne-eqb (a .state) listening h)
 
-  pub listen-8 : a .state ≢ 0 → request listen a ≡ refused 8
+  pub end-listening-0 : a .state ≡ listening → request endListening a ≡ ok (accept endListening a)
   unfolding request refusal questions
-  listen-8 h = no (accept listen a) 7 (eqb (a .state) 0) _ (ne-eqb (a .state) 0 h)
+  end-listening-0 h = yes (accept endListening a) 8 (eqb (a .state) listening) _ (eq-eqb (a .state) listening h) ∙ done (accept endListening a)
 
-  pub listen-9 : a .state ≡ 0 → lastNumber ≤ a .local → request listen a ≡ refused 9
+  pub close-8 : a .state ≢ established → request close a ≡ refused 8
   unfolding request refusal questions
-  listen-9 h k =
-      yes (accept listen a) 8 (eqb (a .state) 0) _ (eq-eqb (a .state) 0 h)
-      ∙ no (accept listen a) 8 (ltb (a .local) lastNumber) _ (le-ltb (a .local) lastNumber k)
+  close-8 h = no (accept close a) 7 (eqb (a .state) established) _ (ne-eqb (a .state) established h)
 
-  pub listen-0 : a .state ≡ 0 → a .local < lastNumber → request listen a ≡ ok (accept listen a)
+  pub close-0 : a .state ≡ established → request close a ≡ ok (accept close a)
   unfolding request refusal questions
-  listen-0 h k =
-      yes (accept listen a) 8 (eqb (a .state) 0) _ (eq-eqb (a .state) 0 h)
-      ∙ yes (accept listen a) 9 (ltb (a .local) lastNumber) _ (lt-ltb (a .local) lastNumber k)
-      ∙ done (accept listen a)
-
-  pub end-listening-8 : a .state ≢ 1 → request endListening a ≡ refused 8
-  unfolding request refusal questions
-  end-listening-8 h = no (accept endListening a) 7 (eqb (a .state) 1) _ (ne-eqb (a .state) 1 h)
-
-  pub end-listening-0 : a .state ≡ 1 → request endListening a ≡ ok (accept endListening a)
-  unfolding request refusal questions
-  end-listening-0 h = yes (accept endListening a) 8 (eqb (a .state) 1) _ (eq-eqb (a .state) 1 h) ∙ done (accept endListening a)
-
-  pub close-8 : a .state ≢ 4 → request close a ≡ refused 8
-  unfolding request refusal questions
-  close-8 h = no (accept close a) 7 (eqb (a .state) 4) _ (ne-eqb (a .state) 4 h)
-
-  pub close-0 : a .state ≡ 4 → request close a ≡ ok (accept close a)
-  unfolding request refusal questions
-  close-0 h = yes (accept close a) 8 (eqb (a .state) 4) _ (eq-eqb (a .state) 4 h) ∙ done (accept close a)
+  close-0 h = yes (accept close a) 8 (eqb (a .state) established) _ (eq-eqb (a .state) established h) ∙ done (accept close a)
 
   pub timer-0 : request timer a ≡ ok (accept timer a)
   unfolding request refusal questions
@@ -94,7 +59,7 @@ module _ (a : Endpoint) where
   unfolding accept
   timer-quiet h = timer-0 ∙ ap (λ (x : Sent). ok (record { endpoint = a; indication = none; sent = x })) h
 
-  pub resent-oldest : a .state ≡ 4 → resent a ≡ oldest a (a .queue)
+  pub resent-oldest : a .state ≡ established → resent a ≡ oldest a (a .queue)
   unfolding resent
   resent-oldest h =
       let two : a .state ≢ 2 = λ z. omega arith in
@@ -102,30 +67,20 @@ module _ (a : Endpoint) where
       search picks
 
   module _ (b : Block) where
-    pub send-8 : a .state ≢ 4 → request (send b) a ≡ refused 8
+    pub send-refused : {n : ℕ} → n ≡ first ((8, eqb (a .state) established) ∷ (9, ltb (a .accepted) lastNumber) ∷ []) → n ≢ 0 → request (send b) a ≡ refused n
     unfolding request refusal questions
-    send-8 h = no (accept (send b) a) 7 (eqb (a .state) 4) _ (ne-eqb (a .state) 4 h)
+    send-refused e h = no-before (accept (send b) a) ((8, eqb (a .state) established) ∷ (9, ltb (a .accepted) lastNumber) ∷ []) _ e h
 
-    pub send-9 : a .state ≡ 4 → lastNumber ≤ a .accepted → request (send b) a ≡ refused 9
-    unfolding request refusal questions
-    send-9 h k =
-        yes (accept (send b) a) 8 (eqb (a .state) 4) _ (eq-eqb (a .state) 4 h)
-        ∙ no (accept (send b) a) 8 (ltb (a .accepted) lastNumber) _ (le-ltb (a .accepted) lastNumber k)
+    module _ (h : first ((8, eqb (a .state) established) ∷ (9, ltb (a .accepted) lastNumber) ∷ []) ≡ 0) where
+      tenth : request (send b) a ≡ outcome (first (placeLeft a ∷ [])) (accept (send b) a)
+      unfolding request refusal questions
+      tenth = ap (λ (n : ℕ). outcome n (accept (send b) a)) (all-before ((8, eqb (a .state) established) ∷ (9, ltb (a .accepted) lastNumber) ∷ []) _ (tt, (tt, tt)) h)
 
-    pub send-10 : a .state ≡ 4 → a .accepted < lastNumber → queueSize ≤ waiting a → request (send b) a ≡ refused 10
-    unfolding request refusal questions
-    send-10 h k m =
-        yes (accept (send b) a) 8 (eqb (a .state) 4) _ (eq-eqb (a .state) 4 h)
-        ∙ yes (accept (send b) a) 9 (ltb (a .accepted) lastNumber) _ (lt-ltb (a .accepted) lastNumber k)
-        ∙ no (accept (send b) a) 9 (ltb (waiting a) queueSize) _ (le-ltb (waiting a) queueSize m)
+      pub send-10 : queueSize ≤ waiting a → request (send b) a ≡ refused 10
+      send-10 m = tenth ∙ no (accept (send b) a) 9 (ltb (waiting a) queueSize) _ (le-ltb (waiting a) queueSize m)
 
-    pub send-0 : a .state ≡ 4 → a .accepted < lastNumber → waiting a < queueSize → request (send b) a ≡ ok (accept (send b) a)
-    unfolding request refusal questions
-    send-0 h k m =
-        yes (accept (send b) a) 8 (eqb (a .state) 4) _ (eq-eqb (a .state) 4 h)
-        ∙ yes (accept (send b) a) 9 (ltb (a .accepted) lastNumber) _ (lt-ltb (a .accepted) lastNumber k)
-        ∙ yes (accept (send b) a) 10 (ltb (waiting a) queueSize) _ (lt-ltb (waiting a) queueSize m)
-        ∙ done (accept (send b) a)
+      pub send-0 : waiting a < queueSize → request (send b) a ≡ ok (accept (send b) a)
+      send-0 m = tenth ∙ yes (accept (send b) a) 10 (ltb (waiting a) queueSize) _ (lt-ltb (waiting a) queueSize m) ∙ done (accept (send b) a)
 
 -- the DATA of the oldest waiting block
 module _ (a : Endpoint) where

@@ -9,16 +9,22 @@ use decide::PASSIVE_OPENING;
 use frame::Header;
 use frame::RequestKind;
 use frame::RequestRead;
+use octets::LAST_NUMBER;
+use octets::refusal;
 use plan::ACCEPTED;
 use plan::NONE;
 use plan::Plan;
 use plan::Queue;
 use plan::Reply;
 ghost use mathlib.Core.Path.{_≡_};
-ghost use Prim.Native.Nat.{_-_, _≤_, _<_};
+ghost use Prim.Native.Nat.{_≤_, _<_};
+ghost use mathlib.Core.List.{[], _∷_};
+ghost use lib.Dec.{ltb, eqb};
 ghost use lib.ListN.{length, drop};
 ghost use Rattle.octets.specs.Sizes.{longestBlock, lastNumber};
+ghost use Rattle.octets.specs.Test.{first};
 ghost use Rattle.frame.specs.Frame.{Block, connect, listen, endListening, close, timer, send};
+ghost use Rattle.frame.specs.Layout.{sendBlockAt};
 ghost use Rattle.frame.specs.Answer.{requestOf};
 ghost use Rattle.protocol.specs.Requests.{request};
 ghost use Rattle.protocol.specs.Network.{ask};
@@ -28,11 +34,21 @@ ghost use Rattle.calls.specs.Calls.{does};
 ghost use Rattle.plan.specs.Plan.{Planned};
 ghost use Rattle.plan.specs.Parts.{beginning};
 
-// The largest number of 32 bits: after it none is left.
-const LAST_NUMBER: u32 = 4294967295;
-
 // The most blocks that wait.
-const QUEUE_SIZE: u8 = 8;
+const QUEUE_SIZE: u8 = octets::QUEUE_SIZE as u8;
+
+// Questions 8 and 9 of a request that one state allows and that takes the next of some numbers; 0 where both are answered yes.
+fn refusal_of(n: Numbers, allowed: u8, number: u32) -> u8
+    ensures { λ r. ⌜ r ≡ first ((8, eqb (n .state) allowed) ∷ (9, ltb number lastNumber) ∷ []) ⌝ }
+{
+    if n.state != allowed {
+        return refusal::WRONG_STATE;
+    }
+    if number >= LAST_NUMBER {
+        return refusal::NO_NUMBER_LEFT;
+    }
+    0
+}
 
 // The next incarnation in this state, with no partner known.
 fn begin(n: Numbers, state: u8, reply: Reply) -> Plan
@@ -58,11 +74,9 @@ fn begin(n: Numbers, state: u8, reply: Reply) -> Plan
 fn connect(n: Numbers) -> Plan
     ensures { λ r. ⌜ ((b : Block) → Planned n b (request connect) r) ⌝ }
 {
-    if n.state != CLOSED {
-        return plan::refuse(n, 8);
-    }
-    if n.local >= LAST_NUMBER {
-        return plan::refuse(n, 9);
+    let refusal = refusal_of(n, CLOSED, n.local);
+    if refusal != 0 {
+        return plan::refuse(n, refusal);
     }
     begin(
         n,
@@ -77,11 +91,9 @@ fn connect(n: Numbers) -> Plan
 fn listen(n: Numbers) -> Plan
     ensures { λ r. ⌜ ((b : Block) → Planned n b (request listen) r) ⌝ }
 {
-    if n.state != CLOSED {
-        return plan::refuse(n, 8);
-    }
-    if n.local >= LAST_NUMBER {
-        return plan::refuse(n, 9);
+    let refusal = refusal_of(n, CLOSED, n.local);
+    if refusal != 0 {
+        return plan::refuse(n, refusal);
     }
     begin(n, LISTENING, Reply::Nothing)
 }
@@ -90,7 +102,7 @@ fn end_listening(n: Numbers) -> Plan
     ensures { λ r. ⌜ ((b : Block) → Planned n b (request endListening) r) ⌝ }
 {
     if n.state != LISTENING {
-        return plan::refuse(n, 8);
+        return plan::refuse(n, refusal::WRONG_STATE);
     }
     plan::turn(n, CLOSED, 0, NONE, Reply::Nothing)
 }
@@ -99,7 +111,7 @@ fn close(n: Numbers) -> Plan
     ensures { λ r. ⌜ ((b : Block) → Planned n b (request close) r) ⌝ }
 {
     if n.state != ESTABLISHED {
-        return plan::refuse(n, 8);
+        return plan::refuse(n, refusal::WRONG_STATE);
     }
     let sender = n.local;
     let quoted = n.remote;
@@ -111,14 +123,12 @@ fn close(n: Numbers) -> Plan
 fn send(n: Numbers) -> Plan
     ensures { λ r. ⌜ ((b : Block) → 1 ≤ length b → length b ≤ longestBlock → Planned n b (request (send b)) r) ⌝ }
 {
-    if n.state != ESTABLISHED {
-        return plan::refuse(n, 8);
-    }
-    if n.accepted >= LAST_NUMBER {
-        return plan::refuse(n, 9);
+    let refusal = refusal_of(n, ESTABLISHED, n.accepted);
+    if refusal != 0 {
+        return plan::refuse(n, refusal);
     }
     if n.waiting >= QUEUE_SIZE {
-        return plan::refuse(n, 10);
+        return plan::refuse(n, refusal::QUEUE_FULL);
     }
     Plan {
         number: ACCEPTED,
@@ -192,7 +202,7 @@ fn ask(kind: RequestKind, n: Numbers) -> Plan
 // A request of the endpoint's user, or the timer call: s has the request's octets.
 pub fn request(n: Numbers, s: &[u8]) -> Plan
     requires { ⌜ n .waiting ≤ n .accepted ⌝ }
-    ensures { λ r. ⌜ Planned n (drop 2 (now (s .entry))) (does Request (now (s .entry))) r ⌝ }
+    ensures { λ r. ⌜ Planned n (drop sendBlockAt (now (s .entry))) (does Request (now (s .entry))) r ⌝ }
 {
     let read = reader::read_request(s);
     match read {

@@ -3,6 +3,7 @@ use mathlib.Core.Path.{refl, sym, ap, _∙_}
 use lib.ListN.{length, drop}
 use denote.Ref.{now}
 use Rattle.octets.specs.Test.{numberOf}
+use Rattle.frame.specs.Layout.{dataBlockAt, sendBlockAt}
 use Rattle.frame.specs.Answer.{inputRead, valuesOf}
 use Rattle.frame.specs.declared.Values.{Values}
 use Rattle.frame.specs.declared.InputRead.{InputRead}
@@ -20,7 +21,7 @@ returns c =
     let s = now (a .s) in
     let h = c .before .before .before .read .given in
     let e = sym (c .before .before .before .before .before .read-known .ensures) ∙ ap (λ (r : InputRead). inputRead r s) (h .1) in
-    let v = c .before .values-of .ensures (drop 14 s) in
+    let v = c .before .values-of .ensures (drop dataBlockAt s) in
     let k = ap (λ (x : Values). length (blockAfter (x .kind) s)) v in
     rw e (refl, (v, tells s _ (now (a .block)) refl (frame-block _ s) (c .block-length .ensures ∙ k)))
 
@@ -30,7 +31,7 @@ returns-2 c =
     let a = c .before .before .before .before .before .before .before .args in
     let s = now (a .s) in
     let e = sym (c .before .before .before .before .before .read-known .ensures) ∙ ap (λ (r : InputRead). inputRead r s) (c .before .before .before .read2 .given .1) in
-    let q = c .before .request-number .ensures (drop 2 s) in
+    let q = c .before .request-number .ensures (drop sendBlockAt s) in
     let k = ap (λ (n : ℕ). length (blockAfter n s)) q in
     rw e (refl, ((λ i. record { kind = q i; sender = 0; quoted = 0; number = 0 }), tells s _ (now (a .block)) refl (request-block _ s) (c .block-length2 .ensures ∙ k)))
 

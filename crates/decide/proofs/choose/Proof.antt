@@ -1,49 +1,29 @@
-use Rattle.protocol.specs.Table.{rule}
-use Rattle.octets.proofs.Test.{picks}
+use Rattle.octets.specs.Test.{when, ifEq, ifLt}
 use borrow.Author.Needs.{needs}
+use borrow.Author.Tests.{ne-eqb, le-ltb, lt-ltb}
+use mathlib.Core.Path.{_≡_, refl}
+use native.Mathlib.Omega.{arith}
+use Rattle.protocol.specs.Endpoint.{closed, listening, activeOpening, passiveOpening, established, closing}
+use Rattle.protocol.specs.Table.{rule}
 use Rattle.decide.proofs.choose.Statement.{statement}
 use Rattle.decide.proofs.choose.Tie as tie
 
-returns-2 : tie.Need-returns-2
-unfolding rule
-returns-2 c = λ q b h. let r = c .when-closed .ensures q b h in search picks
-
-returns-3 : tie.Need-returns-3
-unfolding rule
-returns-3 c = λ q b h. let r = c .when-listening .ensures q b h in search picks
-
-returns-4 : tie.Need-returns-4
-unfolding rule
-returns-4 c = λ q b h. let r = c .when-active .ensures q b h in search picks
-
-returns-5 : tie.Need-returns-5
-unfolding rule
-returns-5 c = λ q b h. let r = c .when-passive .ensures q b h in search picks
-
-returns-6 : tie.Need-returns-6
-unfolding rule
-returns-6 c = λ q b h. let r = c .when-established .ensures q b h in search picks
-
-returns-7 : tie.Need-returns-7
-unfolding rule
-returns-7 c = λ q b h. let r = c .when-closing .ensures q b h in search picks
-
 pub choose-spec : {M : Type 1} → statement M
-unfolding rule
+unfolding rule ifEq ifLt when
 choose-spec =
     tie.close
     (tie.spec
-    (λ c q b h. search picks)
+    (λ c q b h. let a = c .before .args in rw (lt-ltb (a .f .sender) (a .e .remote) (omega arith)) refl)
     (λ c κs. search needs)
-    returns-2
     (λ c κs. search needs)
-    returns-3
     (λ c κs. search needs)
-    returns-4
     (λ c κs. search needs)
-    returns-5
     (λ c κs. search needs)
-    returns-6
     (λ c κs. search needs)
-    returns-7
-    (λ c q b h. search picks))
+    (λ c q b h. let a = c .before .before .before .args in let e : a .e .state ≡ closed = omega arith in rw (le-ltb (a .f .sender) (a .e .remote) (omega arith), e) (rw e at (c .when-closed .ensures q b h)))
+    (λ c q b h. let a = c .before .before .before .args in let e : a .e .state ≡ listening = omega arith in rw (le-ltb (a .f .sender) (a .e .remote) (omega arith), e) (rw e at (c .when-listening .ensures q b h)))
+    (λ c q b h. let a = c .before .before .before .args in let e : a .e .state ≡ activeOpening = omega arith in rw (le-ltb (a .f .sender) (a .e .remote) (omega arith), e) (rw e at (c .when-active .ensures q b h)))
+    (λ c q b h. let a = c .before .before .before .args in let e : a .e .state ≡ passiveOpening = omega arith in rw (le-ltb (a .f .sender) (a .e .remote) (omega arith), e) (rw e at (c .when-passive .ensures q b h)))
+    (λ c q b h. let a = c .before .before .before .args in let e : a .e .state ≡ established = omega arith in rw (le-ltb (a .f .sender) (a .e .remote) (omega arith), e) (rw e at (c .when-established .ensures q b h)))
+    (λ c q b h. let a = c .before .before .before .args in let e : a .e .state ≡ closing = omega arith in rw (le-ltb (a .f .sender) (a .e .remote) (omega arith), e) (rw e at (c .when-closing .ensures q b h)))
+    (λ c q b h. let a = c .before .before .args in rw (le-ltb (a .f .sender) (a .e .remote) (omega arith), ne-eqb (a .e .state) closed (λ z. omega arith), ne-eqb (a .e .state) listening (λ z. omega arith), ne-eqb (a .e .state) activeOpening (λ z. omega arith), ne-eqb (a .e .state) passiveOpening (λ z. omega arith), ne-eqb (a .e .state) established (λ z. omega arith), ne-eqb (a .e .state) closing (λ z. omega arith)) refl))

@@ -1,27 +1,23 @@
-use Rattle.protocol.specs.Table.{openRows}
-use Rattle.octets.proofs.Test.{picks}
+use Rattle.octets.specs.Test.{when, ifEq}
 use borrow.Author.Needs.{needs}
+use borrow.Author.Tests.{ne-eqb}
+use mathlib.Core.Path.{_≡_, refl}
+use native.Mathlib.Omega.{arith}
+use Rattle.frame.specs.Frame.{CRAO, CRPO, DR, DATA, ACK}
+use Rattle.protocol.specs.Table.{openRows}
 use Rattle.decide.proofs.open_rows.Statement.{statement}
 use Rattle.decide.proofs.open_rows.Tie as tie
 
-returns-4 : tie.Need-returns-4
-unfolding openRows
-returns-4 c = λ q b h. let r = c .data-row .ensures q b h in search picks
-
-returns-5 : tie.Need-returns-5
-unfolding openRows
-returns-5 c = λ q b h. let r = c .ack-row .ensures q b h in search picks
-
 pub open-rows-spec : {M : Type 1} → statement M
-unfolding openRows
+unfolding openRows ifEq when
 open-rows-spec =
     tie.close
     (tie.spec
-    (λ c q b h. search picks)
-    (λ c q b h. search picks)
-    (λ c q b h. search picks)
     (λ c κs. search needs)
-    returns-4
     (λ c κs. search needs)
-    returns-5
-    (λ c q b h. search picks))
+    (λ c q b h. let e : c .before .args .f .kind ≡ CRAO = omega arith in rw e refl)
+    (λ c q b h. let e : c .before .args .f .kind ≡ CRPO = omega arith in rw e refl)
+    (λ c q b h. let e : c .before .args .f .kind ≡ DR = omega arith in rw e refl)
+    (λ c q b h. let e : c .before .before .args .f .kind ≡ DATA = omega arith in rw e (rw e at (c .data-row .ensures q b h)))
+    (λ c q b h. let e : c .before .before .args .f .kind ≡ ACK = omega arith in rw e (rw e at (c .ack-row .ensures q b h)))
+    (λ c q b h. let k = c .before .args .f .kind in rw (ne-eqb k CRAO (λ z. omega arith), ne-eqb k CRPO (λ z. omega arith), ne-eqb k DR (λ z. omega arith), ne-eqb k DATA (λ z. omega arith), ne-eqb k ACK (λ z. omega arith)) refl))

@@ -1,6 +1,8 @@
 use mathlib.Core.Path.{_≡_}
 use lib.ListN.{length}
 use denote.Ref.{now}
+use Rattle.octets.specs.Sizes.{queueSize}
+use Rattle.endpoint.specs.View.{placesSize}
 use Rattle.endpoint.specs.Parts.{numbersOf}
 use Rattle.endpoint.proofs.Record.{encode-puts}
 use native.Mathlib.Omega.{arith}
@@ -8,11 +10,8 @@ use borrow.Author.Needs.{needs}
 use Rattle.endpoint.proofs.encode.Statement.{statement}
 use Rattle.endpoint.proofs.encode.Tie as tie
 
-lens : (c : tie.Start) → (length (c .args .e .lengths) ≡ 8) × (length (c .args .e .blocks) ≡ 512)
+lens : (c : tie.Start) → (length (c .args .e .lengths) ≡ queueSize) × (length (c .args .e .blocks) ≡ placesSize)
 lens c = (search needs, search needs)
-
-copy-requires : tie.Need-copy-requires
-copy-requires c κs = omega (arith, lens (c .before .before .before .before .before .before .before .before .before))
 
 copy-requires-2 : tie.Need-copy-requires-2
 copy-requires-2 c κs = omega (arith, lens (c .before .before .before .before .before .before .before .before .before .before .before .before .before .before .before))
@@ -33,7 +32,7 @@ encode-spec =
     (λ c κs. search needs)
     (λ c κs. search needs)
     (λ c. search needs)
-    copy-requires
+    (λ c κs. omega (arith, lens (c .before .before .before .before .before .before .before .before .before)))
     (λ c. search needs)
     copy-requires-2
     (λ c. search needs)

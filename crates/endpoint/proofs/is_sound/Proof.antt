@@ -3,8 +3,9 @@ use mathlib.Core.Bool.{true}
 use denote.Ref.{now}
 use borrow.Author.Tests.{not-true, not-false}
 use Rattle.endpoint.specs.declared.Endpoint.{Endpoint}
+use Rattle.endpoint.specs.Sound.{sound}
 use Rattle.endpoint.specs.Parts.{recordOf}
-use Rattle.endpoint.proofs.Sounds.{Numbers, parts, numbers-few}
+use Rattle.endpoint.proofs.Sounds.{Numbers, numbers-few}
 use native.Mathlib.Omega.{arith}
 use borrow.Author.Needs.{needs}
 use Rattle.endpoint.proofs.is_sound.Statement.{statement}
@@ -20,9 +21,10 @@ numbers-hold c =
     rw (c .before .before .wide32 .ensures .0) at (sym (c .before .numbers-ok .ensures)) ∙ not-false (c .before .numbers-ok .result) (c .if1 .left)
 
 returns : tie.Need-returns
+unfolding sound
 returns c =
     let n = rw (c .before .before .wide32 .ensures .0) at (sym (c .before .numbers-ok .ensures)) ∙ not-true (c .before .numbers-ok .result) (c .if1 .taken) in
-    sym (parts (asked (c .before .before .before .before .before)) ∙ rw n refl)
+    rw n refl
 
 places-ok-requires : tie.Need-places-ok-requires
 places-ok-requires c κs =
@@ -30,9 +32,10 @@ places-ok-requires c κs =
     (s .pre .0, (s .pre .1, omega (arith, numbers-few (asked s) (numbers-hold (c .before)))))
 
 returns-2 : tie.Need-returns-2
+unfolding sound
 returns-2 c =
     let s = c .before .before .before .before .before .before .before in
-    rw (c .before .wide .ensures .0) at (c .places-ok .ensures) ∙ sym (parts (asked s) ∙ rw (numbers-hold (c .before .before)) refl)
+    rw (c .before .wide .ensures .0) at (c .places-ok .ensures) ∙ rw (numbers-hold (c .before .before)) refl
 
 pub is-sound-spec : {M : Type 1} → statement M
 is-sound-spec =

@@ -23,47 +23,17 @@ loop-holds : tie.Need-loop-holds Inv-loop μ-loop
 unfolding unhex
 loop-holds c = (search needs, (search needs, put-none (now (c .before .before .args .out)) 0))
 
-mul-to-value : tie.Need-mul-to-value Inv-loop μ-loop
-mul-to-value c = search needs
-
-shared-slice-read-to-value : tie.Need-shared-slice-read-to-value Inv-loop μ-loop
-shared-slice-read-to-value c = search needs
-
 to-value-requires : tie.Need-to-value-requires Inv-loop μ-loop
 to-value-requires c κs =
     let l = c .before .before in
     let s = l .before .before .before in
     all-at isDigit (now (s .args .line)) (2 * l .loop .i) (s .pre .0) (omega arith)
 
-mul-out : tie.Need-mul-out Inv-loop μ-loop
-mul-out c = search needs
-
-mul-to-value-2 : tie.Need-mul-to-value-2 Inv-loop μ-loop
-mul-to-value-2 c = search needs
-
-add-to-value : tie.Need-add-to-value Inv-loop μ-loop
-add-to-value c = search needs
-
-shared-slice-read-to-value-2 : tie.Need-shared-slice-read-to-value-2 Inv-loop μ-loop
-shared-slice-read-to-value-2 c = search needs
-
 to-value-requires-2 : tie.Need-to-value-requires-2 Inv-loop μ-loop
 to-value-requires-2 c κs =
     let l = c .before .before .before .before in
     let s = l .before .before .before in
     all-at isDigit (now (s .args .line)) (2 * l .loop .i + 1) (s .pre .0) (omega arith)
-
-add-out : tie.Need-add-out Inv-loop μ-loop
-add-out c = search needs
-
-slice-write-out : tie.Need-slice-write-out Inv-loop μ-loop
-slice-write-out c = search needs
-
-add-i : tie.Need-add-i Inv-loop μ-loop
-add-i c = search needs
-
-loop-less : tie.Need-loop-less Inv-loop μ-loop
-loop-less c = search needs
 
 loop-again : tie.Need-loop-again Inv-loop μ-loop
 loop-again c =
@@ -80,9 +50,6 @@ loop-again c =
       ),
     )
 
-same-length : tie.Need-same-length Inv-loop μ-loop
-same-length c = search needs
-
 returns : tie.Need-returns Inv-loop μ-loop
 returns c =
     let l = c .before in
@@ -97,18 +64,18 @@ decode-spec =
     Inv-loop
     μ-loop
     loop-holds
-    mul-to-value
-    shared-slice-read-to-value
+    (λ c. search needs)
+    (λ c. search needs)
     to-value-requires
-    mul-out
-    mul-to-value-2
-    add-to-value
-    shared-slice-read-to-value-2
+    (λ c. search needs)
+    (λ c. search needs)
+    (λ c. search needs)
+    (λ c. search needs)
     to-value-requires-2
-    add-out
-    slice-write-out
-    add-i
-    loop-less
+    (λ c. search needs)
+    (λ c. search needs)
+    (λ c. search needs)
+    (λ c. search needs)
     loop-again
-    same-length
+    (λ c. search needs)
     returns)

@@ -4,6 +4,7 @@ use mathlib.Core.Bool.{true, false}
 use borrow.Author.Tests.{le-leb, lt-leb, not-true, not-false}
 use lib.ListN.{length}
 use denote.Ref.{now}
+use Rattle.octets.specs.Sizes.{longestFrame}
 use Rattle.octets.specs.Test.{first, when, outcome}
 use Rattle.octets.specs.Octets.{left}
 use Rattle.hexline.specs.Line.{isDigit, all, unhex, lengthOk, readInto, lineOf}
@@ -18,7 +19,7 @@ returns : tie.Need-returns
 unfolding readInto first when outcome lineOf left
 returns c =
     let o = now (c .before .before .before .args .out) in
-    simp (lt-leb 78 (length o) (omega arith)) (refl, refl)
+    simp (lt-leb longestFrame (length o) (omega arith)) (refl, refl)
 
 returns-2 : tie.Need-returns-2
 unfolding readInto first when outcome lineOf left
@@ -26,7 +27,7 @@ returns-2 c =
     let a = c .before .before .before .before .before .args in
     let o = now (a .out) in
     let n : lengthOk (length (now (a .line))) ≡ false = sym (c .before .length-ok .ensures) ∙ not-true (c .before .length-ok .result) (c .if2 .taken) in
-    simp (le-leb 78 (length o) (omega arith), n) (refl, refl)
+    simp (le-leb longestFrame (length o) (omega arith), n) (refl, refl)
 
 returns-3 : tie.Need-returns-3
 unfolding readInto first when outcome lineOf left
@@ -35,7 +36,7 @@ returns-3 c =
     let a = n .before .before .before .before .args in
     let e : lengthOk (length (now (a .line))) ≡ true = sym (n .length-ok .ensures) ∙ not-false (n .length-ok .result) (c .before .before .if2 .left) in
     let d : all isDigit (now (a .line)) ≡ false = sym (c .before .all-digits .ensures) ∙ not-true (c .before .all-digits .result) (c .if3 .taken) in
-    simp (le-leb 78 (length (now (a .out))) (omega arith), e, d) (refl, refl)
+    simp (le-leb longestFrame (length (now (a .out))) (omega arith), e, d) (refl, refl)
 
 decode-requires : tie.Need-decode-requires
 decode-requires c κs =
@@ -55,7 +56,7 @@ returns-4 c =
     let e : lengthOk (length t) ≡ true = sym (n .length-ok .ensures) ∙ not-false (n .length-ok .result) (c .before .before .before .before .before .before .if2 .left) in
     let d : all isDigit t ≡ true = sym (c .before .before .before .before .before .all-digits .ensures) ∙ not-false (c .before .before .before .before .before .all-digits .result) (c .before .before .before .before .if3 .left) in
     let l : length (unhex t) ≡ length t / 2 = length-unhex (length t / 2) t (omega (arith, right-length (length t) e .even)) in
-    simp (le-leb 78 (length (now (a .out))) (omega arith), e, d) (ap Decoded (sym l), c .before .before .decode .ensures)
+    simp (le-leb longestFrame (length (now (a .out))) (omega arith), e, d) (ap Decoded (sym l), c .before .before .decode .ensures)
 
 pub read-spec : {M : Type 1} → statement M
 read-spec =

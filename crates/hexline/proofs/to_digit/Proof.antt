@@ -5,11 +5,5 @@ use borrow.Author.Needs.{needs}
 use Rattle.hexline.proofs.to_digit.Statement.{statement}
 use Rattle.hexline.proofs.to_digit.Tie as tie
 
-returns : tie.Need-returns
-returns c = sym (digit-low (c .before .args .n) (omega arith))
-
-returns-2 : tie.Need-returns-2
-returns-2 c = sym (digit-high (c .before .args .n) (omega arith))
-
 pub to-digit-spec : {M : Type 1} → statement M
-to-digit-spec = tie.close (tie.spec (λ c. search needs) returns (λ c. search needs) returns-2)
+to-digit-spec = tie.close (tie.spec (λ c. search needs) (λ c. sym (digit-low (c .before .args .n) (omega arith))) (λ c. search needs) (λ c. sym (digit-high (c .before .args .n) (omega arith))))

@@ -5,9 +5,6 @@ use borrow.Author.Needs.{needs}
 use Rattle.hexline.proofs.to_value.Statement.{statement}
 use Rattle.hexline.proofs.to_value.Tie as tie
 
-sub-result : tie.Need-sub-result
-sub-result c = omega (arith, no-less (c .before .args .c) (c .before .pre))
-
 returns : tie.Need-returns
 returns c =
     let e = value-low (c .before .args .c) (omega arith) in
@@ -19,4 +16,4 @@ returns-2 c =
     (sym e, omega (arith, known (c .before .args .c) (c .before .pre) .small))
 
 pub to-value-spec : {M : Type 1} → statement M
-to-value-spec = tie.close (tie.spec sub-result returns (λ c. search needs) returns-2)
+to-value-spec = tie.close (tie.spec (λ c. omega (arith, no-less (c .before .args .c) (c .before .pre))) returns (λ c. search needs) returns-2)

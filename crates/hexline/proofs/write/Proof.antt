@@ -23,39 +23,6 @@ loop-holds : tie.Need-loop-holds Inv-loop μ-loop
 unfolding hex
 loop-holds c = (search needs, (search needs, put-none (now (c .before .before .args .out)) 0))
 
-shared-slice-read-to-digit : tie.Need-shared-slice-read-to-digit Inv-loop μ-loop
-shared-slice-read-to-digit c = search needs
-
-to-digit-requires : tie.Need-to-digit-requires Inv-loop μ-loop
-to-digit-requires c κs = omega (arith, c .shared-slice-known2 .given (c .before .before .loop .i))
-
-mul-out : tie.Need-mul-out Inv-loop μ-loop
-mul-out c = search needs
-
-slice-write-out : tie.Need-slice-write-out Inv-loop μ-loop
-slice-write-out c = search needs
-
-shared-slice-read-to-digit-2 : tie.Need-shared-slice-read-to-digit-2 Inv-loop μ-loop
-shared-slice-read-to-digit-2 c = search needs
-
-to-digit-requires-2 : tie.Need-to-digit-requires-2 Inv-loop μ-loop
-to-digit-requires-2 c κs = search needs
-
-mul-out-2 : tie.Need-mul-out-2 Inv-loop μ-loop
-mul-out-2 c = search needs
-
-add-out : tie.Need-add-out Inv-loop μ-loop
-add-out c = search needs
-
-slice-write-out-2 : tie.Need-slice-write-out-2 Inv-loop μ-loop
-slice-write-out-2 c = simp length-set (omega arith)
-
-add-i : tie.Need-add-i Inv-loop μ-loop
-add-i c = search needs
-
-loop-less : tie.Need-loop-less Inv-loop μ-loop
-loop-less c = search needs
-
 loop-again : tie.Need-loop-again Inv-loop μ-loop
 loop-again c =
     let l = c .before .before .before .before .before in
@@ -73,9 +40,6 @@ loop-again c =
       ),
     )
 
-same-length : tie.Need-same-length Inv-loop μ-loop
-same-length c = search needs
-
 returns : tie.Need-returns Inv-loop μ-loop
 returns c =
     let l = c .before in
@@ -90,17 +54,17 @@ write-spec =
     Inv-loop
     μ-loop
     loop-holds
-    shared-slice-read-to-digit
-    to-digit-requires
-    mul-out
-    slice-write-out
-    shared-slice-read-to-digit-2
-    to-digit-requires-2
-    mul-out-2
-    add-out
-    slice-write-out-2
-    add-i
-    loop-less
+    (λ c. search needs)
+    (λ c κs. omega (arith, c .shared-slice-known2 .given (c .before .before .loop .i)))
+    (λ c. search needs)
+    (λ c. search needs)
+    (λ c. search needs)
+    (λ c κs. search needs)
+    (λ c. search needs)
+    (λ c. search needs)
+    (λ c. simp length-set (omega arith))
+    (λ c. search needs)
+    (λ c. search needs)
     loop-again
-    same-length
+    (λ c. search needs)
     returns)

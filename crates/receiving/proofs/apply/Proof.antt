@@ -9,6 +9,7 @@ use Rattle.frame.specs.declared.Header.the-variants.{Crao, Crpo, Crack, Rej, Re
 use Rattle.frame.specs.Answer.{frameOf}
 use Rattle.protocol.specs.declared.Rule.{Rule}
 use Rattle.protocol.specs.declared.Rule.the-variants.{HandUp, Release}
+use Rattle.protocol.specs.Endpoint.{closed, listening, activeOpening, passiveOpening, established}
 use Rattle.protocol.specs.Table.{none, connected, rejected, closedByPartner, closeFinished, handedUp, notice, apply}
 use Rattle.decide.specs.Rows.{holding, carrying}
 use Rattle.plan.specs.declared.Reply.the-variants.{Nothing, Frame}
@@ -46,150 +47,11 @@ module _ (c : tie.Start) where
       → (c .args .n .accepted - c .args .n .waiting < c .args .f .number) × (c .args .f .number ≤ c .args .n .accepted)
   found-release h = rw count at (frees (holding (c .args .n) some) (carrying (c .args .f) []) (sym (c .pre .1 .1 some [] count) ∙ h))
 
-enum-told : tie.Need-enum-told
-enum-told c = search needs
-
-add-count : tie.Need-add-count
-add-count c = omega (arith, found-hand-up (c .before .before .before) (c .before .enum-told14 .given .1))
-
-deliver-requires : tie.Need-deliver-requires
-deliver-requires c κs = omega (arith, found-hand-up (c .before .before .before) (c .before .enum-told14 .given .1))
-
-release-requires : tie.Need-release-requires
-release-requires c κs = let s = c .before .before in (s .pre .0, found-release s (c .enum-told16 .given .1))
-
-returns : tie.Need-returns
-unfolding apply notice sentBy frameOf
-returns c = λ x b q old w _.
-    let s = c .before .before .before in
-    let n = s .args .n in
-    keeps n q b old w n none Nothing refl (does s q x (c .before .enum-told .given .1)) (c .keep .ensures)
-
-returns-2 : tie.Need-returns-2
-unfolding apply notice sentBy frameOf
-returns-2 c = λ x b q old w _.
-    let s = c .before .before .before in
-    let n = s .args .n in
-    keeps n q b old w n none (Frame (Rej (n .local) (s .args .f .sender))) refl (does s q x (c .before .enum-told2 .given .1)) (c .keep2 .ensures)
-
-returns-3 : tie.Need-returns-3
-unfolding apply notice sentBy frameOf
-returns-3 c = λ x b q old w _.
-    let s = c .before .before .before in
-    let n = s .args .n in
-    keeps n q b old w n none (Frame (Drack (n .local) (s .args .f .sender))) refl (does s q x (c .before .enum-told3 .given .1)) (c .keep3 .ensures)
-
-returns-4 : tie.Need-returns-4
-unfolding apply notice sentBy frameOf
-returns-4 c = λ x b q old w _.
-    let s = c .before .before .before in
-    let n = s .args .n in
-    turns n q b old w 3 (s .args .f .sender) none (Frame (Crpo (n .local) (s .args .f .sender))) (does s q x (c .before .enum-told4 .given .1)) (c .turn .ensures)
-
-returns-5 : tie.Need-returns-5
-unfolding apply notice sentBy frameOf
-returns-5 c = λ x b q old w _.
-    let s = c .before .before .before in
-    let n = s .args .n in
-    keeps n q b old w n none (Frame (Reset (n .local) (s .args .f .sender))) refl (does s q x (c .before .enum-told5 .given .1)) (c .keep4 .ensures)
-
-returns-6 : tie.Need-returns-6
-unfolding apply notice sentBy frameOf
-returns-6 c = λ x b q old w _.
-    let s = c .before .before .before in
-    let n = s .args .n in
-    turns n q b old w 4 (s .args .f .sender) connected (Frame (Crack (n .local) (s .args .f .sender))) (does s q x (c .before .enum-told6 .given .1)) (c .turn2 .ensures)
-
-returns-7 : tie.Need-returns-7
-unfolding apply notice sentBy frameOf
-returns-7 c = λ x b q old w _.
-    let s = c .before .before .before in
-    let n = s .args .n in
-    turns n q b old w 2 (s .args .f .sender) none (Frame (Crao (n .local) (s .args .f .sender))) (does s q x (c .before .enum-told7 .given .1)) (c .turn3 .ensures)
-
-returns-8 : tie.Need-returns-8
-unfolding apply notice sentBy frameOf
-returns-8 c = λ x b q old w _.
-    let s = c .before .before .before in
-    let n = s .args .n in
-    turns n q b old w 4 (s .args .f .sender) connected Nothing (does s q x (c .before .enum-told8 .given .1)) (c .turn4 .ensures)
-
-returns-9 : tie.Need-returns-9
-unfolding apply notice sentBy frameOf
-returns-9 c = λ x b q old w _.
-    let s = c .before .before .before in
-    let n = s .args .n in
-    turns n q b old w 0 0 rejected Nothing (does s q x (c .before .enum-told9 .given .1)) (c .turn5 .ensures)
-
-returns-10 : tie.Need-returns-10
-unfolding apply notice sentBy frameOf
-returns-10 c = λ x b q old w _.
-    let s = c .before .before .before in
-    let n = s .args .n in
-    turns n q b old w 0 0 rejected (Frame (Drack (n .local) (s .args .f .sender))) (does s q x (c .before .enum-told10 .given .1)) (c .turn6 .ensures)
-
-returns-11 : tie.Need-returns-11
-unfolding apply notice sentBy frameOf
-returns-11 c = λ x b q old w _.
-    let s = c .before .before .before in
-    let n = s .args .n in
-    turns n q b old w 1 0 none Nothing (does s q x (c .before .enum-told11 .given .1)) (c .turn7 .ensures)
-
-returns-12 : tie.Need-returns-12
-unfolding apply notice sentBy frameOf
-returns-12 c = λ x b q old w _.
-    let s = c .before .before .before in
-    let n = s .args .n in
-    turns n q b old w 0 0 closedByPartner (Frame (Drack (n .local) (s .args .f .sender))) (does s q x (c .before .enum-told12 .given .1)) (c .turn8 .ensures)
-
-returns-13 : tie.Need-returns-13
-unfolding apply notice sentBy frameOf
-returns-13 c = λ x b q old w _.
-    let s = c .before .before .before in
-    let n = s .args .n in
-    keeps n q b old w n none (Frame (Crack (n .local) (n .remote))) refl (does s q x (c .before .enum-told13 .given .1)) (c .keep5 .ensures)
-
-returns-14 : tie.Need-returns-14
-unfolding apply notice sentBy frameOf
-returns-14 c = λ x b q old w _.
-    let s = c .before .before .before .before .before in
-    let n = s .args .n in
-    keeps n q b old w (delivering n) (handedUp x) (Frame (Ack (n .local) (n .remote) (n .delivered + 1))) refl (does s q x (c .before .before .before .enum-told14 .given .1)) (rw (c .before .deliver .ensures) at (c .keep6 .ensures))
-
-returns-15 : tie.Need-returns-15
-unfolding apply notice sentBy frameOf
-returns-15 c = λ x b q old w _.
-    let s = c .before .before .before in
-    let n = s .args .n in
-    keeps n q b old w n none (Frame (Ack (n .local) (n .remote) (n .delivered))) refl (does s q x (c .before .enum-told15 .given .1)) (c .keep7 .ensures)
-
-returns-16 : tie.Need-returns-16
-unfolding apply notice sentBy frameOf
-returns-16 c = λ x b q old w _.
-    let s = c .before .before .before in
-    let n = s .args .n in
-    releases n q b old w (s .args .f .number) (s .pre .0) (found-release s (c .before .enum-told16 .given .1) .1) (does s q x (c .before .enum-told16 .given .1)) (c .release .ensures)
-
-returns-17 : tie.Need-returns-17
-unfolding apply notice sentBy frameOf
-returns-17 c = λ x b q old w _.
-    let s = c .before .before .before in
-    let n = s .args .n in
-    turns n q b old w 0 0 closeFinished (Frame (Drack (n .local) (s .args .f .sender))) (does s q x (c .before .enum-told17 .given .1)) (c .turn9 .ensures)
-
-returns-18 : tie.Need-returns-18
-unfolding apply notice sentBy frameOf
-returns-18 c = λ x b q old w _.
-    let s = c .before .before .before in
-    let n = s .args .n in
-    turns n q b old w 0 0 closeFinished Nothing (does s q x (c .before .enum-told18 .given .1)) (c .turn10 .ensures)
-
 pub apply-spec : {M : Type 1} → statement M
+unfolding apply notice sentBy frameOf
 apply-spec =
     tie.close
     (tie.spec
-    enum-told
-    (λ c κs. search needs)
     (λ c. search needs)
     (λ c κs. search needs)
     (λ c. search needs)
@@ -215,32 +77,36 @@ apply-spec =
     (λ c. search needs)
     (λ c κs. search needs)
     (λ c. search needs)
-    add-count
-    deliver-requires
+    (λ c κs. search needs)
+    (λ c. search needs)
+    (λ c. omega (arith, found-hand-up (c .before .before .before) (c .before .enum-told14 .given .1)))
+    (λ c κs. omega (arith, found-hand-up (c .before .before .before) (c .before .enum-told14 .given .1)))
+    (λ c κs. search needs)
     (λ c κs. search needs)
     (λ c. search needs)
     (λ c κs. search needs)
+    (λ c κs. search needs)
     (λ c. search needs)
-    release-requires
+    (λ c κs. let s = c .before .before in (s .pre .0, found-release s (c .enum-told16 .given .1)))
     (λ c. search needs)
     (λ c κs. search needs)
     (λ c. search needs)
     (λ c κs. search needs)
-    returns
-    returns-2
-    returns-3
-    returns-4
-    returns-5
-    returns-6
-    returns-7
-    returns-8
-    returns-9
-    returns-10
-    returns-11
-    returns-12
-    returns-13
-    returns-14
-    returns-15
-    returns-16
-    returns-17
-    returns-18)
+    (λ c x b q old w _. let s = c .before .before .before in let n = s .args .n in keeps n q b old w n none Nothing refl (does s q x (c .before .enum-told .given .1)) (c .keep .ensures))
+    (λ c x b q old w _. let s = c .before .before .before in let n = s .args .n in keeps n q b old w n none (Frame (Rej (n .local) (s .args .f .sender))) refl (does s q x (c .before .enum-told2 .given .1)) (c .keep2 .ensures))
+    (λ c x b q old w _. let s = c .before .before .before in let n = s .args .n in keeps n q b old w n none (Frame (Drack (n .local) (s .args .f .sender))) refl (does s q x (c .before .enum-told3 .given .1)) (c .keep3 .ensures))
+    (λ c x b q old w _. let s = c .before .before .before in let n = s .args .n in turns n q b old w passiveOpening (s .args .f .sender) none (Frame (Crpo (n .local) (s .args .f .sender))) (does s q x (c .before .enum-told4 .given .1)) (c .turn .ensures))
+    (λ c x b q old w _. let s = c .before .before .before in let n = s .args .n in keeps n q b old w n none (Frame (Reset (n .local) (s .args .f .sender))) refl (does s q x (c .before .enum-told5 .given .1)) (c .keep4 .ensures))
+    (λ c x b q old w _. let s = c .before .before .before in let n = s .args .n in turns n q b old w established (s .args .f .sender) connected (Frame (Crack (n .local) (s .args .f .sender))) (does s q x (c .before .enum-told6 .given .1)) (c .turn2 .ensures))
+    (λ c x b q old w _. let s = c .before .before .before in let n = s .args .n in turns n q b old w activeOpening (s .args .f .sender) none (Frame (Crao (n .local) (s .args .f .sender))) (does s q x (c .before .enum-told7 .given .1)) (c .turn3 .ensures))
+    (λ c x b q old w _. let s = c .before .before .before in let n = s .args .n in turns n q b old w established (s .args .f .sender) connected Nothing (does s q x (c .before .enum-told8 .given .1)) (c .turn4 .ensures))
+    (λ c x b q old w _. let s = c .before .before .before in let n = s .args .n in turns n q b old w closed 0 rejected Nothing (does s q x (c .before .enum-told9 .given .1)) (c .turn5 .ensures))
+    (λ c x b q old w _. let s = c .before .before .before in let n = s .args .n in turns n q b old w closed 0 rejected (Frame (Drack (n .local) (s .args .f .sender))) (does s q x (c .before .enum-told10 .given .1)) (c .turn6 .ensures))
+    (λ c x b q old w _. let s = c .before .before .before in let n = s .args .n in turns n q b old w listening 0 none Nothing (does s q x (c .before .enum-told11 .given .1)) (c .turn7 .ensures))
+    (λ c x b q old w _. let s = c .before .before .before in let n = s .args .n in turns n q b old w closed 0 closedByPartner (Frame (Drack (n .local) (s .args .f .sender))) (does s q x (c .before .enum-told12 .given .1)) (c .turn8 .ensures))
+    (λ c x b q old w _. let s = c .before .before .before in let n = s .args .n in keeps n q b old w n none (Frame (Crack (n .local) (n .remote))) refl (does s q x (c .before .enum-told13 .given .1)) (c .keep5 .ensures))
+    (λ c x b q old w _. let s = c .before .before .before .before .before .before in let n = s .args .n in keeps n q b old w (delivering n) (handedUp x) (Frame (Ack (n .local) (n .remote) (n .delivered + 1))) refl (does s q x (c .before .before .before .before .enum-told14 .given .1)) (rw (c .before .before .deliver .ensures, c .before .acknowledge .ensures) at (c .keep6 .ensures)))
+    (λ c x b q old w _. let s = c .before .before .before .before in let n = s .args .n in keeps n q b old w n none (Frame (Ack (n .local) (n .remote) (n .delivered))) refl (does s q x (c .before .before .enum-told15 .given .1)) (rw (c .before .acknowledge2 .ensures) at (c .keep7 .ensures)))
+    (λ c x b q old w _. let s = c .before .before .before in let n = s .args .n in let t = c .before .enum-told16 .given .1 in releases n q b old w (s .args .f .number) (s .pre .0) (found-release s t .1) (does s q x t) (c .release .ensures))
+    (λ c x b q old w _. let s = c .before .before .before in let n = s .args .n in turns n q b old w closed 0 closeFinished (Frame (Drack (n .local) (s .args .f .sender))) (does s q x (c .before .enum-told17 .given .1)) (c .turn9 .ensures))
+    (λ c x b q old w _. let s = c .before .before .before in let n = s .args .n in turns n q b old w closed 0 closeFinished Nothing (does s q x (c .before .enum-told18 .given .1)) (c .turn10 .ensures)))

@@ -3,12 +3,13 @@ use lib.ListN.{drop}
 use denote.Ref.{now}
 use Rattle.octets.specs.Test.{andThen, mapped}
 use Rattle.frame.specs.declared.FrameRead.{FrameRead}
+use Rattle.frame.specs.Layout.{dataBlockAt}
 use Rattle.frame.specs.Answer.{frameOf, valuesOf, frameRead}
 use Rattle.protocol.specs.Table.{step}
 use Rattle.protocol.specs.Network.{perform}
 use Rattle.calls.specs.Calls.{reads, does}
 use Rattle.plan.proofs.Comes.{refuses}
-use Rattle.receiving.proofs.Reading.{data-limit}
+use Rattle.frame.proofs.Fits.{data-limit}
 use borrow.Author.Needs.{needs}
 use Rattle.receiving.proofs.receive.Statement.{statement}
 use Rattle.receiving.proofs.receive.Tie as tie
@@ -18,15 +19,15 @@ unfolding frameRead valuesOf
 apply-requires c κs =
     let s = now (c .before .before .before .before .before .before .before .args .s) in
     let k = sym (c .before .before .before .before .before .read-frame .ensures) ∙ ap (λ (x : FrameRead). frameRead x s) (c .before .before .before .read .given .1) in
-    (c .before .before .before .before .before .before .before .pre, (rw (c .before .values-of .ensures (drop 14 s)) (data-limit s k), c .choose .ensures))
+    (c .before .before .before .before .before .before .before .pre, (rw (c .before .values-of .ensures (drop dataBlockAt s)) (data-limit s k), c .choose .ensures))
 
 returns : tie.Need-returns
 unfolding frameRead valuesOf reads does andThen mapped perform step
 returns c = λ b q old w o.
     let s = now (c .before .before .before .before .before .before .before .before .args .s) in
-    let f = frameOf (c .before .before .before .before .read .given .0 .0) (drop 14 s) in
+    let f = frameOf (c .before .before .before .before .read .given .0 .0) (drop dataBlockAt s) in
     let k = sym (c .before .before .before .before .before .before .read-frame .ensures) ∙ ap (λ (x : FrameRead). frameRead x s) (c .before .before .before .before .read .given .1) in
-    rw k (rw (c .before .before .values-of .ensures (drop 14 s)) at (rw (c .before .choose .ensures q (f .block) w) at (c .apply .ensures (f .block) b q old w o)))
+    rw k (rw (c .before .before .values-of .ensures (drop dataBlockAt s)) at (rw (c .before .choose .ensures q (f .block) w) at (c .apply .ensures (f .block) b q old w o)))
 
 returns-2 : tie.Need-returns-2
 unfolding frameRead reads does andThen mapped

@@ -1,29 +1,34 @@
-use Prim.Native.Nat.{_+_}
+use Prim.Native.Nat.{_+_, _<_}
+use mathlib.Core.Path.{sym, _∙_}
+use Rattle.octets.specs.Sizes.{lastNumber}
+use Rattle.frame.specs.Frame.{connect}
 use Rattle.frame.specs.declared.Header.the-variants.{Crao}
 use Rattle.frame.specs.Answer.{frameOf}
-use Rattle.protocol.specs.Requests.{accept}
-use Rattle.decide.specs.Rows.{holding}
 use Rattle.plan.specs.declared.Reply.the-variants.{Frame}
+use Rattle.protocol.specs.Endpoint.{activeOpening}
+use Rattle.protocol.specs.Requests.{questions, refusal, accept}
+use Rattle.decide.specs.Rows.{holding}
 use Rattle.plan.specs.Plan.{sentBy}
 use Rattle.plan.proofs.Comes.{refuses, begins}
-use Rattle.requests.proofs.Requests.{connect-8, connect-9, connect-0}
+use Rattle.requests.proofs.Requests.{refused-by, allowed, left}
+use native.Mathlib.Omega.{arith}
 use borrow.Author.Needs.{needs}
 use Rattle.requests.proofs.connect.Statement.{statement}
 use Rattle.requests.proofs.connect.Tie as tie
 
-returns : tie.Need-returns
-returns c = λ b q old w _. let a = c .before .before .before .args in refuses (a .n) q b old w 8 (connect-8 (holding (a .n) q) (c .before .if1 .taken)) (c .refuse .ensures)
-
-returns-2 : tie.Need-returns-2
-returns-2 c = λ b q old w _. let a = c .before .before .before .before .before .args in refuses (a .n) q b old w 9 (connect-9 (holding (a .n) q) (c .before .before .before .if1 .left) (c .before .if2 .taken)) (c .refuse2 .ensures)
-
-returns-3 : tie.Need-returns-3
-unfolding accept sentBy frameOf
-returns-3 c = λ b q old w _.
-    let a = c .before .before .before .before .before .before .args in
-    begins (a .n) q b old w 2 (Frame (Crao (a .n .local + 1) 0)) (connect-0 (holding (a .n) q) (c .before .before .before .before .if1 .left) (c .before .before .if2 .left)) (c .begin .ensures)
+room : (c : tie.Else1) → c .before .before .args .n .local < lastNumber
+room c = left _ (c .before .before .args .n .local) (sym (c .before .refusal-of .ensures) ∙ c .if1 .left)
 
 pub connect-spec : {M : Type 1} → statement M
+unfolding refusal questions accept sentBy frameOf
 connect-spec =
     tie.close
-    (tie.spec (λ c κs. search needs) returns (λ c κs. search needs) returns-2 (λ c. search needs) (λ c κs. search needs) returns-3)
+    (tie.spec
+    (λ c κs. search needs)
+    (λ c κs. search needs)
+    (λ c b q old w _. let n = c .before .before .before .args .n in refuses n q b old w _ (refused-by (holding n q) connect (c .before .before .refusal-of .ensures) (c .before .if1 .taken)) (c .refuse .ensures))
+    (λ c. omega (arith, room (c .before)))
+    (λ c κs. room (c .before))
+    (λ c b q old w _.
+    let n = c .before .before .before .before .args .n in
+    begins n q b old w activeOpening (Frame (Crao (n .local + 1) 0)) (allowed (holding n q) connect (sym (c .before .before .before .refusal-of .ensures) ∙ c .before .before .if1 .left)) (c .begin .ensures)))

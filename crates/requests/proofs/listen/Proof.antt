@@ -1,26 +1,30 @@
-use Rattle.protocol.specs.Requests.{accept}
+use Prim.Native.Nat.{_<_}
+use mathlib.Core.Path.{sym, _∙_}
+use Rattle.octets.specs.Sizes.{lastNumber}
+use Rattle.frame.specs.Frame.{listen}
+use Rattle.protocol.specs.Endpoint.{listening}
+use Rattle.protocol.specs.Requests.{questions, refusal, accept}
 use Rattle.decide.specs.Rows.{holding}
 use Rattle.plan.specs.declared.Reply.the-variants.{Nothing}
 use Rattle.plan.specs.Plan.{sentBy}
 use Rattle.plan.proofs.Comes.{refuses, begins}
-use Rattle.requests.proofs.Requests.{listen-8, listen-9, listen-0}
+use Rattle.requests.proofs.Requests.{refused-by, allowed, left}
 use borrow.Author.Needs.{needs}
 use Rattle.requests.proofs.listen.Statement.{statement}
 use Rattle.requests.proofs.listen.Tie as tie
 
-returns : tie.Need-returns
-returns c = λ b q old w _. let a = c .before .before .before .args in refuses (a .n) q b old w 8 (listen-8 (holding (a .n) q) (c .before .if1 .taken)) (c .refuse .ensures)
-
-returns-2 : tie.Need-returns-2
-returns-2 c = λ b q old w _. let a = c .before .before .before .before .before .args in refuses (a .n) q b old w 9 (listen-9 (holding (a .n) q) (c .before .before .before .if1 .left) (c .before .if2 .taken)) (c .refuse2 .ensures)
-
-returns-3 : tie.Need-returns-3
-unfolding accept sentBy
-returns-3 c = λ b q old w _.
-    let a = c .before .before .before .before .before .args in
-    begins (a .n) q b old w 1 Nothing (listen-0 (holding (a .n) q) (c .before .before .before .if1 .left) (c .before .if2 .left)) (c .begin .ensures)
+room : (c : tie.Else1) → c .before .before .args .n .local < lastNumber
+room c = left _ (c .before .before .args .n .local) (sym (c .before .refusal-of .ensures) ∙ c .if1 .left)
 
 pub listen-spec : {M : Type 1} → statement M
+unfolding refusal questions accept sentBy
 listen-spec =
     tie.close
-    (tie.spec (λ c κs. search needs) returns (λ c κs. search needs) returns-2 (λ c κs. search needs) returns-3)
+    (tie.spec
+    (λ c κs. search needs)
+    (λ c κs. search needs)
+    (λ c b q old w _. let n = c .before .before .before .args .n in refuses n q b old w _ (refused-by (holding n q) listen (c .before .before .refusal-of .ensures) (c .before .if1 .taken)) (c .refuse .ensures))
+    (λ c κs. room c)
+    (λ c b q old w _.
+    let n = c .before .before .before .args .n in
+    begins n q b old w listening Nothing (allowed (holding n q) listen (sym (c .before .before .refusal-of .ensures) ∙ c .before .if1 .left)) (c .begin .ensures)))

@@ -3,6 +3,7 @@ use lib.ListN.{drop}
 use denote.Ref.{now}
 use Rattle.octets.specs.Test.{ok, andThen, mapped}
 use Rattle.frame.specs.declared.RequestRead.{RequestRead}
+use Rattle.frame.specs.Layout.{sendBlockAt}
 use Rattle.frame.specs.Read.{readRequest}
 use Rattle.frame.specs.Answer.{requestOf, requestRead}
 use Rattle.protocol.specs.Network.{perform}
@@ -17,9 +18,9 @@ returns : tie.Need-returns
 unfolding requestRead reads does andThen mapped perform
 returns c =
     let s = now (c .before .before .before .before .before .before .args .s) in
-    let k : readRequest s ≡ ok (requestOf (c .before .before .read .given .0 .0) (drop 2 s)) =
+    let k : readRequest s ≡ ok (requestOf (c .before .before .read .given .0 .0) (drop sendBlockAt s)) =
     sym (c .before .before .before .before .read-request .ensures) ∙ ap (λ (x : RequestRead). requestRead x s) (c .before .before .read .given .1) in
-    rw k (c .ask .ensures (drop 2 s) (read-sized s _ k))
+    rw k (c .ask .ensures (drop sendBlockAt s) (read-sized s _ k))
 
 returns-2 : tie.Need-returns-2
 unfolding requestRead reads does andThen mapped
@@ -27,7 +28,7 @@ returns-2 c = λ q old w _.
     let a = c .before .before .before .before .before .before .args in
     let s = now (a .s) in
     let k = sym (c .before .before .before .before .read-request .ensures) ∙ ap (λ (x : RequestRead). requestRead x s) (c .before .before .read2 .given .1) in
-    refuses (a .n) q (drop 2 s) old w _ (rw k refl) (c .refuse .ensures)
+    refuses (a .n) q (drop sendBlockAt s) old w _ (rw k refl) (c .refuse .ensures)
 
 pub request-spec : {M : Type 1} → statement M
 request-spec =

@@ -1,50 +1,44 @@
-use mathlib.Core.Path.{refl}
-use mathlib.Core.List.{[], _∷_}
 use Prim.Native.Nat.{_<_}
+use mathlib.Core.Path.{_≡_, refl, sym, _∙_}
+use mathlib.Core.List.{[], _∷_}
+use lib.Dec.{ltb, eqb}
 use lib.ListN.{length, length-append}
-use Rattle.octets.specs.Sizes.{queueSize}
-use Rattle.octets.specs.Test.{numberOf}
+use Rattle.octets.specs.Sizes.{lastNumber, queueSize}
+use Rattle.octets.specs.Test.{first, numberOf}
 use Rattle.frame.specs.Answer.{frameOf}
+use Rattle.protocol.specs.Endpoint.{established}
 use Rattle.protocol.specs.Table.{notice}
 use Rattle.protocol.specs.Requests.{accept}
 use Rattle.decide.specs.Rows.{holding}
 use Rattle.plan.specs.Plan.{noticeOf, sentIn, endpointAfter, queueAfter, sentBy}
 use Rattle.plan.proofs.Comes.{refuses}
-use Rattle.requests.proofs.Requests.{send-8, send-9, send-10, send-0}
+use Rattle.requests.proofs.Requests.{send-refused, send-10, send-0, left}
 use native.Mathlib.Omega.{arith}
 use borrow.Author.Needs.{needs}
 use Rattle.requests.proofs.send.Statement.{statement}
 use Rattle.requests.proofs.send.Tie as tie
 
-returns : tie.Need-returns
-returns c = λ b _ _ q old w _. let a = c .before .before .before .args in refuses (a .n) q b old w 8 (send-8 (holding (a .n) q) b (c .before .if1 .taken)) (c .refuse .ensures)
-
-returns-2 : tie.Need-returns-2
-returns-2 c = λ b _ _ q old w _. let a = c .before .before .before .before .before .args in refuses (a .n) q b old w 9 (send-9 (holding (a .n) q) b (c .before .before .before .if1 .left) (c .before .if2 .taken)) (c .refuse2 .ensures)
+-- questions 8 and 9 are passed
+passed : (c : tie.Else1) → first ((8, eqb (c .before .before .args .n .state) established) ∷ (9, ltb (c .before .before .args .n .accepted) lastNumber) ∷ []) ≡ 0
+passed c = sym (c .before .refusal-of .ensures) ∙ c .if1 .left
 
 returns-3 : tie.Need-returns-3
-returns-3 c = λ b _ _ q old w _.
-    let a = c .before .before .before .before .before .before .before .args in
-    refuses (a .n) q b old w 10 (send-10 (holding (a .n) q) b (c .before .before .before .before .before .if1 .left) (c .before .before .before .if2 .left) (omega arith)) (c .refuse3 .ensures)
-
-returns-4 : tie.Need-returns-4
 unfolding accept notice numberOf noticeOf sentIn endpointAfter queueAfter sentBy frameOf
-returns-4 c = λ b lo hi q old w _.
-    let a = c .before .before .before .before .before .before .before .before .args in
-    let full : length q < queueSize = omega arith in
-    rw (send-0 (holding (a .n) q) b (c .before .before .before .before .before .before .if1 .left) (c .before .before .before .before .if2 .left) full)
-    (record { number = refl; notice = refl; endpoint = refl; counted = omega (arith, length-append q (b ∷ [])); room = (full, (lo, hi)); sent = refl })
+returns-3 c = λ b lo hi q old w _.
+    let n = c .before .before .before .before .before .before .args .n in
+    let free : length q < queueSize = omega arith in
+    rw (send-0 (holding n q) b (passed (c .before .before .before .before)) free)
+    (record { number = refl; notice = refl; endpoint = refl; counted = omega (arith, length-append q (b ∷ [])); room = (free, (lo, hi)); sent = refl })
 
 pub send-spec : {M : Type 1} → statement M
 send-spec =
     tie.close
     (tie.spec
     (λ c κs. search needs)
-    returns
     (λ c κs. search needs)
-    returns-2
+    (λ c b _ _ q old w _. let n = c .before .before .before .args .n in refuses n q b old w _ (send-refused (holding n q) b (c .before .before .refusal-of .ensures) (c .before .if1 .taken)) (c .refuse .ensures))
     (λ c κs. search needs)
-    returns-3
+    (λ c b _ _ q old w _. let n = c .before .before .before .before .before .args .n in refuses n q b old w _ (send-10 (holding n q) b (passed (c .before .before .before)) (omega arith)) (c .refuse2 .ensures))
+    (λ c. omega (arith, left _ (c .before .before .before .before .before .args .n .accepted) (passed (c .before .before .before))))
     (λ c. search needs)
-    (λ c. search needs)
-    returns-4)
+    returns-3)
