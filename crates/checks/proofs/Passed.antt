@@ -4,6 +4,9 @@ use mathlib.Core.Path.{_≡_}
 use mathlib.Core.Bool.{true}
 use borrow.Author.Tests.{leb-true}
 use lib.ListN.{length}
+use Rattle.octets.specs.Sizes.{longestFrame}
+use Rattle.logbook.specs.Log.{logSize, places}
+use Rattle.endpoint.specs.Record.{recordSize}
 use Rattle.octets.specs.Test.{first}
 use Rattle.octets.proofs.Test.{all-yes}
 use Rattle.link.specs.Record.{format}
@@ -11,13 +14,13 @@ use Rattle.rig.specs.Bench.{Bench}
 use Rattle.checks.specs.Ready.{readyQuestions}
 
 pub record Passed (w : Bench) (room : ℕ) : Type 0 where
-  pub long-a : 538 ≤ length (w .a)
-  pub long-b : 538 ≤ length (w .b)
-  pub long-log : 40960 ≤ length (w .log)
-  pub enough : 78 ≤ room
+  pub long-a : recordSize ≤ length (w .a)
+  pub long-b : recordSize ≤ length (w .b)
+  pub long-log : logSize ≤ length (w .log)
+  pub enough : longestFrame ≤ room
   pub sound-a : format .sound (w .a) ≡ true
   pub sound-b : format .sound (w .b) ≡ true
-  pub few : w .count ≤ 512
+  pub few : w .count ≤ places
 
 pub passed : (w : Bench) (room : ℕ) → first (readyQuestions w room) ≡ 0 → Passed w room
 passed w room h =
@@ -29,11 +32,11 @@ passed w room h =
     let sb = all-yes 12 _ _ (sa .1) tt in
     let c = all-yes 12 _ _ (sb .1) tt in
     record {
-      long-a = leb-true 538 (length (w .a)) (a .0);
-      long-b = leb-true 538 (length (w .b)) (b .0);
-      long-log = leb-true 40960 (length (w .log)) (l .0);
-      enough = leb-true 78 room (r .0);
+      long-a = leb-true recordSize (length (w .a)) (a .0);
+      long-b = leb-true recordSize (length (w .b)) (b .0);
+      long-log = leb-true logSize (length (w .log)) (l .0);
+      enough = leb-true longestFrame room (r .0);
       sound-a = sa .0;
       sound-b = sb .0;
-      few = leb-true (w .count) 512 (c .0);
+      few = leb-true (w .count) places (c .0);
     }

@@ -1,4 +1,5 @@
 // Questions 11 and 12 of all that is lent to the bench.
+use octets::refusal;
 ghost use mathlib.Core.Path.{_≡_};
 ghost use Rattle.octets.specs.Test.{first};
 ghost use Rattle.rig.specs.Bench.{benchOf};
@@ -9,25 +10,25 @@ pub fn ready(a: &[u8], b: &[u8], log: &[u8], count: usize, room: usize) -> u8
     ensures { λ r. ⌜ r ≡ first (readyQuestions (benchOf (now (a .entry)) (now (b .entry)) (now (log .entry)) count) room) ⌝ }
 {
     if a.len() < link::RECORD_SIZE {
-        return 11;
+        return refusal::SHORT_BUFFER;
     }
     if b.len() < link::RECORD_SIZE {
-        return 11;
+        return refusal::SHORT_BUFFER;
     }
     if log.len() < logbook::LOG_SIZE {
-        return 11;
+        return refusal::SHORT_BUFFER;
     }
     if room < octets::LONGEST_FRAME {
-        return 11;
+        return refusal::SHORT_BUFFER;
     }
     if !link::is_sound(a) {
-        return 12;
+        return refusal::UNSOUND;
     }
     if !link::is_sound(b) {
-        return 12;
+        return refusal::UNSOUND;
     }
     if count > logbook::PLACES {
-        return 12;
+        return refusal::UNSOUND;
     }
     0
 }

@@ -2,6 +2,7 @@
 use calls::Call;
 use frame::Class;
 use hexline::Line;
+use octets::refusal;
 use text::Output;
 ghost use mathlib.Core.Path.{_≡_};
 ghost use Prim.Native.Nat.{_≤_};
@@ -68,7 +69,7 @@ pub fn answer(rec: &mut [u8], line: &[u8], out: &mut [u8]) -> Output
     ensures { λ r. ⌜ LineAnswered (now (rec .entry)) (now (line .entry)) (now (out .entry)) (now (rec .exit)) (now (out .exit)) r ⌝ }
 {
     if out.len() < text::ANSWER_ROOM {
-        return Output::Refused(11);
+        return Output::Refused(refusal::SHORT_BUFFER);
     }
     let mut s = [0u8; octets::LONGEST_FRAME];
     let read = hexline::read(line, &mut s);

@@ -1,5 +1,6 @@
 // The bench asked by lines of text: a line and its answer.
 use moves::BenchAnswer;
+use octets::refusal;
 use text::Output;
 ghost use mathlib.Core.List.{_++_};
 ghost use Prim.Native.Nat.{_+_, _≤_};
@@ -64,7 +65,7 @@ pub fn answer(
     ensures { λ r. ⌜ BenchAnswered (benchOf (now (a .entry)) (now (b .entry)) (now (log .entry)) (now (count .entry))) (now (line .entry)) (now (out .entry)) (now (a .exit)) (now (b .exit)) (now (log .exit)) (now (count .exit)) (now (out .exit)) r ⌝ }
 {
     if out.len() < ANSWER_ROOM {
-        return Output::Refused(11);
+        return Output::Refused(refusal::SHORT_BUFFER);
     }
     Output::Written(write(a, b, log, count, line, out))
 }

@@ -8,6 +8,8 @@ use native.Mathlib.Omega.{arith}
 use borrow.Author.Tests.{lt-ltb, le-ltb, eq-eqb}
 use lib.ListN.{length, take, drop, getD, replicate, length-take, List·getD-append}
 use lib.Seq.{getD-append-add, getD-drop, getD-take, drop-cons}
+use Rattle.octets.proofs.Buffers.{length-padded}
+use Rattle.octets.specs.Octets.{padded}
 use Rattle.octets.specs.Sizes.{longestBlock, queueSize}
 use Rattle.octets.specs.Test.{when, inRange}
 use Rattle.octets.proofs.Test.{both, joined, in-range}
@@ -15,10 +17,9 @@ use Rattle.frame.specs.Frame.{Block}
 use Rattle.protocol.specs.Endpoint as abstract
 use Rattle.protocol.specs.Endpoint.{sized}
 use Rattle.protocol.proofs.Sound.{sized-at, sound-so}
-use Rattle.endpoint.specs.View.{placesSize, padded, places, lengthsOf, pack, view}
+use Rattle.endpoint.specs.View.{placesSize, places, lengthsOf, pack, view}
 use Rattle.endpoint.specs.Sound.{zeros, lengthOk, lengthsOk, unusedAt, unusedOk, sound}
 use Rattle.endpoint.proofs.Tests.{all-hold, zeros-of}
-use Rattle.endpoint.proofs.Pad.{length-padded}
 use Rattle.endpoint.proofs.Packs.{Small, view-pack, length-lengths, length-places, drop-places, getD-lengths}
 use Rattle.endpoint.proofs.Sounds.{Numbers, by-lt}
 

@@ -5,13 +5,14 @@ use Prim.Native.Nat.{ℕ, zero, suc, _+_, _-_, _*_, _/_, _%_, _≤_, _<_}
 use native.Mathlib.Omega.{arith}
 use lib.ListN.{length, take, drop, getD, replicate, length-append, length-drop, List·getD-append}
 use lib.Seq.{take-at, drop-at, take-length, take-suc, take-add, take-take, drop-cons, drop-drop, drop-nil, getD-take, getD-drop, drop-append-le, length-take-le}
+use Rattle.octets.proofs.Buffers.{length-padded}
 use Rattle.octets.specs.Sizes.{longestBlock, queueSize}
-use Rattle.octets.specs.Octets.{put}
+use Rattle.octets.specs.Octets.{put, padded}
 use Rattle.frame.specs.Frame.{Block}
 use Rattle.protocol.specs.Endpoint as abstract
 use Rattle.endpoint.specs.declared.Endpoint.{Endpoint}
-use Rattle.endpoint.specs.View.{placesSize, padded, places, lengthsOf, pack, tab, blockAt, view}
-use Rattle.endpoint.proofs.Pad.{length-padded, put-padded, padded-padded, drop-padded, padded-is}
+use Rattle.endpoint.specs.View.{placesSize, places, lengthsOf, pack, tab, blockAt, view}
+use Rattle.endpoint.proofs.Pad.{put-padded, padded-padded, drop-padded, padded-is}
 
 -- every block has at most 64 bytes
 abbrev pub Small : List Block → Type 0

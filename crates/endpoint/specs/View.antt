@@ -2,6 +2,7 @@
 use Prim.Native.Nat.{ℕ, zero, suc, _-_, _*_}
 use mathlib.Core.List.{List, [], _∷_, _++_}
 use lib.ListN.{length, take, drop, getD, replicate}
+use Rattle.octets.specs.Octets.{padded}
 use Rattle.octets.specs.Sizes.{longestBlock, queueSize}
 use Rattle.frame.specs.Frame.{Block}
 use Rattle.protocol.specs.Endpoint as abstract
@@ -10,10 +11,6 @@ use Rattle.endpoint.specs.declared.Endpoint.{Endpoint}
 -- the octets of all places: 512
 abbrev pub placesSize : ℕ
 placesSize = queueSize * longestBlock
-
--- s, then zeros up to n elements
-unfoldable pub padded : ℕ → List ℕ → List ℕ
-padded n s = s ++ replicate (n - length s) 0
 
 -- the blocks one after the other, each in a place of 64
 unfoldable pub places : List Block → List ℕ

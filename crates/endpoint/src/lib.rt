@@ -33,7 +33,7 @@ const ACCEPTED_AT: usize = REMOTE_AT + 4;
 
 const DELIVERED_AT: usize = ACCEPTED_AT + 4;
 
-const WAITING_AT: usize = DELIVERED_AT + 4;
+pub const WAITING_AT: usize = DELIVERED_AT + 4;
 
 pub const LENGTHS_AT: usize = WAITING_AT + 1;
 
@@ -77,19 +77,6 @@ impl Endpoint {
             blocks: [0; PLACES_SIZE],
         }
     }
-}
-
-// The same as those of octets, for the crates that still call them here.
-pub fn wide(x: u8) -> usize
-    ensures { λ r. ⌜ (r ≡ x) × (r < 256) ⌝ }
-{
-    x as usize
-}
-
-pub fn wide32(x: u8) -> u32
-    ensures { λ r. ⌜ (r ≡ x) × (r < 256) ⌝ }
-{
-    x as u32
 }
 
 // Question 12, a part at a time. Where the test t holds, yes counts, else no.

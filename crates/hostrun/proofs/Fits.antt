@@ -1,12 +1,14 @@
 -- The frame of an answer has room in its buffer, and its block a place in the frame received.
-use Prim.Native.Nat.{ℕ, _+_, _≤_}
+use Prim.Native.Nat.{ℕ, _≤_}
 use mathlib.Core.Path.{_≡_, refl, sym, ap, _∙_}
 use native.Mathlib.Omega.{arith}
 use mathlib.Core.List.{List}
-use lib.ListN.{length, drop, length-append, length-drop}
+use lib.ListN.{length, drop, length-drop}
+use Rattle.frame.specs.Layout.{dataBlockAt}
+use Rattle.octets.proofs.Buffers.{put-fits}
 use Rattle.octets.specs.Sizes.{longestFrame, longestBlock}
 use Rattle.octets.specs.Test.{Outcome, refused, ok, mapped}
-use Rattle.octets.specs.Octets.{put, left}
+use Rattle.octets.specs.Octets.{left}
 use Rattle.octets.proofs.Test.{by-eq, eq-yes, eq-no}
 use Rattle.protocol.specs.Table.{Step}
 use Rattle.calls.specs.Calls.{Arguments, wire, bufferAfter}
@@ -17,11 +19,6 @@ use Rattle.endpoint.specs.View.{view}
 use Rattle.endpoint.specs.Sound.{sound}
 use Rattle.machine.specs.declared.StepAnswer.{StepAnswer}
 use Rattle.machine.specs.Calls.{outcomeOf, stepAnswerOf, Advances}
-
--- what is written at the start of a buffer fits, since no buffer grows
-pub put-fits : (d s : List ℕ) {x : List ℕ} → x ≡ put d 0 s → length x ≡ length d → length s ≤ length d
-unfolding put
-put-fits d s e l = omega (arith, ap length e, length-append s (drop (0 + length s) d), length-drop (0 + length s) d)
 
 sent-fits : (e : Endpoint) (o : Outcome Step) (d : List ℕ) {x : List ℕ} → x ≡ bufferAfter d o → length x ≡ length d → stepAnswerOf e o .sent ≤ length d
 unfolding stepAnswerOf bufferAfter mapped left
@@ -37,11 +34,11 @@ module _ (e : Endpoint) (c : Arguments) {out out′ : List ℕ} {r : StepAnswer}
   pub frame-fits : length out′ ≡ length out → r .sent ≤ length out
   frame-fits l = rw (a .answer) (sent-fits e (outcomeOf e c) out (a .octets) l)
 
-  -- a frame whose block is handed up reaches to its octet 14
-  pub long-enough : r .notice ≡ 5 → 14 ≤ length (c .octets)
+  -- a frame whose block is handed up reaches to its block
+  pub long-enough : r .notice ≡ 5 → dataBlockAt ≤ length (c .octets)
   unfolding outcomeOf
   long-enough z = right (sound e) (view e) c .some (sym (ap (λ (r : StepAnswer). r .notice) (a .answer) ∙ notice-is e _) ∙ z) .1
 
 pub block-short : (n : ℕ) (s : List ℕ) → length s ≤ longestFrame → length (blockBy n s) ≤ longestBlock
 unfolding blockBy
-block-short n s h = by-eq n 5 (λ z. rw (eq-yes n 5 (drop 14 s) _ z) (omega (arith, length-drop 14 s))) (λ z. rw (eq-no n 5 (drop 14 s) _ z) (omega arith))
+block-short n s h = by-eq n 5 (λ z. rw (eq-yes n 5 (drop dataBlockAt s) _ z) (omega (arith, length-drop dataBlockAt s))) (λ z. rw (eq-no n 5 (drop dataBlockAt s) _ z) (omega arith))

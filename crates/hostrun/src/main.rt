@@ -1,7 +1,7 @@
 // A host that holds its end's record as a struct: document 01's run, each call lending the record.
 use calls::Call;
+use calls::Status;
 use endpoint::Endpoint;
-use text::Told;
 ghost use mathlib.Core.Path.{_≡_};
 ghost use Prim.Native.Nat.{_≤_};
 ghost use lib.ListN.{length};
@@ -17,7 +17,7 @@ fn perform(call: Call, e: Endpoint, s: &[u8]) -> Endpoint
     let mut frame = [0u8; Endpoint::LONGEST_FRAME];
     let a = host::lend(call, e, s, &mut frame);
     let after = a.endpoint;
-    let t = Told {
+    let t = Status {
         number: a.number,
         state: after.state,
         notice: a.notice,

@@ -7,6 +7,7 @@ use native.Mathlib.Omega.{arith}
 use borrow.Author.Tests.{le-leb, lt-leb}
 use lib.ListN.{length, take, drop, length-drop, take-append-drop}
 use lib.Seq.{length-take-le}
+use Rattle.frame.specs.Layout.{dataBlockAt}
 use Rattle.octets.specs.Sizes.{longestFrame, longestBlock, queueSize}
 use Rattle.octets.specs.Test.{when, first, Outcome, refused, ok, refusing, mapped, numberOf}
 use Rattle.octets.specs.Octets.{put, left, Octets}
@@ -25,7 +26,7 @@ use Rattle.plan.proofs.Up.{Right, right, Silent, refusing-silent, request-silen
 use Rattle.plan.proofs.Up as up
 use Rattle.endpoint.specs.declared.Endpoint.{Endpoint}
 use Rattle.endpoint.specs.View.{placesSize, blockAt, pack, view}
-use Rattle.endpoint.specs.Record.{recordSize, encode, decode}
+use Rattle.endpoint.specs.Record.{recordSize, encode, decode, lengthsAt, blocksAt}
 use Rattle.endpoint.proofs.Record.{encode-decode}
 use Rattle.machine.specs.Calls.{outcomeOf, stepAnswerOf}
 use Rattle.machine.specs.Carried.{Plans, carried}
@@ -101,11 +102,11 @@ module _ (rec : List ℕ) (long : recordSize ≤ length rec) where
 
   pub lengths-long : length (decode rec .lengths) ≡ queueSize
   unfolding decode
-  lengths-long = length-take-le queueSize (drop 18 rec) (rw length-drop (omega arith))
+  lengths-long = length-take-le queueSize (drop lengthsAt rec) (rw length-drop (omega arith))
 
   pub blocks-long : length (decode rec .blocks) ≡ placesSize
   unfolding decode
-  blocks-long = length-take-le placesSize (drop 26 rec) (rw length-drop (omega arith))
+  blocks-long = length-take-le placesSize (drop blocksAt rec) (rw length-drop (omega arith))
 
   module _ (c : Arguments) {p : Plan} (w : Plans (decode rec) c p) where
     abbrev o : Outcome Step
@@ -145,24 +146,24 @@ unfolding performed
 shown rec c =
     after-question (λ (o : Outcome Step). Right (c .octets) (blockOf o) (noticeOf o)) (up.none-right (c .octets)) _ _ (right (format .sound rec) (format .holds rec) c)
 
-pub block-five : (rec : List ℕ) (c : Arguments) → noticeOf (performed format rec c) ≡ 5 → drop 14 (c .octets) ≡ blockOf (performed format rec c)
+pub block-five : (rec : List ℕ) (c : Arguments) → noticeOf (performed format rec c) ≡ 5 → drop dataBlockAt (c .octets) ≡ blockOf (performed format rec c)
 block-five rec c h = sym (shown rec c .some h .0)
 
 pub block-none : (rec : List ℕ) (c : Arguments) → noticeOf (performed format rec c) ≢ 5 → [] ≡ blockOf (performed format rec c)
 block-none rec c h = sym (shown rec c .nothing h)
 
-pub long-enough : (rec : List ℕ) (c : Arguments) → noticeOf (performed format rec c) ≡ 5 → 14 ≤ length (c .octets)
+pub long-enough : (rec : List ℕ) (c : Arguments) → noticeOf (performed format rec c) ≡ 5 → dataBlockAt ≤ length (c .octets)
 long-enough rec c h = shown rec c .some h .1
 
 pub hands-it-up : (rec : List ℕ) (c : Arguments) → blockBy (noticeOf (performed format rec c)) (c .octets) ≡ blockOf (performed format rec c)
 hands-it-up rec c = up.told (shown rec c)
 
--- a block handed up has at most 64 octets, since its frame has at most 78
+-- a block handed up has at most 64 octets, since its frame has no more than the longest
 pub block-short : (rec : List ℕ) (c : Arguments) → length (c .octets) ≤ longestFrame → length (blockOf (performed format rec c)) ≤ longestBlock
 block-short rec c h =
     let r = shown rec c in
     by-eq (noticeOf (performed format rec c)) 5
-    (λ z. omega (arith, ap length (r .some z .0), length-drop 14 (c .octets)))
+    (λ z. omega (arith, ap length (r .some z .0), length-drop dataBlockAt (c .octets)))
     (λ z. omega (arith, ap length (r .nothing z)))
 
 pub none-up : (rec s : List ℕ) (room : ℕ) → blockOf (performed format rec (given Request s room)) ≡ []

@@ -6,6 +6,7 @@ use mathlib.Core.List.{List, _++_}
 use native.Mathlib.Omega.{arith}
 use borrow.Author.Tests.{le-leb}
 use lib.ListN.{length, length-append}
+use Rattle.octets.proofs.Buffers.{length-padded}
 use Rattle.octets.specs.Sizes.{longestFrame, queueSize}
 use Rattle.octets.specs.Test.{when, first, ok, refusing, andThen}
 use Rattle.octets.specs.Octets.{bytes, lay}
@@ -17,7 +18,6 @@ use Rattle.protocol.proofs.Sound.{sound-so}
 use Rattle.endpoint.specs.View.{placesSize, places, lengthsOf, pack, view}
 use Rattle.endpoint.specs.Sound.{sound}
 use Rattle.endpoint.specs.Record.{recordSize, encode, Fits}
-use Rattle.endpoint.proofs.Pad.{length-padded}
 use Rattle.endpoint.proofs.Packs.{length-lengths, length-places}
 use Rattle.endpoint.proofs.Held.{small-of, held, pack-sound}
 use Rattle.endpoint.proofs.Record.{decode-encode}

@@ -2,7 +2,10 @@
 // first; then come its stores, in this order: the frame out, the record, the numbers told.
 use calls::Call;
 use calls::Status;
+use endpoint::BLOCKS_AT;
 use endpoint::Endpoint;
+use endpoint::LENGTHS_AT;
+use octets::refusal;
 use plan::Plan;
 ghost use mathlib.Core.Path.{_≡_};
 ghost use mathlib.Core.List.{[], _∷_};
@@ -21,7 +24,7 @@ ghost use Rattle.link.specs.Lent.{answerOf, Called, answerIn, freshIn};
 ghost use Rattle.link.specs.Planned.{PlannedCall, Finished};
 
 // The octets of a record.
-pub const RECORD_SIZE: usize = 538;
+pub const RECORD_SIZE: usize = endpoint::RECORD_SIZE;
 
 // What a call on a lent record answers; sent is the length of the frame sent, block that of the block handed up.
 pub struct Answer {
@@ -36,10 +39,10 @@ pub extern "C" fn dock_fresh(rec: &mut [u8]) -> u8
     ensures { λ r. ⌜ (r ≡ numberOf (freshIn (now (rec .entry)))) × (now (rec .exit) ≡ left (freshIn (now (rec .entry))) (now (rec .entry))) ⌝ }
 {
     if rec.len() < RECORD_SIZE {
-        return 11;
+        return refusal::SHORT_BUFFER;
     }
     endpoint::encode(Endpoint::fresh(), rec);
-    0
+    plan::ACCEPTED
 }
 
 // Question 12 of a record.
@@ -48,7 +51,7 @@ pub fn is_sound(rec: &[u8]) -> bool
     ensures { λ r. ⌜ r ≡ format .sound (now (rec .entry)) ⌝ }
 {
     let n = endpoint::load_numbers(rec);
-    endpoint::is_sound(n, &rec[18..26], &rec[26..538])
+    endpoint::is_sound(n, &rec[LENGTHS_AT..BLOCKS_AT], &rec[BLOCKS_AT..RECORD_SIZE])
 }
 
 // Questions 11 and 12 of a record: 0 where both are passed.
@@ -56,12 +59,12 @@ pub fn ready(rec: &[u8]) -> u8
     ensures { λ r. ⌜ r ≡ first (recordQuestions (now (rec .entry))) ⌝ }
 {
     if rec.len() < RECORD_SIZE {
-        return 11;
+        return refusal::SHORT_BUFFER;
     }
     if !is_sound(rec) {
-        return 12;
+        return refusal::UNSOUND;
     }
-    0
+    plan::ACCEPTED
 }
 
 // A refusal tells how the record stands; all is 0 where the buffer is too short for one.
@@ -102,7 +105,14 @@ pub fn plan_call(call: Call, rec: &[u8], s: &[u8], room: usize) -> Plan
     ensures { λ r. ⌜ Plans (decode (now (rec .entry))) (given call (now (s .entry)) room) r ⌝ }
 {
     let n = endpoint::load_numbers(rec);
-    machine::plan_call(call, n, &rec[18..26], &rec[26..538], s, room)
+    machine::plan_call(
+        call,
+        n,
+        &rec[LENGTHS_AT..BLOCKS_AT],
+        &rec[BLOCKS_AT..RECORD_SIZE],
+        s,
+        room,
+    )
 }
 
 // Changes the record where it lies: its numbers, and of the lengths and blocks what the plan says; joined is the block that joins.
@@ -110,18 +120,18 @@ fn store(p: Plan, joined: &[u8], rec: &mut [u8])
     requires { ⌜ (recordSize ≤ length (now rec)) × ((decode (now rec) .waiting ≤ queueSize) × ((length (now joined) ≤ longestBlock) × Room (p .queue) (now joined) (decode (now rec) .waiting))) ⌝ }
     ensures { λ _. ⌜ now (rec .exit) ≡ put (now (rec .entry)) 0 (encode (carried p (now (joined .entry)) (decode (now (rec .entry))))) ⌝ }
 {
-    let waiting = endpoint::wide(rec[17]);
+    let waiting = octets::wide(rec[endpoint::WAITING_AT]);
     let queue = p.queue;
     let n = p.numbers;
     endpoint::store_numbers(n, rec);
     let count = [joined.len() as u8];
-    machine::change_places(queue, 1, waiting, &count, &mut rec[18..26]);
+    machine::change_places(queue, 1, waiting, &count, &mut rec[LENGTHS_AT..BLOCKS_AT]);
     machine::change_places(
         queue,
         Endpoint::LONGEST_BLOCK,
         waiting,
         joined,
-        &mut rec[26..538],
+        &mut rec[BLOCKS_AT..RECORD_SIZE],
     );
 }
 
@@ -135,7 +145,13 @@ pub fn finish(p: Plan, rec: &mut [u8], s: &[u8], out: &mut [u8]) -> Answer
     }
     let queue = p.queue;
     let joined = plan::joined(queue, s);
-    let sent = machine::send(p, joined, &rec[18..26], &rec[26..538], out);
+    let sent = machine::send(
+        p,
+        joined,
+        &rec[LENGTHS_AT..BLOCKS_AT],
+        &rec[BLOCKS_AT..RECORD_SIZE],
+        out,
+    );
     store(p, joined, rec);
     let block = plan::handed_up(p.notice, s);
     let n = p.numbers;
@@ -157,7 +173,7 @@ pub fn perform(call: Call, rec: &mut [u8], s: &[u8], out: &mut [u8]) -> Answer
     ensures { λ r. ⌜ Called (performed format (now (rec .entry)) (given call (now (s .entry)) (length (now (out .entry))))) (now (rec .entry)) (now (s .entry)) (now (out .entry)) (now (rec .exit)) (now (out .exit)) r ⌝ }
 {
     if rec.len() < RECORD_SIZE {
-        return refuse(rec, 11);
+        return refuse(rec, refusal::SHORT_BUFFER);
     }
     let p = plan_call(call, rec, s, out.len());
     finish(p, rec, s, out)

@@ -6,9 +6,9 @@ use native.Mathlib.Nat.{add-zero}
 use native.Mathlib.Omega.{arith}
 use lib.ListN.{length, take, drop, getD, replicate, length-drop, take-append-drop, List·getD-append}
 use lib.Seq.{length-take-le, take-append-le, drop-append-le, take-append-seam, drop-append-add, getD-append-add}
-use Rattle.octets.specs.Octets.{put}
-use Rattle.endpoint.specs.View.{padded}
-use Rattle.logbook.specs.Log.{senderAt, lengthAt, frameAt, place}
+use Rattle.octets.specs.Sizes.{longestFrame}
+use Rattle.octets.specs.Octets.{put, padded}
+use Rattle.logbook.specs.Log.{senderAt, lengthAt, frameAt, place, placeSize}
 
 -- what place k reads as
 pub record Reads (log : List ℕ) (k i n : ℕ) (s : List ℕ) : Type 0 where
@@ -22,29 +22,29 @@ part-front m n p t h =
     rw (drop-append-le m p t (omega arith)) (take-append-le n (drop m p) t (rw length-drop (omega arith)))
 
 -- places that two lists share
-shared : (k : ℕ) (p t u : List ℕ) → k * 80 + 80 ≤ length p → lengthAt k (p ++ u) ≤ 78
+shared : (k : ℕ) (p t u : List ℕ) → k * placeSize + placeSize ≤ length p → lengthAt k (p ++ u) ≤ longestFrame
     → Reads (p ++ t) k (senderAt k (p ++ u)) (lengthAt k (p ++ u)) (frameAt k (p ++ u))
 unfolding senderAt lengthAt frameAt
 shared k p t u h short =
     let at : (j : ℕ) → j < length p → getD (p ++ t) j 0 ≡ getD (p ++ u) j 0 = λ j l. List·getD-append p t 0 j l ∙ sym (List·getD-append p u 0 j l) in
-    let n : lengthAt k (p ++ t) ≡ lengthAt k (p ++ u) = at (k * 80 + 1) (omega arith) in
+    let n : lengthAt k (p ++ t) ≡ lengthAt k (p ++ u) = at (k * placeSize + 1) (omega arith) in
     let m = lengthAt k (p ++ u) in
     record {
-      sender = at (k * 80) (omega arith);
+      sender = at (k * placeSize) (omega arith);
       count = n;
-      octets = ap (λ (x : ℕ). take x (drop (k * 80 + 2) (p ++ t))) n ∙ part-front (k * 80 + 2) m p t (omega arith) ∙ sym (part-front (k * 80 + 2) m p u (omega arith));
+      octets = ap (λ (x : ℕ). take x (drop (k * placeSize + 2) (p ++ t))) n ∙ part-front (k * placeSize + 2) m p t (omega arith) ∙ sym (part-front (k * placeSize + 2) m p u (omega arith));
     }
 
 -- a place before the one that is entered
-pub stays : (k n : ℕ) (log s : List ℕ) → k < n → n * 80 + 80 ≤ length log → lengthAt k log ≤ 78
-    → Reads (put log (n * 80) s) k (senderAt k log) (lengthAt k log) (frameAt k log)
+pub stays : (k n : ℕ) (log s : List ℕ) → k < n → n * placeSize + placeSize ≤ length log → lengthAt k log ≤ longestFrame
+    → Reads (put log (n * placeSize) s) k (senderAt k log) (lengthAt k log) (frameAt k log)
 unfolding put
 stays k n log s h room short =
-    let e = take-append-drop (n * 80) log in
-    rw e at (shared k (take (n * 80) log) (s ++ drop (n * 80 + length s) log) (drop (n * 80) log) (rw (length-take-le (n * 80) log (omega arith)) (omega arith)) (rw e short))
+    let e = take-append-drop (n * placeSize) log in
+    rw e at (shared k (take (n * placeSize) log) (s ++ drop (n * placeSize + length s) log) (drop (n * placeSize) log) (rw (length-take-le (n * placeSize) log (omega arith)) (omega arith)) (rw e short))
 
 -- the place that is entered
-after-front : (p r s : List ℕ) (k i : ℕ) → length p ≡ k * 80 → Reads (p ++ (i ∷ length s ∷ (s ++ r))) k i (length s) s
+after-front : (p r s : List ℕ) (k i : ℕ) → length p ≡ k * placeSize → Reads (p ++ (i ∷ length s ∷ (s ++ r))) k i (length s) s
 unfolding senderAt lengthAt frameAt
 after-front p r s k i e =
     let y = i ∷ length s ∷ (s ++ r) in
@@ -52,13 +52,13 @@ after-front p r s k i e =
     record {
       sender = rw (e, add-zero) at (getD-append-add p y 0 0);
       count = n;
-      octets = ap (λ (x : ℕ). take x (drop (k * 80 + 2) (p ++ y))) n ∙ ap (λ (x : List ℕ). take (length s) x) (rw e at (drop-append-add p y 2)) ∙ take-append-seam s r;
+      octets = ap (λ (x : ℕ). take x (drop (k * placeSize + 2) (p ++ y))) n ∙ ap (λ (x : List ℕ). take (length s) x) (rw e at (drop-append-add p y 2)) ∙ take-append-seam s r;
     }
 
-pub enters : (n i : ℕ) (log s : List ℕ) → n * 80 + 80 ≤ length log → Reads (put log (n * 80) (place i s)) n i (length s) s
+pub enters : (n i : ℕ) (log s : List ℕ) → n * placeSize + placeSize ≤ length log → Reads (put log (n * placeSize) (place i s)) n i (length s) s
 unfolding put place padded
 enters n i log s room =
-    let at = n * 80 in
-    let zeros : List ℕ = replicate (78 - length s) 0 in
+    let at = n * placeSize in
+    let zeros : List ℕ = replicate (longestFrame - length s) 0 in
     let r = drop (at + length (i ∷ length s ∷ (s ++ zeros))) log in
     rw append-assoc (after-front (take at log) (zeros ++ r) s n i (length-take-le at log (omega arith)))

@@ -4,18 +4,22 @@ use mathlib.Core.Bool.{Bool, _&&_}
 use mathlib.Core.List.{List, _∷_}
 use lib.Dec.{ltb, leb}
 use lib.ListN.{length, take, drop, getD}
+use Rattle.octets.specs.Octets.{padded}
 use Rattle.octets.specs.Sizes.{longestFrame}
 use Rattle.octets.specs.Test.{inRange}
-use Rattle.endpoint.specs.View.{padded}
+
+-- the sender and the length come before the frame
+abbrev pub placeHead : ℕ
+placeHead = 2
 
 abbrev pub placeSize : ℕ
-placeSize = 80
+placeSize = placeHead + longestFrame
 
 abbrev pub places : ℕ
 places = 512
 
 abbrev pub logSize : ℕ
-logSize = 40960
+logSize = places * placeSize
 
 -- the sender and the frame in place n
 unfoldable pub senderAt : ℕ → List ℕ → ℕ
@@ -25,7 +29,7 @@ unfoldable pub lengthAt : ℕ → List ℕ → ℕ
 lengthAt n log = getD log (n * placeSize + 1) 0
 
 unfoldable pub frameAt : ℕ → List ℕ → List ℕ
-frameAt n log = take (lengthAt n log) (drop (n * placeSize + 2) log)
+frameAt n log = take (lengthAt n log) (drop (n * placeSize + placeHead) log)
 
 -- Question 13: does the log hold that frame, with a sender octet 0 or 1 and a length of 9 to 78?
 unfoldable pub holds : ℕ → ℕ → List ℕ → Bool

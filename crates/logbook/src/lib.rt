@@ -7,11 +7,14 @@ ghost use Rattle.octets.specs.Octets.{put};
 ghost use Rattle.logbook.specs.Log.{placeSize, places, logSize, senderAt, lengthAt, frameAt, holds, place};
 
 // The octets of a place, the places, and the octets of all.
-pub const PLACE_SIZE: usize = 80;
+pub const PLACE_SIZE: usize = FRAME_AT + octets::LONGEST_FRAME;
+
+// The frame of a place stands after its sender and its length.
+pub const FRAME_AT: usize = 2;
 
 pub const PLACES: usize = 512;
 
-pub const LOG_SIZE: usize = 40960;
+pub const LOG_SIZE: usize = PLACES * PLACE_SIZE;
 
 const SHORTEST_FRAME: u8 = 9;
 
@@ -40,8 +43,8 @@ pub fn frame_of(log: &[u8], n: usize) -> &[u8]
     requires { ⌜ (logSize ≤ length (now log)) × ((n < places) × (lengthAt n (now log) ≤ longestFrame)) ⌝ }
     ensures { λ r. ⌜ now r ≡ frameAt n (now (log .entry)) ⌝ }
 {
-    let at = n * PLACE_SIZE + 2;
-    let end = at + endpoint::wide(log[n * PLACE_SIZE + 1]);
+    let at = n * PLACE_SIZE + FRAME_AT;
+    let end = at + octets::wide(log[n * PLACE_SIZE + 1]);
     &log[at..end]
 }
 
@@ -54,7 +57,7 @@ pub fn enter(log: &mut [u8], n: usize, sender: u8, frame: &[u8])
     let count = frame.len();
     octets::store8(log, at, sender);
     octets::store8(log, at + 1, count as u8);
-    octets::copy(log, at + 2, frame);
+    octets::copy(log, at + FRAME_AT, frame);
     let zeros = [0u8; octets::LONGEST_FRAME];
-    octets::copy(log, at + 2 + count, &zeros[count..]);
+    octets::copy(log, at + FRAME_AT + count, &zeros[count..]);
 }

@@ -7,9 +7,10 @@ use mathlib.Core.List.{List, [], _∷_, _++_}
 use native.Mathlib.Nat.{mul-one}
 use native.Mathlib.Omega.{arith}
 use lib.ListN.{length, getD, drop, replicate}
+use Rattle.frame.specs.Layout.{dataBlockAt}
 use Rattle.octets.specs.Sizes.{longestFrame, longestBlock, queueSize}
 use Rattle.octets.specs.Test.{Outcome, refused, ok, mapped, numberOf}
-use Rattle.octets.specs.Octets.{put, left}
+use Rattle.octets.specs.Octets.{put, left, padded}
 use Rattle.octets.proofs.Octets.{put-none}
 use Rattle.octets.proofs.Outcomes.{is-refused}
 use Rattle.frame.specs.Frame.{Block}
@@ -24,7 +25,7 @@ use Rattle.plan.specs.Parts.{refusing}
 use Rattle.plan.proofs.Comes.{refuses, joined-short}
 use Rattle.plan.proofs.Up.{right, part, told}
 use Rattle.endpoint.specs.declared.Endpoint.{Endpoint}
-use Rattle.endpoint.specs.View.{padded, places, placesSize, lengthsOf, pack, tab, blockAt, view}
+use Rattle.endpoint.specs.View.{places, placesSize, lengthsOf, pack, tab, blockAt, view}
 use Rattle.endpoint.specs.Sound.{sound}
 use Rattle.endpoint.specs.Parts.{numbersOf}
 use Rattle.endpoint.proofs.Packs.{Tidy, Small, small, count, tab-head, lengths-back, blocks-back, pack-view, lengths-added, blocks-added, lengths-dropped, blocks-dropped}
@@ -158,7 +159,7 @@ module _ (e : Endpoint) (l8 : length (e .lengths) ≡ queueSize) (l512 : length 
     leaves = carries e (passed .1) l8 l512 w
 
   -- the block that is handed up stands in what the call was given
-  pub long-enough : p .notice ≡ 5 → 14 ≤ length (c .octets)
+  pub long-enough : p .notice ≡ 5 → dataBlockAt ≤ length (c .octets)
   unfolding outcomeOf
   long-enough z = right (sound e) (view e) c .some (sym (w .notice) ∙ z) .1
 

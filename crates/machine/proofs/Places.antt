@@ -2,10 +2,10 @@
 use Prim.Native.Nat.{ℕ, zero, suc, _+_, _-_, _*_, _≤_}
 use mathlib.Core.Path.{_≡_, refl, sym, ap, _∙_}
 use mathlib.Core.List.{List, [], _∷_, _++_, append-nil, append-assoc}
-use native.Mathlib.Nat.{sub-zero, zero-sub, suc-sub-suc}
 use native.Mathlib.Omega.{arith}
 use lib.ListN.{length, take, drop, replicate, length-append, length-drop, length-replicate, replicate-append-replicate, drop-of-length-le}
 use lib.Seq.{take-all, take-at}
+use Rattle.octets.proofs.Buffers.{drop-zeros}
 use Rattle.octets.specs.Sizes.{longestBlock, queueSize}
 use Rattle.octets.specs.Octets.{put}
 use Rattle.frame.specs.Frame.{Block}
@@ -14,11 +14,6 @@ use Rattle.plan.specs.declared.Queue.the-variants.{Keep, Join, Release}
 use Rattle.plan.specs.Plan.{Room}
 use Rattle.endpoint.specs.View.{placesSize}
 use Rattle.machine.specs.Carried.{PlaceFor}
-
-zeros-after : (m n : ℕ) → drop {A = ℕ} m (replicate n 0) ≡ replicate (n - m) 0
-zeros-after zero n = rw sub-zero refl
-zeros-after (suc m) zero = rw zero-sub refl
-zeros-after (suc m) (suc n) = rw suc-sub-suc (zeros-after m n)
 
 -- a list moved to the front, and zeros after it: by way of a copy in n octets
 pub moved : (n m : ℕ) (l : List ℕ) → length l ≤ n → m ≤ length l → {k r : List ℕ} → k ≡ put (replicate n 0) 0 (take (length l - m) (drop m l))
@@ -31,7 +26,7 @@ moved n m l e h {k} {r} ek er =
     let j : n - (0 + length (drop m l)) ≡ m + (n - length l) = omega arith in
     let lz : length z ≡ length l = simp (length-append, length-replicate) (omega arith) in
     let kz : k ≡ z ++ replicate (n - length l) 0 =
-    ek ∙ ap (λ (x : List ℕ). put (replicate n 0) 0 x) s ∙ rw (zeros-after (0 + length (drop m l)) n) (rw (j, ← replicate-append-replicate, ← append-assoc) refl) in
+    ek ∙ ap (λ (x : List ℕ). put (replicate n 0) 0 x) s ∙ rw (drop-zeros (0 + length (drop m l)) n) (rw (j, ← replicate-append-replicate, ← append-assoc) refl) in
     let tz : take (length l) k ≡ z = ap (take (length l)) kz ∙ take-at z (replicate (n - length l) 0) (length l) lz in
     er ∙ ap (λ (x : List ℕ). put l 0 x) tz ∙ ap (λ (x : List ℕ). z ++ x) (drop-of-length-le l {i = 0 + length z} (omega arith)) ∙ append-nil z
 

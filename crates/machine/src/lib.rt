@@ -3,6 +3,7 @@
 use calls::Call;
 use decide::Numbers;
 use endpoint::Endpoint;
+use octets::refusal;
 use plan::Plan;
 use plan::Queue;
 ghost use mathlib.Core.Path.{_≡_};
@@ -32,10 +33,10 @@ pub fn plan_call<'a>(
     ensures { λ r. ⌜ Plans (recordOf n (now (lengths .entry)) (now (blocks .entry))) (given call (now (s .entry)) room) r ⌝ }
 {
     if room < Endpoint::LONGEST_FRAME {
-        return plan::refuse(n, 11);
+        return plan::refuse(n, refusal::SHORT_BUFFER);
     }
     if !endpoint::is_sound(n, lengths, blocks) {
-        return plan::refuse(n, 12);
+        return plan::refuse(n, refusal::UNSOUND);
     }
     match call {
         Call::Request => requests::request(n, s),
@@ -54,7 +55,7 @@ pub fn send<'a>(
     requires { ⌜ (length (now blocks) ≡ placesSize) × ((length (now lengths) ≡ queueSize) × ((getD (now lengths) 0 0 ≤ longestBlock) × ((length (now joined) ≤ longestBlock) × (longestFrame ≤ length (now out))))) ⌝ }
     ensures { λ r. ⌜ Sends (sentBy (p .reply) (blockOut (p .queue) (now (joined .entry)) (blockAt (now (lengths .entry)) (now (blocks .entry)) 0))) (now (out .entry)) (now (out .exit)) r ⌝ }
 {
-    let count = endpoint::wide(lengths[0]);
+    let count = octets::wide(lengths[0]);
     plan::send_reply(p, joined, &blocks[0..count], out)
 }
 
@@ -75,7 +76,7 @@ fn drop_front(gone: usize, d: &mut [u8])
     if gone == 0 {
         return;
     }
-    let mut kept = [0u8; 512];
+    let mut kept = [0u8; endpoint::PLACES_SIZE];
     octets::copy(&mut kept, 0, &d[gone..]);
     refill(d, &kept);
 }
@@ -97,7 +98,7 @@ fn carry_out(e: Endpoint, p: Plan, joined: &[u8]) -> Endpoint
     requires { ⌜ (e .waiting ≤ queueSize) × ((length (now joined) ≤ longestBlock) × Room (p .queue) (now joined) (e .waiting)) ⌝ }
     ensures { λ r. ⌜ r ≡ carried p (now (joined .entry)) e ⌝ }
 {
-    let waiting = endpoint::wide(e.waiting);
+    let waiting = octets::wide(e.waiting);
     let queue = p.queue;
     let count = [joined.len() as u8];
     let mut lengths = e.lengths;

@@ -6,6 +6,7 @@ use mathlib.Core.List.{List, [], _∷_}
 use native.Mathlib.Omega.{arith}
 use lib.ListN.{length, take, drop}
 use lib.Seq.{drop-drop}
+use Rattle.frame.specs.Layout.{dataBlockAt}
 use Rattle.octets.specs.Sizes.{longestFrame}
 use Rattle.octets.specs.Test.{when, Outcome, refused, ok}
 use Rattle.octets.proofs.Test.{by-eq, eq-no}
@@ -16,7 +17,7 @@ use Rattle.plan.specs.Plan.{noticeOf, blockOf}
 use Rattle.link.specs.Record.{format}
 use Rattle.link.specs.Lent.{sentOf}
 use Rattle.link.proofs.Answers.{block-five, block-none}
-use Rattle.logbook.specs.Log.{placeSize, places, logSize, lengthAt, frameAt, place}
+use Rattle.logbook.specs.Log.{placeSize, places, logSize, lengthAt, frameAt, place, placeHead}
 use Rattle.logbook.proofs.Places.{stays}
 use Rattle.rig.specs.Bench.{sends, callOutcome, logAfter}
 use Rattle.moves.specs.Answer.{blockStart}
@@ -24,7 +25,7 @@ use Rattle.moves.proofs.Does.{some-octets, with-14, Stands}
 
 -- a block is empty, or what follows octet 14 of the frame received
 abbrev pub From : List ℕ → List ℕ → Type 0
-From s b = (b ≡ []) ⊎ (b ≡ drop 14 s)
+From s b = (b ≡ []) ⊎ (b ≡ drop dataBlockAt s)
 
 pub call-from : (rec : List ℕ) (count : ℕ) (c : Arguments) → From (c .octets) (blockOf (callOutcome rec count c))
 unfolding blockOf
@@ -63,19 +64,19 @@ drop-part (suc k) zero z = let e : 0 ≡ 0 - suc k = omega arith in ap (λ (m : 
 drop-part (suc k) (suc n) [] = sym (take-none (suc n - suc k))
 drop-part (suc k) (suc n) (x ∷ z) = let e : n - k ≡ suc n - suc k = omega arith in drop-part k n z ∙ ap (λ (m : ℕ). take m (drop k z)) e
 
-block-part : (n : ℕ) (log : List ℕ) → take (length (drop 14 (frameAt n log))) (drop (blockStart n) log) ≡ drop 14 (frameAt n log)
+block-part : (n : ℕ) (log : List ℕ) → take (length (drop dataBlockAt (frameAt n log))) (drop (blockStart n) log) ≡ drop dataBlockAt (frameAt n log)
 unfolding frameAt blockStart
 block-part n log =
-    let y = drop (n * placeSize + 2) log in
-    let m : n * placeSize + 2 + 14 ≡ n * placeSize + 16 = omega arith in
-    let e : drop 14 y ≡ drop (n * placeSize + 16) log = drop-drop 14 (n * placeSize + 2) log ∙ ap (λ (k : ℕ). drop k log) m in
-    rw (drop-part 14 (lengthAt n log) y, e) (again (lengthAt n log - 14) (drop (n * placeSize + 16) log))
+    let y = drop (n * placeSize + placeHead) log in
+    let m : n * placeSize + placeHead + dataBlockAt ≡ n * placeSize + placeHead + dataBlockAt = omega arith in
+    let e : drop dataBlockAt y ≡ drop (n * placeSize + placeHead + dataBlockAt) log = drop-drop dataBlockAt (n * placeSize + placeHead) log ∙ ap (λ (k : ℕ). drop k log) m in
+    rw (drop-part dataBlockAt (lengthAt n log) y, e) (again (lengthAt n log - dataBlockAt) (drop (n * placeSize + placeHead + dataBlockAt) log))
 
 pub none-stands : (n : ℕ) (log b : List ℕ) → length b ≡ 0 → Stands n log b
 none-stands n log [] h = refl
 none-stands n log (x ∷ b) h = absurd (omega arith)
 
-some-stands : (n : ℕ) (log b : List ℕ) → b ≡ drop 14 (frameAt n log) → Stands n log b
+some-stands : (n : ℕ) (log b : List ℕ) → b ≡ drop dataBlockAt (frameAt n log) → Stands n log b
 some-stands n log b e =
     by-eq (length b) 0 (none-stands n log b)
     (λ z. rw (eq-no (length b) 0 0 (blockStart n) z, e) (block-part n log))
@@ -87,5 +88,5 @@ stands i rec log count n room left below long short =
     let log′ = logAfter i log count o in
     ⊎-elim
     (λ (e : blockOf o ≡ []). none-stands n log′ (blockOf o) (ap length e))
-    (λ (e : blockOf o ≡ drop 14 (frameAt n log)). some-stands n log′ (blockOf o) (e ∙ ap (drop 14) (sym (keeps i log count n o left below long short))))
+    (λ (e : blockOf o ≡ drop dataBlockAt (frameAt n log)). some-stands n log′ (blockOf o) (e ∙ ap (drop dataBlockAt) (sym (keeps i log count n o left below long short))))
     (call-from rec count (given Receive (frameAt n log) room))

@@ -6,13 +6,14 @@ use Rattle.octets.specs.Test.{ifEq, Outcome}
 use Rattle.protocol.specs.Table.{Step}
 use Rattle.plan.specs.Plan.{blockOf}
 use Rattle.link.specs.Lent.{statusOf, sentOf}
-use Rattle.logbook.specs.Log.{placeSize}
+use Rattle.frame.specs.Layout.{dataBlockAt}
+use Rattle.logbook.specs.Log.{placeHead, placeSize}
 use Rattle.rig.specs.Bench.{countAfter}
 use Rattle.moves.specs.declared.BenchAnswer.{BenchAnswer}
 
 -- Where the block of frame n starts in the log: after its place's sender and length and its own kind, s, r, number and count.
 unfoldable pub blockStart : ℕ → ℕ
-blockStart n = n * placeSize + 16
+blockStart n = n * placeSize + placeHead + dataBlockAt
 
 -- What is told of a call at end i with this record, with so many places in use. A block handed up is a part of the log, in frame n.
 unfoldable pub benchAnswerOf : ℕ → List ℕ → ℕ → ℕ → Outcome Step → BenchAnswer

@@ -2,6 +2,7 @@
 use calls::Call;
 use calls::Status;
 use link::Answer;
+use octets::refusal;
 use plan::Reply;
 ghost use mathlib.Core.Path.{_≡_};
 ghost use Prim.Native.Nat.{ℕ, _≤_, _<_};
@@ -34,7 +35,7 @@ fn call_end(call: Call, rec: &mut [u8], s: &[u8], count: usize, out: &mut [u8]) 
     let p = link::plan_call(call, rec, s, out.len());
     let reply = p.reply;
     if !has_place(reply, count) {
-        return link::refuse(rec, 14);
+        return link::refuse(rec, refusal::LOG_FULL);
     }
     link::finish(p, rec, s, out)
 }
@@ -59,7 +60,7 @@ fn block_place(n: usize, block: usize) -> usize
     if block == 0 {
         return 0;
     }
-    n * logbook::PLACE_SIZE + 16
+    n * logbook::PLACE_SIZE + logbook::FRAME_AT + frame::DATA_BLOCK_AT
 }
 
 // What a line answers. end is 0 for A and 1 for B; a block handed up stands in the log, from at on.

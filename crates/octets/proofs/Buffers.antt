@@ -1,11 +1,12 @@
--- What is written at the start of a buffer.
-use Prim.Native.Nat.{ℕ, _+_, _≤_}
-use mathlib.Core.Path.{_≡_, ap}
+-- What is written at the start of a buffer, and zeros after what is held.
+use Prim.Native.Nat.{ℕ, zero, suc, _+_, _-_, _≤_}
+use mathlib.Core.Path.{_≡_, refl, ap}
 use mathlib.Core.List.{List}
+use native.Mathlib.Nat.{sub-zero, zero-sub, suc-sub-suc}
 use native.Mathlib.Omega.{arith}
-use lib.ListN.{length, take, drop, length-append, length-drop}
+use lib.ListN.{length, take, drop, replicate, length-append, length-drop, length-replicate}
 use lib.Seq.{take-append-seam}
-use Rattle.octets.specs.Octets.{put}
+use Rattle.octets.specs.Octets.{put, padded}
 
 -- it fits, since no buffer grows
 pub put-fits : (d s : List ℕ) {x : List ℕ} → x ≡ put d 0 s → length x ≡ length d → length s ≤ length d
@@ -16,3 +17,12 @@ put-fits d s e l = omega (arith, ap length e, length-append s (drop (0 + length 
 pub taken : (d s : List ℕ) {x : List ℕ} {n : ℕ} → x ≡ put d 0 s → n ≡ length s → take n x ≡ s
 unfolding put
 taken d s e l = rw (e, l) (take-append-seam s (drop (0 + length s) d))
+
+pub drop-zeros : (m n : ℕ) → drop {A = ℕ} m (replicate n 0) ≡ replicate (n - m) 0
+drop-zeros zero n = rw sub-zero refl
+drop-zeros (suc m) zero = rw zero-sub refl
+drop-zeros (suc m) (suc n) = rw suc-sub-suc (drop-zeros m n)
+
+pub length-padded : (n : ℕ) (s : List ℕ) → length s ≤ n → length (padded n s) ≡ n
+unfolding padded
+length-padded n s h = simp (length-append, length-replicate) (omega arith)

@@ -1,5 +1,6 @@
 // What the octets of a bench line order: a request at an end, or the delivery of a frame.
 use moves::BenchAnswer;
+use octets::refusal;
 ghost use mathlib.Core.Path.{_≡_};
 ghost use Prim.Native.Nat.{ℕ, _≤_};
 ghost use lib.ListN.{length};
@@ -46,7 +47,7 @@ fn deliver(
     ensures { λ r. ⌜ Played (benchOf (now (a .entry)) (now (b .entry)) (now (log .entry)) count) (delivery (benchOf (now (a .entry)) (now (b .entry)) (now (log .entry)) count) n (length (now (out .entry)))) n (now (out .entry)) (now (a .exit)) (now (b .exit)) (now (log .exit)) (now (out .exit)) r ⌝ }
 {
     if !logbook::holds(log, count, n) {
-        return refuse(a, 13, count);
+        return refuse(a, refusal::NO_SUCH_FRAME, count);
     }
     if logbook::sender_of(log, n) == 0 {
         return moves::deliver_at(1, b, n, log, count, out);
@@ -74,11 +75,11 @@ pub fn ask(
         return moves::request_at(1, b, &s[1..], log, count, out);
     }
     if kind != DELIVER {
-        return refuse(a, 3, count);
+        return refuse(a, refusal::UNKNOWN_KIND, count);
     }
     if s.len() != 3 {
-        return refuse(a, 4, count);
+        return refuse(a, refusal::BAD_SIZE, count);
     }
-    let n = endpoint::wide(s[1]) * 256 + endpoint::wide(s[2]);
+    let n = octets::wide(s[1]) * 256 + octets::wide(s[2]);
     deliver(a, b, log, count, n, out)
 }

@@ -4,6 +4,7 @@ use mathlib.Core.Path.{_≡_, refl, sym, ap, _∙_}
 use mathlib.Core.List.{List, []}
 use native.Mathlib.Omega.{arith}
 use lib.ListN.{length, drop, length-drop, drop-of-length-le}
+use Rattle.frame.specs.Layout.{sendBlockAt}
 use Rattle.octets.specs.Test.{Outcome, refused, ok, numberOf}
 use Rattle.octets.specs.Sizes.{longestBlock}
 use Rattle.frame.specs.Frame.{Block}
@@ -82,25 +83,25 @@ module _ (n : Numbers) (q : List Block) (b old : Block) (w : length q ≡ n .wai
       })
 
 -- the block that joins is the request's
-after-joined : (k : Queue) (s : List ℕ) (q : List Block) → queueAfter k (drop 2 s) q ≡ queueAfter k (joinedBy k s) q
+after-joined : (k : Queue) (s : List ℕ) (q : List Block) → queueAfter k (drop sendBlockAt s) q ≡ queueAfter k (joinedBy k s) q
 unfolding queueAfter joinedBy
 after-joined Keep s q = refl
 after-joined Join s q = refl
 after-joined (Release k) s q = refl
 
-out-joined : (k : Queue) (s : List ℕ) (old : Block) → blockOut k (drop 2 s) old ≡ blockOut k (joinedBy k s) old
+out-joined : (k : Queue) (s : List ℕ) (old : Block) → blockOut k (drop sendBlockAt s) old ≡ blockOut k (joinedBy k s) old
 unfolding joinedBy
 out-joined Keep s old = refl
 out-joined Join s old = refl
 out-joined (Release k) s old = refl
 
-room-joined : (k : Queue) (s : List ℕ) (w : ℕ) → Room k (drop 2 s) w → Room k (joinedBy k s) w
+room-joined : (k : Queue) (s : List ℕ) (w : ℕ) → Room k (drop sendBlockAt s) w → Room k (joinedBy k s) w
 unfolding joinedBy
 room-joined Keep s w r = r
 room-joined Join s w r = r
 room-joined (Release k) s w r = r
 
-pub by-joined : {n : Numbers} {q : List Block} (s : List ℕ) {old : Block} {o : Outcome Step} {p : Plan} → Comes n q (drop 2 s) old o p
+pub by-joined : {n : Numbers} {q : List Block} (s : List ℕ) {old : Block} {o : Outcome Step} {p : Plan} → Comes n q (drop sendBlockAt s) old o p
     → Comes n q (joinedBy (p .queue) s) old o p
 by-joined {q = q} s {old} {p = p} c =
     record {

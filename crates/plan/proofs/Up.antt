@@ -7,6 +7,7 @@ use mathlib.Core.List.{List, []}
 use native.Mathlib.Omega.{arith}
 use lib.ListN.{length, drop}
 use lib.Seq.{take-all}
+use Rattle.frame.specs.Layout.{dataBlockAt}
 use Rattle.octets.specs.Test.{Outcome, refused, ok, refusing, mapped, andThen}
 use Rattle.octets.proofs.Test.{by-eq, eq-yes, eq-no}
 use Rattle.octets.proofs.Outcomes.{after-question, of-value}
@@ -29,9 +30,9 @@ use Rattle.calls.specs.declared.Call.the-variants as call
 use Rattle.calls.specs.Calls.{Arguments, reads, does, asked}
 use Rattle.plan.specs.Plan.{noticeOf, blockIn, blockOf, blockPart, blockBy}
 
--- a notice 5 comes with the octets from 14 on, any other with none
+-- a notice 5 comes with the octets from dataBlockAt on, any other with none
 pub record Right (s block : List ℕ) (n : ℕ) : Type 0 where
-  pub some : n ≡ 5 → (block ≡ drop 14 s) × (14 ≤ length s)
+  pub some : n ≡ 5 → (block ≡ drop dataBlockAt s) × (dataBlockAt ≤ length s)
   pub nothing : n ≢ 5 → block ≡ []
 
 abbrev RightOf : List ℕ → Outcome Step → Type 0
@@ -44,7 +45,7 @@ module _ (s : List ℕ) where
   none : (n : ℕ) → n ≢ 5 → Right s [] n
   none n h = record { some = λ z. absurd (h z); nothing = λ z. refl }
 
-module _ (s : List ℕ) (e : Endpoint) (f : Frame) (d : f .kind ≡ 8 → (f .block ≡ drop 14 s) × (14 ≤ length s)) where
+module _ (s : List ℕ) (e : Endpoint) (f : Frame) (d : f .kind ≡ 8 → (f .block ≡ drop dataBlockAt s) × (dataBlockAt ≤ length s)) where
   abbrev RightBy : Rule → Type 0
   RightBy r = Right s (blockIn (apply r e f .indication)) (notice (apply r e f .indication))
 
@@ -73,7 +74,7 @@ module _ (s : List ℕ) (e : Endpoint) (f : Frame) (d : f .kind ≡ 8 → (f .bl
   unfolding step
   right-step = by-rule (rule e f) (λ z. kind-of (subst (Found e f) z (found e f)))
 
-hearing-right : (s : List ℕ) (e : Endpoint) (r : Outcome Frame) → ((f : Frame) → r ≡ ok f → f .kind ≡ 8 → (f .block ≡ drop 14 s) × (14 ≤ length s))
+hearing-right : (s : List ℕ) (e : Endpoint) (r : Outcome Frame) → ((f : Frame) → r ≡ ok f → f .kind ≡ 8 → (f .block ≡ drop dataBlockAt s) × (dataBlockAt ≤ length s))
     → RightOf s (andThen (mapped deliver r) (λ (x : network.Call). perform x e))
 unfolding andThen mapped perform noticeOf blockOf
 hearing-right s e (refused m) d = none s 0 (λ z. omega arith)
@@ -126,7 +127,7 @@ right sound e c = after-question (RightOf (c .octets)) (none-right (c .octets)) 
 pub part : {s block : List ℕ} {n : ℕ} → Right s block n → blockPart s (length block) ≡ block
 unfolding blockPart
 part {s} {block} {n} r =
-    by-eq n 5 (λ z. let e = r .some z .0 in rw e (take-all (length (drop 14 s)) (drop 14 s) (omega arith)))
+    by-eq n 5 (λ z. let e = r .some z .0 in rw e (take-all (length (drop dataBlockAt s)) (drop dataBlockAt s) (omega arith)))
     (λ z. let e = r .nothing z in rw e refl)
 
 -- and the one that its notice tells

@@ -3,6 +3,7 @@ use Prim.Native.Nat.{ℕ, _≤_, _<_}
 use mathlib.Core.Path.{_≡_}
 use mathlib.Core.List.{List, [], _∷_, _++_}
 use lib.ListN.{length, take, drop}
+use Rattle.frame.specs.Layout.{dataBlockAt, sendBlockAt}
 use Rattle.octets.specs.Sizes.{longestBlock, queueSize}
 use Rattle.octets.specs.Test.{ifEq, Outcome, refused, ok, numberOf}
 use Rattle.octets.specs.Octets.{put}
@@ -47,16 +48,16 @@ blockOf (ok x) = blockIn (x .indication)
 
 -- "A part of the caller's own received frame": the n octets of s from 14 on, where the block of a DATA stands.
 unfoldable pub blockPart : List ℕ → ℕ → Block
-blockPart s n = take n (drop 14 s)
+blockPart s n = take n (drop dataBlockAt s)
 
 -- the block that a notice tells of: all that follows octet 14 with notice 5, else none
 unfoldable pub blockBy : ℕ → List ℕ → Block
-blockBy n s = ifEq n 5 (drop 14 s) []
+blockBy n s = ifEq n 5 (drop dataBlockAt s) []
 
 -- the block that joins: octets 2 on of a send request; none where none joins
 unfoldable pub joinedBy : Queue → List ℕ → Block
 joinedBy Keep s = []
-joinedBy Join s = drop 2 s
+joinedBy Join s = drop sendBlockAt s
 joinedBy (Release k) s = []
 
 -- the waiting blocks q after the plan; b is the block that joins

@@ -5,6 +5,7 @@ ghost use mathlib.Core.Path.{_≡_};
 ghost use Prim.Native.Nat.{ℕ, _≤_};
 ghost use lib.ListN.{length};
 ghost use Rattle.octets.specs.Sizes.{longestFrame, longestBlock};
+ghost use Rattle.frame.specs.Layout.{dataBlockAt};
 ghost use Rattle.plan.specs.Plan.{blockBy, joinedBy, Room, blockOut, sentBy, Sends};
 ghost use Rattle.plan.specs.Parts.{refusing, keeping, turning};
 
@@ -110,7 +111,7 @@ pub fn joined<'a>(queue: Queue, s: &'a [u8]) -> &'a [u8]
 {
     match queue {
         Queue::Keep => &s[..0],
-        Queue::Join => &s[2..],
+        Queue::Join => &s[frame::SEND_BLOCK_AT..],
         Queue::Release(_) => &s[..0],
     }
 }
@@ -131,11 +132,11 @@ pub fn send_reply(p: Plan, joined: &[u8], oldest: &[u8], out: &mut [u8]) -> usiz
 
 // The block that a notice tells of, a part of the frame s received; empty where none is handed up.
 pub fn handed_up<'a>(notice: u8, s: &'a [u8]) -> &'a [u8]
-    requires { ⌜ (notice ≡ 5 → 14 ≤ length (now s)) ⌝ }
+    requires { ⌜ (notice ≡ 5 → dataBlockAt ≤ length (now s)) ⌝ }
     ensures { λ r. ⌜ now r ≡ blockBy notice (now (s .entry)) ⌝ }
 {
     if notice != HANDED_UP {
         return &s[..0];
     }
-    &s[14..]
+    &s[frame::DATA_BLOCK_AT..]
 }

@@ -6,13 +6,14 @@ use mathlib.Core.List.{List, [], _∷_, _++_, append-nil}
 use native.Mathlib.Omega.{arith}
 use lib.Seq.{take-append-seam, take-length, drop-drop}
 use lib.ListN.{length, take, drop, length-append, length-drop, drop-of-length-le}
+use Rattle.octets.specs.Sizes.{longestBlock}
 use Rattle.octets.specs.Octets.{put, bytes, lay}
 use Rattle.octets.proofs.Octets.{length-put, then-put}
 use Rattle.hexline.specs.Line.{hex}
 use Rattle.hexline.proofs.Digits.{length-hex}
 use Rattle.frame.specs.Frame.{Block}
 use Rattle.calls.specs.declared.Status.{Status}
-use Rattle.text.specs.Text.{asLine, counted, answerOctets, frameLine, textOf}
+use Rattle.text.specs.Text.{asLine, counted, answerOctets, frameLine, textOf, longestAnswer}
 use Rattle.text.specs.Text.{Begins}
 
 pub length-line : (s : List ℕ) → length (asLine s) ≡ 2 * length s + 1
@@ -70,7 +71,7 @@ with-block : (t : Status) (b : Block) → length b ≢ 0 → answerOctets t b �
 unfolding answerOctets counted lay bytes
 with-block t b h = rw (counts b h) refl
 
-pub told-some : (t : Status) (b d : List ℕ) → length b ≢ 0 → 76 ≤ length d → length b ≤ 64 → {f g h : List ℕ} → f ≡ put d 0 (answerOctets t [])
+pub told-some : (t : Status) (b d : List ℕ) → length b ≢ 0 → longestAnswer ≤ length d → length b ≤ longestBlock → {f g h : List ℕ} → f ≡ put d 0 (answerOctets t [])
     → g ≡ put f 11 (length b ∷ []) → h ≡ put g 12 b → Begins (answerOctets t b) d h (12 + length b)
 told-some t b d z n m ef eg eh =
     let p = answerOctets t [] in
@@ -80,16 +81,16 @@ told-some t b d z n m ef eg eh =
     rw (with-block t b z)
     (record { count = sym (length-append q b ∙ ap (λ (n : ℕ). n + length b) l); buffer = then-put d q b 12 l (omega arith) s eh })
 
--- at most 76 octets
-pub told-short : (t : Status) (b : Block) → length b ≤ 64 → length (answerOctets t b) ≤ 76
+-- at most longestAnswer octets
+pub told-short : (t : Status) (b : Block) → length b ≤ longestBlock → length (answerOctets t b) ≤ longestAnswer
 told-short t [] h = omega (arith, length-numbers t)
 told-short t (x ∷ b) h =
     let p = answerOctets t [] in
     rw (with-block t (x ∷ b) (λ z. omega arith))
     (omega (arith, length-append (p ++ (length (x ∷ b) ∷ [])) (x ∷ b), length-append p (length (x ∷ b) ∷ []), length-numbers t))
 
-pub told-room : (t : Status) (b d : List ℕ) {x : List ℕ} {n : ℕ} → length b ≤ 64 → length d ≡ 76 → Begins (answerOctets t b) d x n
-    → (n ≤ 76) × (length x ≡ 76)
+pub told-room : (t : Status) (b d : List ℕ) {x : List ℕ} {n : ℕ} → length b ≤ longestBlock → length d ≡ longestAnswer → Begins (answerOctets t b) d x n
+    → (n ≤ longestAnswer) × (length x ≡ longestAnswer)
 told-room t b d h l w =
     let k = told-short t b h in
     (omega (arith, w .count), ap length (w .buffer) ∙ length-put d (answerOctets t b) 0 (omega arith) ∙ l)

@@ -1,8 +1,9 @@
 -- The text of an answer: one line, then the frame sent, if there is one.
-use Prim.Native.Nat.{ℕ, _+_}
+use Prim.Native.Nat.{ℕ, _+_, _*_}
 use mathlib.Core.Path.{_≡_}
 use mathlib.Core.List.{List, [], _∷_, _++_}
 use lib.ListN.{length}
+use Rattle.octets.specs.Sizes.{longestFrame, longestBlock}
 use Rattle.octets.specs.Test.{Outcome, refused, ok}
 use Rattle.octets.specs.Octets.{put, lay}
 use Rattle.hexline.specs.Line.{hex}
@@ -33,9 +34,13 @@ frameLine (b ∷ s) = asLine (b ∷ s)
 unfoldable pub textOf : Status → Block → List ℕ → List ℕ
 textOf t block sent = asLine (answerOctets t block) ++ frameLine sent
 
--- The room that an answer asks for: 153 characters for the answer line with the longest block, 157 for the longest frame's.
+-- The octets of an answer line: its numbers, the count and the longest block.
+abbrev pub longestAnswer : ℕ
+longestAnswer = 11 + 1 + longestBlock
+
+-- The room that an answer asks for: the answer line, with its line feed, and the line of the longest frame.
 abbrev pub answerRoom : ℕ
-answerRoom = 310
+answerRoom = (2 * longestAnswer + 1) + (2 * longestFrame + 1)
 
 -- what the answer's enum says: how many characters, or the refusal's number
 unfoldable pub outputOf : Outcome (List ℕ) → Output

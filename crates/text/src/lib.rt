@@ -3,10 +3,15 @@ use calls::Status;
 ghost use Prim.Native.Nat.{_+_, _*_, _≤_};
 ghost use lib.ListN.{length};
 ghost use Rattle.octets.specs.Sizes.{longestFrame, longestBlock};
-ghost use Rattle.text.specs.Text.{asLine, answerOctets, textOf, answerRoom, Begins};
+ghost use Rattle.text.specs.Text.{asLine, answerOctets, textOf, longestAnswer, answerRoom, Begins};
 
 // Room for an answer: 153 characters for its line with the longest block, 157 for the line of the longest frame.
-pub const ANSWER_ROOM: usize = 310;
+pub const ANSWER_ROOM: usize = 2 * LONGEST_ANSWER + 1 + 2 * octets::LONGEST_FRAME + 1;
+
+// The octets of an answer line: its numbers, the count, the longest block.
+const LONGEST_ANSWER: usize = NUMBERS_SIZE + 1 + octets::LONGEST_BLOCK;
+
+const NUMBERS_SIZE: usize = 11;
 
 const LINE_FEED: u8 = 10;
 
@@ -29,21 +34,21 @@ fn write_line(s: &[u8], out: &mut [u8]) -> usize
 
 // Writes the octets of an answer line to the start of out.
 fn tell(t: Status, block: &[u8], out: &mut [u8]) -> usize
-    requires { ⌜ (76 ≤ length (now out)) × (length (now block) ≤ longestBlock) ⌝ }
+    requires { ⌜ (longestAnswer ≤ length (now out)) × (length (now block) ≤ longestBlock) ⌝ }
     ensures { λ r. ⌜ Begins (answerOctets t (now (block .entry))) (now (out .entry)) (now (out .exit)) r ⌝ }
 {
-    let first = (128 + endpoint::wide32(t.number)) % 256;
+    let first = (128 + octets::wide32(t.number)) % 256;
     octets::store8(out, 0, first as u8);
     octets::store8(out, 1, t.state);
     octets::store8(out, 2, t.notice);
     octets::store32(out, 3, t.local);
     octets::store32(out, 7, t.remote);
     if block.len() == 0 {
-        return 11;
+        return NUMBERS_SIZE;
     }
-    octets::store8(out, 11, block.len() as u8);
-    octets::copy(out, 12, block);
-    12 + block.len()
+    octets::store8(out, NUMBERS_SIZE, block.len() as u8);
+    octets::copy(out, NUMBERS_SIZE + 1, block);
+    NUMBERS_SIZE + 1 + block.len()
 }
 
 // Writes the text of an answer to the start of out: the answer line, and the line of the frame sent, if there is one.
@@ -51,7 +56,7 @@ pub fn write_text(t: Status, block: &[u8], sent: &[u8], out: &mut [u8]) -> usize
     requires { ⌜ (answerRoom ≤ length (now out)) × ((length (now block) ≤ longestBlock) × (length (now sent) ≤ longestFrame)) ⌝ }
     ensures { λ r. ⌜ Begins (textOf t (now (block .entry)) (now (sent .entry))) (now (out .entry)) (now (out .exit)) r ⌝ }
 {
-    let mut octets = [0u8; 76];
+    let mut octets = [0u8; LONGEST_ANSWER];
     let n = tell(t, block, &mut octets);
     let m = write_line(&octets[..n], out);
     if sent.len() == 0 {

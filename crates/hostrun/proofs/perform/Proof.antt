@@ -3,10 +3,11 @@ use mathlib.Core.Path.{_≡_, sym, ap}
 use denote.Ref.{now}
 use lib.ListN.{length}
 use lib.Seq.{length-take-le}
+use Rattle.octets.proofs.Buffers.{put-fits}
 use Rattle.octets.specs.Sizes.{longestFrame}
 use Rattle.text.specs.Text.{answerRoom}
 use Rattle.machine.specs.declared.StepAnswer.{StepAnswer}
-use Rattle.hostrun.proofs.Fits.{put-fits, frame-fits, long-enough, block-short}
+use Rattle.hostrun.proofs.Fits.{frame-fits, long-enough, block-short}
 use native.Mathlib.Omega.{arith}
 use borrow.Author.Needs.{needs}
 use Rattle.hostrun.proofs.perform.Statement.{statement}

@@ -5,7 +5,7 @@ use denote.Ref.{now}
 use Rattle.octets.specs.Test.{when, first, outcome, numberOf}
 use Rattle.octets.specs.Octets.{put, left}
 use Rattle.endpoint.specs.declared.Endpoint.{Endpoint}
-use Rattle.endpoint.specs.Record.{encode}
+use Rattle.endpoint.specs.Record.{encode, recordSize}
 use Rattle.link.specs.Lent.{freshIn}
 use native.Mathlib.Omega.{arith}
 use borrow.Author.Needs.{needs}
@@ -14,13 +14,13 @@ use Rattle.link.proofs.dock_fresh.Tie as tie
 
 returns : tie.Need-returns
 unfolding freshIn first when outcome numberOf left
-returns c = rw (lt-leb 538 (length (now (c .before .before .args .rec))) (omega arith)) (refl, refl)
+returns c = rw (lt-leb recordSize (length (now (c .before .before .args .rec))) (omega arith)) (refl, refl)
 
 returns-2 : tie.Need-returns-2
 unfolding freshIn first when outcome numberOf left
 returns-2 c =
     let d = now (c .before .before .before .before .before .before .before .args .rec) in
-    rw (le-leb 538 (length d) (omega arith)) (refl, c .before .before .encode .ensures ∙ ap (λ (e : Endpoint). put d 0 (encode e)) (c .before .before .before .before .fresh .ensures))
+    rw (le-leb recordSize (length d) (omega arith)) (refl, c .before .before .encode .ensures ∙ ap (λ (e : Endpoint). put d 0 (encode e)) (c .before .before .before .before .fresh .ensures))
 
 pub dock-fresh-spec : {M : Type 1} → statement M
 dock-fresh-spec = tie.close (tie.spec returns (λ c κs. search needs) (λ c κs. search needs) (λ c. search needs) returns-2)

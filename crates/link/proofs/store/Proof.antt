@@ -1,7 +1,7 @@
 use mathlib.Core.Path.{_≡_, sym, _∙_}
 use denote.Ref.{now}
 use Rattle.octets.proofs.Octets.{field-one}
-use Rattle.endpoint.specs.Record.{decode}
+use Rattle.endpoint.specs.Record.{decode, waitingAt}
 use Rattle.machine.proofs.Places.{for-lengths, for-blocks}
 use Rattle.link.proofs.Carries.{carried-out}
 use native.Mathlib.Omega.{arith}
@@ -9,10 +9,10 @@ use borrow.Author.Needs.{needs}
 use Rattle.link.proofs.store.Statement.{statement}
 use Rattle.link.proofs.store.Tie as tie
 
--- w is octet 17
+-- w stands there
 waits : (c : tie.After-wide) → c .wide .result ≡ decode (now (c .before .before .before .before .args .rec)) .waiting
 unfolding decode
-waits c = c .wide .ensures .0 ∙ sym (field-one 17 (now (c .before .before .before .before .args .rec)) (omega arith))
+waits c = c .wide .ensures .0 ∙ sym (field-one waitingAt (now (c .before .before .before .before .args .rec)) (omega arith))
 
 change-places-requires : tie.Need-change-places-requires
 change-places-requires c κs =

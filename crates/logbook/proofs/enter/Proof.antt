@@ -1,5 +1,6 @@
 use Prim.Native.Nat.{_*_}
 use denote.Ref.{now}
+use Rattle.logbook.specs.Log.{placeSize}
 use Rattle.logbook.proofs.Log.{entered}
 use native.Mathlib.Omega.{arith}
 use borrow.Author.Needs.{needs}
@@ -7,7 +8,7 @@ use Rattle.logbook.proofs.enter.Statement.{statement}
 use Rattle.logbook.proofs.enter.Tie as tie
 
 returns : tie.Need-returns
-returns c = let a = c .before .before .before .before .before .before .before .before .before .before .before .before .before .before .before .before .before .before .before .before .args in entered (now (a .log)) (now (a .frame)) (a .n * 80) (a .sender) (c .before .before .before .before .before .before .before .before .before .before .before .before .before .before .before .before .before .before .before .before .pre .1 .1) (omega (arith, c .before .before .before .before .before .before .before .before .before .before .before .before .before .before .before .before .before .before .before .before .pre)) (c .before .before .before .before .before .before .before .before .before .before .before .before .before .before .before .before .store8 .ensures) (c .before .before .before .before .before .before .before .before .before .before .before .before .store82 .ensures) (c .before .before .before .before .before .before .before .before .copy .ensures) (c .before .before .copy2 .ensures)
+returns c = let a = c .before .before .before .before .before .before .before .before .before .before .before .before .before .before .before .before .before .before .before .before .args in entered (now (a .log)) (now (a .frame)) (a .n * placeSize) (a .sender) (c .before .before .before .before .before .before .before .before .before .before .before .before .before .before .before .before .before .before .before .before .pre .1 .1) (omega (arith, c .before .before .before .before .before .before .before .before .before .before .before .before .before .before .before .before .before .before .before .before .pre)) (c .before .before .before .before .before .before .before .before .before .before .before .before .before .before .before .before .store8 .ensures) (c .before .before .before .before .before .before .before .before .before .before .before .before .store82 .ensures) (c .before .before .before .before .before .before .before .before .copy .ensures) (c .before .before .copy2 .ensures)
 
 pub enter-spec : {M : Type 1} → statement M
 enter-spec =

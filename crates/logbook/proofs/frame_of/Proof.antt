@@ -2,7 +2,7 @@ use Prim.Native.Nat.{ℕ, _+_, _-_, _*_}
 use mathlib.Core.Path.{_≡_, ap}
 use denote.Ref.{now}
 use lib.ListN.{take, drop}
-use Rattle.logbook.specs.Log.{lengthAt, frameAt}
+use Rattle.logbook.specs.Log.{lengthAt, frameAt, placeSize}
 use native.Mathlib.Omega.{arith}
 use borrow.Author.Needs.{needs}
 use Rattle.logbook.proofs.frame_of.Statement.{statement}
@@ -16,7 +16,7 @@ returns : tie.Need-returns
 unfolding lengthAt frameAt
 returns c =
     let a = c .before .before .before .before .args in
-    let at = a .n * 80 + 2 in
+    let at = a .n * placeSize + 2 in
     let n : at + c .before .wide .result - at ≡ lengthAt (a .n) (now (a .log)) = omega (arith, c .before .wide .ensures .0) in
     ap (λ (k : ℕ). take k (drop at (now (a .log)))) n
 

@@ -3,6 +3,7 @@ use mathlib.Core.Path.{sym, _∙_}
 use denote.Ref.{now}
 use lib.ListN.{length, drop, length-drop}
 use lib.Seq.{take-all}
+use Rattle.frame.specs.Layout.{dataBlockAt}
 use Rattle.octets.proofs.Test.{eq-yes, eq-no}
 use Rattle.plan.specs.Plan.{blockBy}
 use native.Mathlib.Omega.{arith}
@@ -24,7 +25,7 @@ returns-2 : tie.Need-returns-2
 unfolding blockBy
 returns-2 c =
     let s = now (c .before .before .args .s) in
-    take-all (length s - 14) (drop 14 s) (omega (arith, length-drop 14 s)) ∙ sym (eq-yes _ _ _ _ (c .before .if1 .left))
+    take-all (length s - dataBlockAt) (drop dataBlockAt s) (omega (arith, length-drop dataBlockAt s)) ∙ sym (eq-yes _ _ _ _ (c .before .if1 .left))
 
 pub handed-up-spec : {M : Type 1} → statement M
 handed-up-spec =

@@ -3,6 +3,7 @@ use mathlib.Core.Path.{_≡_, refl}
 use lib.ListN.{length, drop, length-drop}
 use lib.Seq.{take-all}
 use denote.Ref.{now}
+use Rattle.frame.specs.Layout.{sendBlockAt}
 use Rattle.plan.specs.declared.Queue.the-variants.{Join}
 use Rattle.plan.specs.Plan.{joinedBy}
 use native.Mathlib.Omega.{arith}
@@ -11,9 +12,9 @@ use Rattle.plan.proofs.joined.Statement.{statement}
 use Rattle.plan.proofs.joined.Tie as tie
 
 -- a block that joins has an octet at least
-long : (c : tie.Start) → c .args .queue ≡ Join → 2 ≤ length (now (c .args .s))
+long : (c : tie.Start) → c .args .queue ≡ Join → sendBlockAt ≤ length (now (c .args .s))
 unfolding joinedBy
-long c h = let r = rw h at (c .pre .1) in omega (arith, length-drop 2 (now (c .args .s)), r .1 .0)
+long c h = let r = rw h at (c .pre .1) in omega (arith, length-drop sendBlockAt (now (c .args .s)), r .1 .0)
 
 sub-result : tie.Need-sub-result
 sub-result c = omega (arith, long (c .before .before) (c .enum-told2 .given .1))
@@ -29,7 +30,7 @@ returns-2 : tie.Need-returns-2
 unfolding joinedBy
 returns-2 c =
     let s = now (c .before .before .before .args .s) in
-    rw (c .before .enum-told2 .given .1) (take-all (length s - 2) (drop 2 s) (omega (arith, length-drop 2 s)))
+    rw (c .before .enum-told2 .given .1) (take-all (length s - sendBlockAt) (drop sendBlockAt s) (omega (arith, length-drop sendBlockAt s)))
 
 returns-3 : tie.Need-returns-3
 unfolding joinedBy

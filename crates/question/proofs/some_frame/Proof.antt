@@ -4,6 +4,7 @@ use denote.Ref.{now}
 use native.Mathlib.Omega.{arith}
 use borrow.Author.Count.{below-more, below-none}
 use borrow.Author.Needs.{needs}
+use Rattle.logbook.specs.Log.{places}
 use Rattle.octets.specs.Test.{when, first}
 use Rattle.rig.specs.Bench.{Bench, benchOf}
 use Rattle.question.specs.Found.{Matters, questions}
@@ -13,10 +14,10 @@ use Rattle.question.proofs.some_frame.Tie as tie
 
 -- no frame before i matters
 abbrev Inv-loop : tie.InvT-loop
-Inv-loop a b log count refusal i₀ i = (count ≤ 512) × ((i ≤ 512) × ((k : ℕ) → k < i → Matters (benchOf a b log count) k → ⊥))
+Inv-loop a b log count refusal i₀ i = (count ≤ places) × ((i ≤ places) × ((k : ℕ) → k < i → Matters (benchOf a b log count) k → ⊥))
 
 abbrev μ-loop : tie.MeasureT-loop
-μ-loop a b log count refusal i₀ i = 512 - i
+μ-loop a b log count refusal i₀ i = places - i
 
 abbrev bench : tie.Start Inv-loop μ-loop → Bench
 bench c = benchOf (now (c .args .a)) (now (c .args .b)) (now (c .args .log)) (c .args .count)

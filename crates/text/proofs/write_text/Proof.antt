@@ -1,9 +1,9 @@
-use Prim.Native.Nat.{_≤_}
+use Prim.Native.Nat.{_+_, _*_, _≤_}
 use mathlib.Core.Path.{_≡_, refl, sym, ap}
 use denote.Ref.{now}
 use lib.ListN.{length, take, replicate}
 use lib.Seq.{length-take-le}
-use Rattle.text.specs.Text.{asLine, answerOctets}
+use Rattle.text.specs.Text.{asLine, answerOctets, longestAnswer}
 use Rattle.text.specs.Text.{Begins}
 use Rattle.octets.proofs.Buffers.{taken}
 use Rattle.text.proofs.Text.{length-line, length-rest, told-short, told-room, text-none, text-some}
@@ -13,16 +13,16 @@ use Rattle.text.proofs.write_text.Statement.{statement}
 use Rattle.text.proofs.write_text.Tie as tie
 
 -- the octets of the answer line, and its text
-fits : (c : tie.After-octets2) → (c .before .tell .result ≤ 76) × (length (c .before .tell .last .1 .1 .0) ≡ 76)
-fits c = let s = c .before .before .before .before .before .before in told-room (s .args .t) (now (s .args .block)) (replicate 76 0) (s .pre .1 .0) refl (c .before .tell .ensures)
+fits : (c : tie.After-octets2) → (c .before .tell .result ≤ longestAnswer) × (length (c .before .tell .last .1 .1 .0) ≡ longestAnswer)
+fits c = let s = c .before .before .before .before .before .before in told-room (s .args .t) (now (s .args .block)) (replicate longestAnswer 0) (s .pre .1 .0) refl (c .before .tell .ensures)
 
 octets : (c : tie.After-octets2) → take (c .before .tell .result) (c .before .tell .last .1 .1 .0) ≡ answerOctets (c .before .before .before .before .before .before .args .t) (now (c .before .before .before .before .before .before .args .block))
-octets c = let w = c .before .tell .ensures in taken (replicate 76 0) _ (w .buffer) (w .count)
+octets c = let w = c .before .tell .ensures in taken (replicate longestAnswer 0) _ (w .buffer) (w .count)
 
 line : (c : tie.After-write-line) → Begins (asLine (answerOctets (c .before .before .before .before .before .before .before .before .before .args .t) (now (c .before .before .before .before .before .before .before .before .before .args .block)))) (now (c .before .before .before .before .before .before .before .before .before .args .out)) (c .write-line .last .1 .0) (c .write-line .result)
 line c = rw (octets (c .before .before .before)) at (c .write-line .ensures)
 
-line-fits : (c : tie.After-write-line) → c .write-line .result ≤ 153
+line-fits : (c : tie.After-write-line) → c .write-line .result ≤ 2 * longestAnswer + 1
 line-fits c =
     let s = c .before .before .before .before .before .before .before .before .before in
     let a = answerOctets (s .args .t) (now (s .args .block)) in
