@@ -9,8 +9,7 @@ use Rattle.octets.specs.Test.{when, first, Outcome, ok, outcome}
 use Rattle.octets.specs.Sizes.{longestFrame}
 use Rattle.hexline.specs.Line.{unhex}
 use Rattle.link.specs.Lent.{freshRecord}
-use Rattle.console.specs.Line.{room}
-use Rattle.rig.specs.Bench.{Bench, benchOf, sizeQuestions, soundQuestions, At, asks, asked, comes, endOf, benchAfter}
+use Rattle.rig.specs.Bench.{Bench, benchOf, sizeQuestions, soundQuestions, At, octetsAsk, lineAsks, comes, endOf, benchAfter}
 use Rattle.desk.specs.Text.{answerRoom, benchText, askedWith}
 use Rattle.lines.specs.Split.{cut}
 use Rattle.lines.proofs.Long.{asks-cut}
@@ -21,9 +20,9 @@ use Rattle.stream.proofs.Steps.{free, free-room}
 use Rattle.stream.proofs.Program.{program-run}
 use Rattle.bench.specs.Ends.{bothEnds, freshBench}
 
-same : (w : Bench) (l : List ℕ) → asked w (cut l) room ≡ asked w l room
-unfolding asked
-same w l = asks-cut (sizeQuestions w ((11, leb longestFrame (length room)) ∷ soundQuestions w [])) tt (λ (x : List ℕ). asks w (unhex x) room) l
+same : (w : Bench) (l : List ℕ) → lineAsks w (cut l) longestFrame ≡ lineAsks w l longestFrame
+unfolding lineAsks
+same w l = asks-cut (sizeQuestions w ((11, leb longestFrame longestFrame) ∷ soundQuestions w [])) tt (λ (x : List ℕ). octetsAsk w (unhex x) longestFrame) l
 
 pub cuts : Cuts bothEnds
 cuts =
@@ -33,7 +32,7 @@ cuts =
     }
 
 -- where there is room for an answer, the line is asked
-pub asks-with : (w : Bench) (line out : List ℕ) (filled : ℕ) → filled + answerRoom ≤ length out → askedWith w line (free out filled) ≡ ok (asked w line room)
+pub asks-with : (w : Bench) (line out : List ℕ) (filled : ℕ) → filled + answerRoom ≤ length out → askedWith w line (free out filled) ≡ ok (lineAsks w line longestFrame)
 unfolding askedWith first when outcome
 asks-with w line out filled h = rw (le-leb answerRoom (length (free out filled)) (free-room out filled answerRoom h)) refl
 

@@ -11,7 +11,7 @@ use Rattle.calls.specs.Calls.{performed, recordAfter}
 use Rattle.link.specs.Record.{format}
 use Rattle.link.specs.Lent.{freshRecord}
 use Rattle.text.specs.Text.{answerRoom}
-use Rattle.console.specs.Line.{callOf, lineOutcome}
+use Rattle.console.specs.Line.{lineCall, lineOutcome}
 use Rattle.console.specs.Text.{text, answered}
 use Rattle.lines.specs.Split.{cut}
 use Rattle.lines.proofs.Long.{asks-cut}
@@ -24,7 +24,7 @@ use Rattle.line.specs.Ends.{oneEnd}
 
 same : (rec l : List ℕ) → lineOutcome rec (cut l) ≡ lineOutcome rec l
 unfolding lineOutcome
-same rec l = asks-cut ((11, leb (format .size) (length rec)) ∷ (12, format .sound rec) ∷ []) tt (λ (x : List ℕ). performed format rec (callOf (unhex x))) l
+same rec l = asks-cut ((11, leb (format .size) (length rec)) ∷ (12, format .sound rec) ∷ []) tt (λ (x : List ℕ). performed format rec (lineCall (unhex x))) l
 
 pub cuts : Cuts oneEnd
 cuts = record { next = λ rec l. ap (recordAfter format rec) (same rec l); says = λ rec l. ap (text rec) (same rec l) }

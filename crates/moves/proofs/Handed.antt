@@ -68,9 +68,9 @@ block-part : (n : ℕ) (log : List ℕ) → take (length (drop dataBlockAt (fram
 unfolding frameAt blockStart
 block-part n log =
     let y = drop (n * placeSize + placeHead) log in
-    let m : n * placeSize + placeHead + dataBlockAt ≡ n * placeSize + placeHead + dataBlockAt = omega arith in
-    let e : drop dataBlockAt y ≡ drop (n * placeSize + placeHead + dataBlockAt) log = drop-drop dataBlockAt (n * placeSize + placeHead) log ∙ ap (λ (k : ℕ). drop k log) m in
-    rw (drop-part dataBlockAt (lengthAt n log) y, e) (again (lengthAt n log - dataBlockAt) (drop (n * placeSize + placeHead + dataBlockAt) log))
+    let m : n * placeSize + placeHead + dataBlockAt ≡ n * placeSize + (placeHead + dataBlockAt) = omega arith in
+    let e : drop dataBlockAt y ≡ drop (n * placeSize + (placeHead + dataBlockAt)) log = drop-drop dataBlockAt (n * placeSize + placeHead) log ∙ ap (λ (k : ℕ). drop k log) m in
+    rw (drop-part dataBlockAt (lengthAt n log) y, e) (again (lengthAt n log - dataBlockAt) (drop (n * placeSize + (placeHead + dataBlockAt)) log))
 
 pub none-stands : (n : ℕ) (log b : List ℕ) → length b ≡ 0 → Stands n log b
 none-stands n log [] h = refl

@@ -13,7 +13,7 @@ use Rattle.moves.specs.declared.BenchAnswer.{BenchAnswer}
 
 -- Where the block of frame n starts in the log: after its place's sender and length and its own kind, s, r, number and count.
 unfoldable pub blockStart : ℕ → ℕ
-blockStart n = n * placeSize + placeHead + dataBlockAt
+blockStart n = n * placeSize + (placeHead + dataBlockAt)
 
 -- What is told of a call at end i with this record, with so many places in use. A block handed up is a part of the log, in frame n.
 unfoldable pub benchAnswerOf : ℕ → List ℕ → ℕ → ℕ → Outcome Step → BenchAnswer

@@ -52,6 +52,9 @@ fn note(end: u8, log: &mut [u8], count: usize, sent: &[u8]) -> usize
     count + 1
 }
 
+// The block of a DATA in its place of the log.
+const BLOCK_AT: usize = logbook::FRAME_AT + frame::DATA_BLOCK_AT;
+
 // Where the block handed up from frame n stands in the log; 0 where there is none.
 fn block_place(n: usize, block: usize) -> usize
     requires { ⌜ n < places ⌝ }
@@ -60,7 +63,7 @@ fn block_place(n: usize, block: usize) -> usize
     if block == 0 {
         return 0;
     }
-    n * logbook::PLACE_SIZE + logbook::FRAME_AT + frame::DATA_BLOCK_AT
+    n * logbook::PLACE_SIZE + BLOCK_AT
 }
 
 // What a line answers. end is 0 for A and 1 for B; a block handed up stands in the log, from at on.

@@ -9,9 +9,11 @@ ghost use Rattle.text.specs.Text.{asLine, answerOctets, textOf, longestA
 pub const ANSWER_ROOM: usize = 2 * LONGEST_ANSWER + 1 + 2 * octets::LONGEST_FRAME + 1;
 
 // The octets of an answer line: its numbers, the count, the longest block.
-const LONGEST_ANSWER: usize = NUMBERS_SIZE + 1 + octets::LONGEST_BLOCK;
+const LONGEST_ANSWER: usize = BLOCK_AT + octets::LONGEST_BLOCK;
 
 const NUMBERS_SIZE: usize = 11;
+
+const BLOCK_AT: usize = NUMBERS_SIZE + 1;
 
 const LINE_FEED: u8 = 10;
 
@@ -47,8 +49,8 @@ fn tell(t: Status, block: &[u8], out: &mut [u8]) -> usize
         return NUMBERS_SIZE;
     }
     octets::store8(out, NUMBERS_SIZE, block.len() as u8);
-    octets::copy(out, NUMBERS_SIZE + 1, block);
-    NUMBERS_SIZE + 1 + block.len()
+    octets::copy(out, BLOCK_AT, block);
+    BLOCK_AT + block.len()
 }
 
 // Writes the text of an answer to the start of out: the answer line, and the line of the frame sent, if there is one.

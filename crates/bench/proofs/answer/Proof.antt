@@ -2,7 +2,7 @@ use mathlib.Core.Path.{ap, _∙_}
 use denote.Ref.{now}
 use native.Mathlib.Omega.{arith}
 use Rattle.rig.specs.Bench.{benchOf}
-use Rattle.console.proofs.Lines.{written-count, written-text, never-refused}
+use Rattle.text.proofs.Outputs.{written-count, written-text, never-refused}
 use Rattle.desk.specs.Text.{benchText, benchIn}
 use Rattle.desk.proofs.Plays.{written-fits}
 use Rattle.stream.proofs.Steps.{replied}

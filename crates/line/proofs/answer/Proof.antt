@@ -1,8 +1,9 @@
 use mathlib.Core.Path.{ap, _∙_}
 use denote.Ref.{now}
 use native.Mathlib.Omega.{arith}
-use Rattle.console.specs.Text.{text, recordOf}
-use Rattle.console.proofs.Lines.{written-fits, written-count, written-text, never-refused}
+use Rattle.console.specs.Text.{text, recordLeft}
+use Rattle.text.proofs.Outputs.{written-count, written-text, never-refused}
+use Rattle.console.proofs.Lines.{written-fits}
 use Rattle.stream.proofs.Steps.{replied}
 use Rattle.line.proofs.Ends.{asks}
 use borrow.Author.Needs.{needs}
@@ -10,13 +11,13 @@ use Rattle.line.proofs.answer.Statement.{statement}
 use Rattle.line.proofs.answer.Tie as tie
 
 returns : tie.Need-returns
-unfolding recordOf
+unfolding recordLeft
 returns c =
     let a = c .before .before .before .before .before .before .before .before .before .before .before .before .before in
     let w = rw (c .before .reply .given .1) at (c .before .before .before .before .before .before .before .answer .ensures) in
     let f = text (now (a .args .rec)) in
     let e = asks (now (a .args .rec)) (now (a .args .line)) (now (a .args .out)) (a .args .filled) (a .pre) in
-    replied (now (a .args .line)) (now (a .args .out)) (a .args .filled) _ (omega (arith, a .pre)) (w .end ∙ ap (recordOf (now (a .args .rec))) e)
+    replied (now (a .args .line)) (now (a .args .out)) (a .args .filled) _ (omega (arith, a .pre)) (w .end ∙ ap (recordLeft (now (a .args .rec))) e)
     (written-count f e (w .answer)) (written-text f e _ (w .buffer)) (written-fits w (search needs))
 
 returns-2 : tie.Need-returns-2
