@@ -2,9 +2,9 @@
 use Prim.Native.Nat.{ℕ}
 use mathlib.Core.Path.{_≡_, refl, ap}
 use mathlib.Core.List.{List, []}
-use lib.ListN.{length, take, replicate}
+use lib.ListN.{take, replicate}
 use Rattle.octets.specs.Sizes.{longestFrame}
-use Rattle.octets.specs.Test.{Outcome, refused, mapped, numberOf}
+use Rattle.octets.specs.Test.{Outcome, refused, mapped}
 use Rattle.octets.specs.Octets.{left}
 use Rattle.frame.specs.Frame.{Block}
 use Rattle.protocol.specs.Table.{Step}

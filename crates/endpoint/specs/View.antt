@@ -1,7 +1,7 @@
 -- The struct and the endpoint of the step table that it stands for.
-use Prim.Native.Nat.{ℕ, zero, suc, _-_, _*_}
+use Prim.Native.Nat.{ℕ, zero, suc, _*_}
 use mathlib.Core.List.{List, [], _∷_, _++_}
-use lib.ListN.{length, take, drop, getD, replicate}
+use lib.ListN.{length, take, drop, getD}
 use Rattle.octets.specs.Octets.{padded}
 use Rattle.octets.specs.Sizes.{longestBlock, queueSize}
 use Rattle.frame.specs.Frame.{Block}

@@ -16,13 +16,12 @@ use Rattle.octets.proofs.Buffers.{put-fits, taken}
 use Rattle.octets.proofs.Outcomes.{after-question, is-refused}
 use Rattle.frame.specs.Frame.{Block}
 use Rattle.protocol.specs.Endpoint as abstract
-use Rattle.protocol.specs.Endpoint.{fresh}
 use Rattle.protocol.specs.Table.{Step}
 use Rattle.calls.specs.declared.Call.the-variants.{Request}
 use Rattle.calls.specs.Calls.{Arguments, given, wire, asked, performed, recordAfter, bufferAfter}
 use Rattle.plan.specs.declared.Plan.{Plan}
 use Rattle.plan.specs.Plan.{noticeOf, sentIn, blockOf, blockPart, blockBy, endpointAfter, joinedBy, blockOut, sentBy, Sends}
-use Rattle.plan.proofs.Up.{Right, right, Silent, refusing-silent, request-silent}
+use Rattle.plan.proofs.Up.{Right, right, refusing-silent, request-silent}
 use Rattle.plan.proofs.Up as up
 use Rattle.endpoint.specs.declared.Endpoint.{Endpoint}
 use Rattle.endpoint.specs.View.{placesSize, blockAt, pack, view}

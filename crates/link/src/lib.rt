@@ -8,7 +8,6 @@ use endpoint::LENGTHS_AT;
 use octets::refusal;
 use plan::Plan;
 ghost use mathlib.Core.Path.{_≡_};
-ghost use mathlib.Core.List.{[], _∷_};
 ghost use Prim.Native.Nat.{_≤_};
 ghost use lib.ListN.{length};
 ghost use Rattle.octets.specs.Sizes.{longestBlock, queueSize};

@@ -1,22 +1,17 @@
 -- What the calls keep: an accepted call of a sound struct leaves a sound struct, which holds the endpoint that the step table
 -- gives.
 use Prim.Native.Nat.{ℕ, _+_, _≤_}
-use mathlib.Core.Path.{_≡_, refl, sym, subst, ap, _∙_}
+use mathlib.Core.Path.{_≡_, refl, subst}
 use mathlib.Core.Bool.{Bool, true}
 use mathlib.Core.List.{List}
 use native.Mathlib.Omega.{arith}
-use borrow.Author.Tests.{leb-true, eqb-true}
-use lib.Dec.{leb, eqb}
-use lib.ListN.{length, getD, length-drop}
+use lib.ListN.{length}
 use Rattle.octets.specs.Sizes.{queueSize, lastNumber}
 use Rattle.octets.specs.Test.{first, Outcome, refused, ok, mapped, andThen}
 use Rattle.octets.specs.Octets.{field, Octets}
 use Rattle.octets.proofs.Octets.{field-one, field-more}
-use Rattle.octets.proofs.Test.{within, by-eq, accepted, all-yes, passing}
-use Rattle.frame.specs.Frame.{DRACK, DATA, Frame}
-use Rattle.frame.specs.Fits.{Fits, control-fits, data-fits, ack-fits}
-use Rattle.frame.specs.Layout.{isFrame}
-use Rattle.frame.specs.Read.{kindOf, countOk, numbersOk, frameAt, readFrame, readRequest}
+use Rattle.octets.proofs.Test.{all-yes, passing}
+use Rattle.frame.specs.Read.{readFrame, readRequest}
 use Rattle.frame.proofs.Fits.{read-fits}
 use Rattle.protocol.specs.Table.{Step}
 use Rattle.protocol.specs.Network.{ask, deliver, perform}

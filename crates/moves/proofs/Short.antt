@@ -8,7 +8,7 @@ use borrow.Author.Tests.{le-leb}
 use lib.Dec.{leb}
 use lib.ListN.{length}
 use Rattle.octets.specs.Sizes.{longestFrame, longestBlock}
-use Rattle.octets.specs.Test.{when, ifEq, inRange, first, Outcome, refused, ok, outcome, refusing, mapped, andThen}
+use Rattle.octets.specs.Test.{when, ifEq, inRange, first, Outcome, refused, ok, refusing, mapped, andThen}
 use Rattle.octets.specs.Octets.{bytes, lay}
 use Rattle.octets.proofs.Test.{if-eq}
 use Rattle.octets.proofs.Outcomes.{of-value, after-value}
@@ -21,7 +21,7 @@ use Rattle.protocol.specs.declared.Rule.the-variants.{Ignore, Refuse, AcceptDis
 use Rattle.protocol.specs.declared.Rule.the-variants.{RejectedByDisconnect, ListenAgain, ClosedByPartner, Confirm, HandUp, Acknowledge, Release}
 use Rattle.protocol.specs.declared.Rule.the-variants.{FinishedByDisconnect, Finished}
 use Rattle.protocol.specs.Endpoint.{Endpoint, sized, sound}
-use Rattle.protocol.specs.Table.{Sent, nothing, frame, Step, rule, apply, step}
+use Rattle.protocol.specs.Table.{Sent, frame, Step, rule, apply, step}
 use Rattle.protocol.specs.Requests.{oldest, resent, refusal, accept}
 use Rattle.protocol.specs.Requests as protocol
 use Rattle.protocol.specs.Network.{ask, deliver, Call, perform}

@@ -4,7 +4,7 @@ use mathlib.Core.Path.{_≡_, refl, sym, ap, _∙_}
 use mathlib.Core.Logic.{_≢_}
 use mathlib.Core.List.{List, [], _∷_, _++_, append-nil}
 use native.Mathlib.Omega.{arith}
-use lib.Seq.{take-append-seam, take-length, drop-drop}
+use lib.Seq.{take-length, drop-drop}
 use lib.ListN.{length, take, drop, length-append, length-drop, drop-of-length-le}
 use Rattle.octets.specs.Sizes.{longestBlock}
 use Rattle.octets.specs.Octets.{put, bytes, lay}

@@ -71,14 +71,5 @@ returns c =
 pub ask-spec : {M : Type 1} → statement M
 ask-spec =
     tie.close
-    (tie.spec
-    (λ c κs. search needs)
-    (λ c. search needs)
-    (λ c κs. search needs)
-    handed-up-requires
-    array-share-prefix-frame
-    slice-aggregate-write-text
-    write-text-requires
-    (λ c. search needs)
-    (λ c. search needs)
-    returns)
+    (tie.spec (λ c κs. search needs) (λ c. search needs) (λ c κs. search needs) handed-up-requires array-share-prefix-frame slice-aggregate-write-text
+    write-text-requires (λ c. search needs) (λ c. search needs) returns)

@@ -1,8 +1,4 @@
-use mathlib.Core.Path.{ap, sym, _∙_}
 use denote.Ref.{now}
-use Prim.Native.Nat.{ℕ}
-use Rattle.octets.specs.Test.{refused}
-use Rattle.link.specs.Lent.{answerOf}
 use Rattle.console.proofs.Ends.{refuses}
 use Rattle.console.proofs.Lines.{refused-so}
 use borrow.Author.Needs.{needs}
@@ -18,11 +14,4 @@ returns c =
 pub refuse-spec : {M : Type 1} → statement M
 refuse-spec =
     tie.close
-    (tie.spec
-    (λ c κs. search needs)
-    (λ c κs. search needs)
-    (λ c. search needs)
-    (λ c. search needs)
-    (λ c κs. search needs)
-    (λ c. search needs)
-    returns)
+    (tie.spec (λ c κs. search needs) (λ c κs. search needs) (λ c. search needs) (λ c. search needs) (λ c κs. search needs) (λ c. search needs) returns)

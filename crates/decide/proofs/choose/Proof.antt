@@ -12,14 +12,8 @@ pub choose-spec : {M : Type 1} → statement M
 unfolding rule ifEq ifLt when
 choose-spec =
     tie.close
-    (tie.spec
-    (λ c q b h. let a = c .before .args in rw (lt-ltb (a .f .sender) (a .e .remote) (omega arith)) refl)
-    (λ c κs. search needs)
-    (λ c κs. search needs)
-    (λ c κs. search needs)
-    (λ c κs. search needs)
-    (λ c κs. search needs)
-    (λ c κs. search needs)
+    (tie.spec (λ c q b h. let a = c .before .args in rw (lt-ltb (a .f .sender) (a .e .remote) (omega arith)) refl) (λ c κs. search needs) (λ c κs. search needs)
+    (λ c κs. search needs) (λ c κs. search needs) (λ c κs. search needs) (λ c κs. search needs)
     (λ c q b h. let a = c .before .before .before .args in let e : a .e .state ≡ closed = omega arith in rw (le-ltb (a .f .sender) (a .e .remote) (omega arith), e) (rw e at (c .when-closed .ensures q b h)))
     (λ c q b h. let a = c .before .before .before .args in let e : a .e .state ≡ listening = omega arith in rw (le-ltb (a .f .sender) (a .e .remote) (omega arith), e) (rw e at (c .when-listening .ensures q b h)))
     (λ c q b h. let a = c .before .before .before .args in let e : a .e .state ≡ activeOpening = omega arith in rw (le-ltb (a .f .sender) (a .e .remote) (omega arith), e) (rw e at (c .when-active .ensures q b h)))

@@ -5,6 +5,4 @@ use Rattle.decide.proofs.exceeds.Tie as tie
 pub exceeds-spec : {M : Type 1} → statement M
 exceeds-spec =
     tie.close
-    (tie.spec
-    (λ c. search picks)
-    (λ c. search picks))
+    (tie.spec (λ c. search picks) (λ c. search picks))

@@ -5,6 +5,4 @@ use Rattle.decide.proofs.matches.Tie as tie
 pub matches-spec : {M : Type 1} → statement M
 matches-spec =
     tie.close
-    (tie.spec
-    (λ c. search picks)
-    (λ c. search picks))
+    (tie.spec (λ c. search picks) (λ c. search picks))

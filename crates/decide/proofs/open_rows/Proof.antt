@@ -12,10 +12,7 @@ pub open-rows-spec : {M : Type 1} → statement M
 unfolding openRows ifEq when
 open-rows-spec =
     tie.close
-    (tie.spec
-    (λ c κs. search needs)
-    (λ c κs. search needs)
-    (λ c q b h. let e : c .before .args .f .kind ≡ CRAO = omega arith in rw e refl)
+    (tie.spec (λ c κs. search needs) (λ c κs. search needs) (λ c q b h. let e : c .before .args .f .kind ≡ CRAO = omega arith in rw e refl)
     (λ c q b h. let e : c .before .args .f .kind ≡ CRPO = omega arith in rw e refl)
     (λ c q b h. let e : c .before .args .f .kind ≡ DR = omega arith in rw e refl)
     (λ c q b h. let e : c .before .before .args .f .kind ≡ DATA = omega arith in rw e (rw e at (c .data-row .ensures q b h)))

@@ -5,6 +5,4 @@ use Rattle.decide.proofs.quotes.Tie as tie
 pub quotes-spec : {M : Type 1} → statement M
 quotes-spec =
     tie.close
-    (tie.spec
-    (λ c. search picks)
-    (λ c. search picks))
+    (tie.spec (λ c. search picks) (λ c. search picks))

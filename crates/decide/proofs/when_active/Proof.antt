@@ -12,12 +12,7 @@ pub when-active-spec : {M : Type 1} → statement M
 unfolding whenActive ifEq when
 when-active-spec =
     tie.close
-    (tie.spec
-    (λ c κs. search needs)
-    (λ c κs. search needs)
-    (λ c κs. search needs)
-    (λ c κs. search needs)
-    (λ c κs. search needs)
+    (tie.spec (λ c κs. search needs) (λ c κs. search needs) (λ c κs. search needs) (λ c κs. search needs) (λ c κs. search needs)
     (λ c q b h. let e : c .before .before .args .f .kind ≡ CRAO = omega arith in rw e (c .quotes .ensures))
     (λ c q b h. let e : c .before .before .args .f .kind ≡ CRPO = omega arith in rw e (c .quotes2 .ensures))
     (λ c q b h. let e : c .before .before .args .f .kind ≡ CRACK = omega arith in rw e (c .quotes3 .ensures))

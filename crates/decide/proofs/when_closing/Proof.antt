@@ -12,13 +12,7 @@ pub when-closing-spec : {M : Type 1} → statement M
 unfolding whenClosing ifEq ifLt when
 when-closing-spec =
     tie.close
-    (tie.spec
-    (λ c κs. search needs)
-    (λ c κs. search needs)
-    (λ c κs. search needs)
-    (λ c κs. search needs)
-    (λ c κs. search needs)
-    (λ c κs. search needs)
+    (tie.spec (λ c κs. search needs) (λ c κs. search needs) (λ c κs. search needs) (λ c κs. search needs) (λ c κs. search needs) (λ c κs. search needs)
     (λ c q b h. let e : c .before .before .before .args .f .kind ≡ DR = omega arith in rw e (rw (c .before .quotes .ensures) at (c .exceeds .ensures)))
     (λ c q b h. let e : c .before .before .args .f .kind ≡ DRACK = omega arith in rw e (c .quotes2 .ensures))
     (λ c q b h. let e : c .before .before .args .f .kind ≡ REJ = omega arith in rw e (c .quotes3 .ensures))

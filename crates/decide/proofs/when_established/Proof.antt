@@ -7,8 +7,5 @@ pub when-established-spec : {M : Type 1} → statement M
 unfolding whenEstablished
 when-established-spec =
     tie.close
-    (tie.spec
-    (λ c κs. search needs)
-    (λ c κs. search needs)
-    (λ c κs. search needs)
+    (tie.spec (λ c κs. search needs) (λ c κs. search needs) (λ c κs. search needs)
     (λ c q b h. rw (c .before .quotes .ensures, c .before .before .open-rows .ensures q b h) at (c .matches .ensures)))

@@ -12,12 +12,7 @@ pub when-passive-spec : {M : Type 1} → statement M
 unfolding whenPassive ifEq when
 when-passive-spec =
     tie.close
-    (tie.spec
-    (λ c κs. search needs)
-    (λ c κs. search needs)
-    (λ c κs. search needs)
-    (λ c κs. search needs)
-    (λ c κs. search needs)
+    (tie.spec (λ c κs. search needs) (λ c κs. search needs) (λ c κs. search needs) (λ c κs. search needs) (λ c κs. search needs)
     (λ c q b h. let e : c .before .args .f .kind ≡ CRAO = omega arith in rw e refl)
     (λ c q b h. let e : c .before .args .f .kind ≡ CRPO = omega arith in rw e refl)
     (λ c q b h. let e : c .before .before .before .args .f .kind ≡ CRACK = omega arith in rw e (rw (c .before .quotes .ensures) at (c .matches .ensures)))

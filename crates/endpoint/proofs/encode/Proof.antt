@@ -28,12 +28,6 @@ returns c =
 pub encode-spec : {M : Type 1} → statement M
 encode-spec =
     tie.close
-    (tie.spec
-    (λ c κs. search needs)
-    (λ c κs. search needs)
-    (λ c. search needs)
-    (λ c κs. omega (arith, lens (c .before .before .before .before .before .before .before .before .before)))
-    (λ c. search needs)
-    copy-requires-2
-    (λ c. search needs)
-    returns)
+    (tie.spec (λ c κs. search needs) (λ c κs. search needs) (λ c. search needs)
+    (λ c κs. omega (arith, lens (c .before .before .before .before .before .before .before .before .before))) (λ c. search needs) copy-requires-2
+    (λ c. search needs) returns)

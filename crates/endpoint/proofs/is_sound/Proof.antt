@@ -40,10 +40,4 @@ returns-2 c =
 pub is-sound-spec : {M : Type 1} → statement M
 is-sound-spec =
     tie.close
-    (tie.spec
-    (λ c κs. search needs)
-    (λ c κs. search needs)
-    returns
-    (λ c κs. search needs)
-    places-ok-requires
-    returns-2)
+    (tie.spec (λ c κs. search needs) (λ c κs. search needs) returns (λ c κs. search needs) places-ok-requires returns-2)

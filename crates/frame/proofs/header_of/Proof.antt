@@ -19,8 +19,5 @@ pub header-of-spec : {M : Type 1} → statement M
 unfolding frameOf frameWith ifEq when
 header-of-spec =
     tie.close
-    (tie.spec
-    (λ c κs. search needs)
-    (λ c b. let e : c .before .args .kind ≡ DATA = omega arith in rw e refl)
-    (λ c b. let e : c .before .args .kind ≡ ACK = omega arith in rw e refl)
-    returns-3)
+    (tie.spec (λ c κs. search needs) (λ c b. let e : c .before .args .kind ≡ DATA = omega arith in rw e refl)
+    (λ c b. let e : c .before .args .kind ≡ ACK = omega arith in rw e refl) returns-3)

@@ -57,15 +57,5 @@ returns c = ap (λ (r : StepAnswer). r .endpoint) (c .before .before .before .be
 pub perform-spec : {M : Type 1} → statement M
 perform-spec =
     tie.close
-    (tie.spec
-    (λ c. search needs)
-    (λ c κs. search needs)
-    handed-up-requires
-    array-share-prefix-frame
-    slice-aggregate-write-text
-    (λ c. search needs)
-    write-text-requires
-    array-share-prefix-text
-    slice-aggregate-write-all
-    (λ c κs. search needs)
-    returns)
+    (tie.spec (λ c. search needs) (λ c κs. search needs) handed-up-requires array-share-prefix-frame slice-aggregate-write-text (λ c. search needs)
+    write-text-requires array-share-prefix-text slice-aggregate-write-all (λ c κs. search needs) returns)

@@ -5,7 +5,6 @@ use Rattle.plan.specs.Plan.{blockPart}
 use Rattle.link.specs.declared.Answer.{Answer}
 use Rattle.link.specs.Lent.{answerOf}
 use Rattle.link.proofs.Answers.{none-up}
-use native.Mathlib.Omega.{arith}
 use borrow.Author.Needs.{needs}
 use Rattle.link.proofs.dock_request.Statement.{statement}
 use Rattle.link.proofs.dock_request.Tie as tie

@@ -2,7 +2,6 @@ use denote.Ref.{now}
 use lib.ListN.{length}
 use Rattle.calls.specs.Calls.{given}
 use Rattle.link.proofs.Answers.{turned-down, too-short}
-use native.Mathlib.Omega.{arith}
 use borrow.Author.Needs.{needs}
 use Rattle.link.proofs.perform.Statement.{statement}
 use Rattle.link.proofs.perform.Tie as tie
@@ -21,12 +20,4 @@ returns-2 c = c .before .before .before .before .finish .ensures (c .before .bef
 pub perform-spec : {M : Type 1} → statement M
 perform-spec =
     tie.close
-    (tie.spec
-    (λ c κs. search needs)
-    (λ c. search needs)
-    returns
-    (λ c κs. search needs)
-    finish-requires
-    (λ c. search needs)
-    (λ c. search needs)
-    returns-2)
+    (tie.spec (λ c κs. search needs) (λ c. search needs) returns (λ c κs. search needs) finish-requires (λ c. search needs) (λ c. search needs) returns-2)

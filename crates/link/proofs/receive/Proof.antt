@@ -1,5 +1,4 @@
 use mathlib.Core.Path.{_≡_, ap, sym, _∙_}
-use mathlib.Core.List.{List}
 use Prim.Native.Nat.{ℕ}
 use denote.Ref.{now}
 use lib.ListN.{length}
@@ -7,12 +6,11 @@ use Rattle.octets.specs.Test.{Outcome}
 use Rattle.protocol.specs.Table.{Step}
 use Rattle.calls.specs.declared.Call.the-variants.{Receive}
 use Rattle.calls.specs.Calls.{Arguments, given, performed}
-use Rattle.plan.specs.Plan.{noticeOf, blockOf, blockBy, blockPart}
+use Rattle.plan.specs.Plan.{noticeOf, blockBy, blockPart}
 use Rattle.link.specs.declared.Answer.{Answer}
 use Rattle.link.specs.Record.{format}
 use Rattle.link.specs.Lent.{statusOf, answerOf}
 use Rattle.link.proofs.Answers.{long-enough, hands-it-up}
-use native.Mathlib.Omega.{arith}
 use borrow.Author.Needs.{needs}
 use Rattle.link.proofs.receive.Statement.{statement}
 use Rattle.link.proofs.receive.Tie as tie

@@ -1,6 +1,5 @@
-use mathlib.Core.Path.{ap, _∙_}
+use mathlib.Core.Path.{_∙_}
 use denote.Ref.{now}
-use Rattle.decide.specs.declared.Numbers.{Numbers}
 use Rattle.endpoint.specs.Record.{decode}
 use Rattle.link.proofs.Answers.{tells-short, tells}
 use native.Mathlib.Omega.{arith}

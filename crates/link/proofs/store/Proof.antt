@@ -33,19 +33,5 @@ returns c =
 pub store-spec : {M : Type 1} → statement M
 store-spec =
     tie.close
-    (tie.spec
-    (λ c. search needs)
-    (λ c κs. search needs)
-    (λ c κs. search needs)
-    (λ c. search needs)
-    (λ c. search needs)
-    (λ c. search needs)
-    (λ c. search needs)
-    (λ c. search needs)
-    change-places-requires
-    (λ c. search needs)
-    (λ c. search needs)
-    (λ c. search needs)
-    change-places-requires-2
-    (λ c. search needs)
-    returns)
+    (tie.spec (λ c. search needs) (λ c κs. search needs) (λ c κs. search needs) (λ c. search needs) (λ c. search needs) (λ c. search needs) (λ c. search needs)
+    (λ c. search needs) change-places-requires (λ c. search needs) (λ c. search needs) (λ c. search needs) change-places-requires-2 (λ c. search needs) returns)

@@ -38,12 +38,5 @@ returns c =
 pub carry-out-spec : {M : Type 1} → statement M
 carry-out-spec =
     tie.close
-    (tie.spec
-    (λ c κs. search needs)
-    (λ c. search needs)
-    (λ c. search needs)
-    (λ c. search needs)
-    change-places-requires
-    (λ c. search needs)
-    change-places-requires-2
-    returns)
+    (tie.spec (λ c κs. search needs) (λ c. search needs) (λ c. search needs) (λ c. search needs) change-places-requires (λ c. search needs)
+    change-places-requires-2 returns)

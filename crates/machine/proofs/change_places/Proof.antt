@@ -43,16 +43,5 @@ returns-3 c = rw (c .before .before .before .before .before .queue .given .1) (c
 pub change-places-spec : {M : Type 1} → statement M
 change-places-spec =
     tie.close
-    (tie.spec
-    (λ c. search needs)
-    (λ c. search needs)
-    mul-copy
-    copy-requires
-    (λ c. search needs)
-    mul-drop-front
-    drop-front-requires
-    returns
-    (λ c. search needs)
-    returns-2
-    (λ c. search needs)
-    returns-3)
+    (tie.spec (λ c. search needs) (λ c. search needs) mul-copy copy-requires (λ c. search needs) mul-drop-front drop-front-requires returns (λ c. search needs)
+    returns-2 (λ c. search needs) returns-3)

@@ -1,4 +1,3 @@
-use Prim.Native.Nat.{_≤_}
 use mathlib.Core.Path.{_≡_, sym, _∙_}
 use mathlib.Core.Bool.{true}
 use denote.Ref.{now}
@@ -13,7 +12,6 @@ use Rattle.endpoint.specs.Parts.{recordOf}
 use Rattle.endpoint.proofs.Packs.{count}
 use Rattle.machine.proofs.Ready.{no-room, unsound, ready}
 use Rattle.machine.proofs.Carries.{oldest-at, laden, refusal}
-use native.Mathlib.Omega.{arith}
 use borrow.Author.Needs.{needs}
 use Rattle.machine.proofs.plan_call.Statement.{statement}
 use Rattle.machine.proofs.plan_call.Tie as tie
@@ -66,15 +64,5 @@ returns-4 c =
 pub plan-call-spec : {M : Type 1} → statement M
 plan-call-spec =
     tie.close
-    (tie.spec
-    (λ c κs. search needs)
-    returns
-    (λ c κs. search needs)
-    (λ c κs. search needs)
-    returns-2
-    (λ c. search needs)
-    request-requires
-    (λ c. search needs)
-    receive-requires
-    returns-3
-    returns-4)
+    (tie.spec (λ c κs. search needs) returns (λ c κs. search needs) (λ c κs. search needs) returns-2 (λ c. search needs) request-requires (λ c. search needs)
+    receive-requires returns-3 returns-4)

@@ -1,5 +1,4 @@
-use Prim.Native.Nat.{_≤_}
-use mathlib.Core.Path.{_≡_, ap}
+use mathlib.Core.Path.{_≡_}
 use lib.ListN.{length}
 use denote.Ref.{now}
 use Rattle.octets.specs.Sizes.{queueSize}
@@ -7,7 +6,6 @@ use Rattle.calls.specs.Calls.{Arguments, given}
 use Rattle.endpoint.specs.View.{placesSize}
 use Rattle.machine.specs.Carried.{Plans}
 use Rattle.machine.proofs.Carries.{sendable, ready-to, long-enough, turns-down, accepts}
-use native.Mathlib.Omega.{arith}
 use borrow.Author.Needs.{needs}
 use Rattle.machine.proofs.step.Statement.{statement}
 use Rattle.machine.proofs.step.Tie as tie
@@ -62,13 +60,5 @@ returns-2 c =
 pub step-spec : {M : Type 1} → statement M
 step-spec =
     tie.close
-    (tie.spec
-    (λ c κs. search needs)
-    (λ c κs. search needs)
-    returns
-    joined-requires
-    send-requires
-    carry-out-requires
-    handed-up-requires
-    (λ c. search needs)
+    (tie.spec (λ c κs. search needs) (λ c κs. search needs) returns joined-requires send-requires carry-out-requires handed-up-requires (λ c. search needs)
     returns-2)

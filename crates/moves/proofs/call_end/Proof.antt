@@ -40,13 +40,5 @@ returns-2 c = rw (left (c .before .before .before .before .before .before .befor
 pub call-end-spec : {M : Type 1} → statement M
 call-end-spec =
     tie.close
-    (tie.spec
-    (λ c κs. search needs)
-    (λ c κs. search needs)
-    (λ c κs. search needs)
-    (λ c. search needs)
-    returns
-    finish-requires
-    (λ c. search needs)
-    (λ c. search needs)
-    returns-2)
+    (tie.spec (λ c κs. search needs) (λ c κs. search needs) (λ c κs. search needs) (λ c. search needs) returns finish-requires (λ c. search needs)
+    (λ c. search needs) returns-2)

@@ -34,11 +34,4 @@ returns c =
 pub deliver-at-spec : {M : Type 1} → statement M
 deliver-at-spec =
     tie.close
-    (tie.spec
-    (λ c κs. search needs)
-    (λ c κs. search needs)
-    finish-requires
-    (λ c. search needs)
-    (λ c. search needs)
-    (λ c. search needs)
-    returns)
+    (tie.spec (λ c κs. search needs) (λ c κs. search needs) finish-requires (λ c. search needs) (λ c. search needs) (λ c. search needs) returns)

@@ -34,20 +34,6 @@ returns-3 c = let a = c .before .before .before .before .before .before .before 
 pub deliver-spec : {M : Type 1} → statement M
 deliver-spec =
     tie.close
-    (tie.spec
-    (λ c κs. search needs)
-    (λ c κs. search needs)
-    (λ c. search needs)
-    (λ c. search needs)
-    returns
-    sender-of-requires
-    deliver-at-requires
-    (λ c. search needs)
-    (λ c. search needs)
-    (λ c. search needs)
-    returns-2
-    deliver-at-requires-2
-    (λ c. search needs)
-    (λ c. search needs)
-    (λ c. search needs)
+    (tie.spec (λ c κs. search needs) (λ c κs. search needs) (λ c. search needs) (λ c. search needs) returns sender-of-requires deliver-at-requires
+    (λ c. search needs) (λ c. search needs) (λ c. search needs) returns-2 deliver-at-requires-2 (λ c. search needs) (λ c. search needs) (λ c. search needs)
     returns-3)

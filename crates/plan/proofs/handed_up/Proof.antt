@@ -30,10 +30,4 @@ returns-2 c =
 pub handed-up-spec : {M : Type 1} → statement M
 handed-up-spec =
     tie.close
-    (tie.spec
-    (λ c. search needs)
-    returns
-    sub-result
-    part-result-start
-    (λ c. search needs)
-    returns-2)
+    (tie.spec (λ c. search needs) returns sub-result part-result-start (λ c. search needs) returns-2)

@@ -39,15 +39,5 @@ returns-3 c = rw (c .before .enum-told3 .given .1) refl
 pub joined-spec : {M : Type 1} → statement M
 joined-spec =
     tie.close
-    (tie.spec
-    (λ c. search needs)
-    (λ c. search needs)
-    (λ c. search needs)
-    sub-result
-    part-result-start
-    (λ c. search needs)
-    (λ c. search needs)
-    (λ c. search needs)
-    returns
-    returns-2
-    returns-3)
+    (tie.spec (λ c. search needs) (λ c. search needs) (λ c. search needs) sub-result part-result-start (λ c. search needs) (λ c. search needs)
+    (λ c. search needs) returns returns-2 returns-3)

@@ -52,11 +52,4 @@ returns-3 c =
 pub changes-spec : {M : Type 1} → statement M
 changes-spec =
     tie.close
-    (tie.spec
-    (λ c κs. search needs)
-    receive-requires
-    returns
-    (λ c κs. search needs)
-    returns-2
-    (λ c κs. search needs)
-    returns-3)
+    (tie.spec (λ c κs. search needs) receive-requires returns (λ c κs. search needs) returns-2 (λ c κs. search needs) returns-3)

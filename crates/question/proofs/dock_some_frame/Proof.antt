@@ -31,11 +31,4 @@ returns-3 c =
 pub dock-some-frame-spec : {M : Type 1} → statement M
 dock-some-frame-spec =
     tie.close
-    (tie.spec
-    (λ c κs. search needs)
-    (λ c. search needs)
-    enum-told
-    (λ c. search needs)
-    returns
-    returns-2
-    returns-3)
+    (tie.spec (λ c κs. search needs) (λ c. search needs) enum-told (λ c. search needs) returns returns-2 returns-3)

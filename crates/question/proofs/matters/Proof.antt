@@ -65,12 +65,4 @@ returns-3 c =
 pub matters-spec : {M : Type 1} → statement M
 matters-spec =
     tie.close
-    (tie.spec
-    holds-requires
-    returns
-    frame-of-requires
-    sender-of-requires
-    changes-requires
-    returns-2
-    changes-requires-2
-    returns-3)
+    (tie.spec holds-requires returns frame-of-requires sender-of-requires changes-requires returns-2 changes-requires-2 returns-3)

@@ -64,15 +64,4 @@ returns-3 c =
 pub some-frame-spec : {M : Type 1} → statement M
 some-frame-spec =
     tie.close
-    (tie.spec
-    Inv-loop
-    μ-loop
-    ready-requires
-    returns
-    loop-holds
-    matters-requires
-    add-i
-    loop-less
-    loop-again
-    returns-2
-    returns-3)
+    (tie.spec Inv-loop μ-loop ready-requires returns loop-holds matters-requires add-i loop-less loop-again returns-2 returns-3)

@@ -40,11 +40,6 @@ pub frame-of-spec : {M : Type 1} → statement M
 unfolding when
 frame-of-spec =
     tie.close
-    (tie.spec
-    (λ c κs. let s = c .before in omega (arith, says s .two, s .pre .1))
-    (λ c κs. let s = c .before .before in omega (arith, says s .two, s .pre .1))
-    (λ c κs. search needs)
-    (λ c κs. search needs)
-    (λ c. rw (sym (seven (c .before)) ∙ not-true (c .before .numbers-ok .result) (c .if1 .taken)) refl)
-    (λ c κs. let s = c .before .before .before .before .before .before in let k = frame-range (s .args .kind) (s .pre .0) in (k .0, k .1))
-    returns-2)
+    (tie.spec (λ c κs. let s = c .before in omega (arith, says s .two, s .pre .1)) (λ c κs. let s = c .before .before in omega (arith, says s .two, s .pre .1))
+    (λ c κs. search needs) (λ c κs. search needs) (λ c. rw (sym (seven (c .before)) ∙ not-true (c .before .numbers-ok .result) (c .if1 .taken)) refl)
+    (λ c κs. let s = c .before .before .before .before .before .before in let k = frame-range (s .args .kind) (s .pre .0) in (k .0, k .1)) returns-2)

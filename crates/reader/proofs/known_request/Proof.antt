@@ -10,8 +10,7 @@ use Rattle.reader.proofs.known_request.Tie as tie
 pub known-request-spec : {M : Type 1} → statement M
 known-request-spec =
     tie.close
-    (tie.spec
-    (λ c κs. search needs)
+    (tie.spec (λ c κs. search needs)
     (λ c. let s = c .before .before .before in request-refused (s .args .kind) (now (s .args .rest)) (s .pre) (c .before .size-refusal .ensures) (c .if1 .taken))
     (λ c κs. search needs)
     (λ c.

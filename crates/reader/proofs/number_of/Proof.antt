@@ -12,7 +12,6 @@ says c = numbered (now (c .args .rest)) (c .args .kind) (c .pre .0)
 pub number-of-spec : {M : Type 1} → statement M
 number-of-spec =
     tie.close
-    (tie.spec
-    (λ c. sym (says (c .before .before) .none (omega arith)))
+    (tie.spec (λ c. sym (says (c .before .before) .none (omega arith)))
     (λ c κs. let s = c .before .before in omega (arith, says s .three (omega arith), s .pre .1))
     (λ c. c .load32 .ensures ∙ sym (says (c .before .before .before) .number (omega arith))))

@@ -21,10 +21,7 @@ pub numbers-size-spec : {M : Type 1} → statement M
 unfolding numbersSize layout isFrame inRange size ifEq when
 numbers-size-spec =
     tie.close
-    (tie.spec
-    (λ c. let e : c .before .args .kind ≡ DATA = omega arith in rw e (refl, omega arith))
+    (tie.spec (λ c. let e : c .before .args .kind ≡ DATA = omega arith in rw e (refl, omega arith))
     (λ c. let e : c .before .before .args .kind ≡ ACK = omega arith in rw e (refl, omega arith))
     (λ c. let e : c .before .before .before .args .kind ≡ SEND = omega arith in rw e (refl, omega arith))
-    (λ c. let e : c .before .before .before .before .args .kind ≡ 0 = omega arith in rw e (refl, omega arith))
-    returns-5
-    returns-6)
+    (λ c. let e : c .before .before .before .before .args .kind ≡ 0 = omega arith in rw e (refl, omega arith)) returns-5 returns-6)

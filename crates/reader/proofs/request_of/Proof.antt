@@ -14,10 +14,7 @@ pub request-of-spec : {M : Type 1} → statement M
 unfolding requestAt requestOf blockAt hasBlock numbersSize layout size ifEq when
 request-of-spec =
     tie.close
-    (tie.spec
-    (λ c r. let e : c .before .args .kind ≡ CONNECT = omega arith in rw e refl)
-    (λ c r. let e : c .before .args .kind ≡ LISTEN = omega arith in rw e refl)
-    (λ c r. let e : c .before .args .kind ≡ END_LISTENING = omega arith in rw e refl)
-    (λ c r. let e : c .before .args .kind ≡ CLOSE = omega arith in rw e refl)
-    (λ c r. let e : c .before .args .kind ≡ SEND = omega arith in rw e refl)
+    (tie.spec (λ c r. let e : c .before .args .kind ≡ CONNECT = omega arith in rw e refl)
+    (λ c r. let e : c .before .args .kind ≡ LISTEN = omega arith in rw e refl) (λ c r. let e : c .before .args .kind ≡ END_LISTENING = omega arith in rw e refl)
+    (λ c r. let e : c .before .args .kind ≡ CLOSE = omega arith in rw e refl) (λ c r. let e : c .before .args .kind ≡ SEND = omega arith in rw e refl)
     (λ c r. let s = c .before in let e : s .args .kind ≡ TIMER = omega (arith, request-range (s .args .kind) (s .pre)) in rw e refl))

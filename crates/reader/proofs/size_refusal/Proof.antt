@@ -52,17 +52,11 @@ pub size-refusal-spec : {M : Type 1} → statement M
 unfolding first when fixedOk
 size-refusal-spec =
     tie.close
-    (tie.spec
-    (λ c κs. search needs)
-    (λ c κs. search needs)
+    (tie.spec (λ c κs. search needs) (λ c κs. search needs)
     (λ c. let a = c .before .before .before .before .before .args in rw (no-block (c .before), ne-eqb (length (now (a .rest))) (numbersSize (a .kind)) (λ e. omega arith)) refl)
     (λ c. let a = c .before .before .before .before .before .args in rw (no-block (c .before), eq-eqb (length (now (a .rest))) (numbersSize (a .kind)) (omega arith)) refl)
     (λ c. let a = c .before .before .before .before .before .args in rw (some-block (c .before), lt-leb (numbersSize (a .kind)) (length (now (a .rest))) (omega arith)) refl)
     (λ c. omega (arith, block-size (c .before .before .before .before .before .args .kind) (some-block (c .before))))
-    (λ c. omega (arith, block-size (c .before .before .before .before .before .before .args .kind) (some-block (c .before .before))))
-    (λ c κs. search needs)
+    (λ c. omega (arith, block-size (c .before .before .before .before .before .before .args .kind) (some-block (c .before .before)))) (λ c κs. search needs)
     (λ c. let a = c .before .before .before .before .before .before .before .before .args in let t = c .before in rw (some-block (c .before .before .before .before), le-leb (numbersSize (a .kind)) (length (now (a .rest))) (omega arith), sym (count-is t) ∙ not-true (t .count-ok .result) (c .if4 .taken)) refl)
-    (λ c κs. search needs)
-    (λ c. search needs)
-    returns-5
-    returns-6)
+    (λ c κs. search needs) (λ c. search needs) returns-5 returns-6)

@@ -23,12 +23,9 @@ pub connect-spec : {M : Type 1} → statement M
 unfolding refusal questions accept sentBy frameOf
 connect-spec =
     tie.close
-    (tie.spec
-    (λ c κs. search needs)
-    (λ c κs. search needs)
+    (tie.spec (λ c κs. search needs) (λ c κs. search needs)
     (λ c b q old w _. let n = c .before .before .before .args .n in refuses n q b old w _ (refused-by (holding n q) connect (c .before .before .refusal-of .ensures) (c .before .if1 .taken)) (c .refuse .ensures))
-    (λ c. omega (arith, room (c .before)))
-    (λ c κs. room (c .before))
+    (λ c. omega (arith, room (c .before))) (λ c κs. room (c .before))
     (λ c b q old w _.
     let n = c .before .before .before .before .args .n in
     begins n q b old w activeOpening (Frame (Crao (n .local + 1) 0)) (allowed (holding n q) connect (sym (c .before .before .before .refusal-of .ensures) ∙ c .before .before .if1 .left)) (c .begin .ensures)))

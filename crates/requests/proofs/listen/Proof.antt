@@ -20,9 +20,7 @@ pub listen-spec : {M : Type 1} → statement M
 unfolding refusal questions accept sentBy
 listen-spec =
     tie.close
-    (tie.spec
-    (λ c κs. search needs)
-    (λ c κs. search needs)
+    (tie.spec (λ c κs. search needs) (λ c κs. search needs)
     (λ c b q old w _. let n = c .before .before .before .args .n in refuses n q b old w _ (refused-by (holding n q) listen (c .before .before .refusal-of .ensures) (c .before .if1 .taken)) (c .refuse .ensures))
     (λ c κs. room c)
     (λ c b q old w _.

@@ -10,7 +10,6 @@ pub refusal-of-spec : {M : Type 1} → statement M
 unfolding first when
 refusal-of-spec =
     tie.close
-    (tie.spec
-    (λ c. let a = c .before .before .args in rw (ne-eqb (a .n .state) (a .allowed) (c .if1 .taken)) refl)
+    (tie.spec (λ c. let a = c .before .before .args in rw (ne-eqb (a .n .state) (a .allowed) (c .if1 .taken)) refl)
     (λ c. let a = c .before .before .before .args in rw (eq-eqb (a .n .state) (a .allowed) (c .before .if1 .left), le-ltb (a .number) lastNumber (omega arith)) refl)
     (λ c. let a = c .before .before .before .args in rw (eq-eqb (a .n .state) (a .allowed) (c .before .if1 .left), lt-ltb (a .number) lastNumber (omega arith)) refl))

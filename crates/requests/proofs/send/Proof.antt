@@ -33,12 +33,9 @@ returns-3 c = λ b lo hi q old w _.
 pub send-spec : {M : Type 1} → statement M
 send-spec =
     tie.close
-    (tie.spec
-    (λ c κs. search needs)
-    (λ c κs. search needs)
+    (tie.spec (λ c κs. search needs) (λ c κs. search needs)
     (λ c b _ _ q old w _. let n = c .before .before .before .args .n in refuses n q b old w _ (send-refused (holding n q) b (c .before .before .refusal-of .ensures) (c .before .if1 .taken)) (c .refuse .ensures))
     (λ c κs. search needs)
     (λ c b _ _ q old w _. let n = c .before .before .before .before .before .args .n in refuses n q b old w _ (send-10 (holding n q) b (passed (c .before .before .before)) (omega arith)) (c .refuse2 .ensures))
-    (λ c. omega (arith, left _ (c .before .before .before .before .before .args .n .accepted) (passed (c .before .before .before))))
-    (λ c. search needs)
+    (λ c. omega (arith, left _ (c .before .before .before .before .before .args .n .accepted) (passed (c .before .before .before)))) (λ c. search needs)
     returns-3)

@@ -60,18 +60,5 @@ returns-2 c = let s = c .before .before .before .before .before .before .before 
 pub write-text-spec : {M : Type 1} → statement M
 write-text-spec =
     tie.close
-    (tie.spec
-    (λ c. search needs)
-    (λ c κs. search needs)
-    array-share-prefix-octets
-    slice-aggregate-write-line
-    write-line-requires
-    (λ c. search needs)
-    returns
-    sub-write-line
-    part-write-line-start
-    (λ c. search needs)
-    write-line-requires-2
-    add-result
-    (λ c. search needs)
-    returns-2)
+    (tie.spec (λ c. search needs) (λ c κs. search needs) array-share-prefix-octets slice-aggregate-write-line write-line-requires (λ c. search needs) returns
+    sub-write-line part-write-line-start (λ c. search needs) write-line-requires-2 add-result (λ c. search needs) returns-2)
