@@ -15,7 +15,7 @@ use Rattle.frame.specs.declared.Header.the-variants.{Crao, Crpo, Crack, Rej, Re
 use Rattle.frame.specs.declared.RequestKind.{RequestKind}
 use Rattle.frame.specs.declared.RequestKind.the-variants.{Connect, Listen, EndListening, Close, Send, Timer}
 use Rattle.codec.specs.Calls.{counted, blockIn, BlockTold}
-use Rattle.codec.specs.Parts.{blockAfter}
+use Rattle.codec.specs.Internal.{blockAfter}
 
 pub frame-block : (h : Header) (s : List ℕ) → blockIn (frame (frameOf h (drop dataBlockAt s))) ≡ blockAfter (frameOf h (drop dataBlockAt s) .kind) s
 unfolding blockIn frameOf blockAfter ifEq when

@@ -15,7 +15,7 @@ ghost use Rattle.frame.specs.Read.{countOk};
 ghost use Rattle.frame.specs.Answer.{inputRead};
 ghost use lib.ListN.{length, drop};
 ghost use Rattle.codec.specs.Calls.{Filled, writeLine, readKnown, shown, BlockTold, writeFrame};
-ghost use Rattle.codec.specs.Parts.{blockAfter};
+ghost use Rattle.codec.specs.Internal.{blockAfter};
 
 // Reads a line into out, which has room for the longest frame; the count of its octets goes to length.
 #[no_mangle]

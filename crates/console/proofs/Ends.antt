@@ -9,13 +9,13 @@ use Rattle.octets.specs.Octets.{left}
 use Rattle.frame.specs.Frame.{Block}
 use Rattle.protocol.specs.Table.{Step}
 use Rattle.calls.specs.Calls.{wire, recordAfter}
-use Rattle.plan.specs.Plan.{sentIn, blockOf}
+use Rattle.calls.specs.Answers.{sentIn, blockOf}
 use Rattle.link.specs.declared.Answer.{Answer}
 use Rattle.link.specs.Lent.{answerOf, Called}
 use Rattle.link.proofs.Answers.{sent-taken}
 use Rattle.text.specs.Text.{textOf, Begins}
 use Rattle.console.specs.Text.{text}
-use Rattle.console.specs.Parts.{Gives}
+use Rattle.console.specs.Internal.{Gives}
 
 -- the buffer for a frame out
 abbrev pub room : List ℕ

@@ -22,7 +22,7 @@ use Rattle.text.specs.Text.{outputOf, answerRoom}
 use Rattle.text.proofs.Outputs.{output-fits}
 use Rattle.console.specs.Line.{lineCall, lineOutcome}
 use Rattle.console.specs.Text.{text, answered, recordLeft, LineAnswered}
-use Rattle.console.specs.Parts.{refusedLine, Gives}
+use Rattle.console.specs.Internal.{refusedLine, Gives}
 
 -- 11 and 12 of the record come before 1 and 2 of the line, and the call asks them too
 in-order : (a b : Bool) (qs : List (ℕ × Bool)) (o : Outcome Step) → first qs ≡ 0

@@ -8,7 +8,7 @@ use Rattle.octets.specs.Test.{first, Outcome, refused, ok, outcome, mapped}
 use Rattle.octets.specs.Octets.{left}
 use Rattle.protocol.specs.Table.{Step}
 use Rattle.calls.specs.Calls.{wire, recordAfter}
-use Rattle.plan.specs.Plan.{sentIn, blockOf}
+use Rattle.calls.specs.Answers.{sentIn, blockOf}
 use Rattle.link.specs.Record.{format}
 use Rattle.link.specs.Lent.{statusOf}
 use Rattle.text.specs.declared.Output.{Output}

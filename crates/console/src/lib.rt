@@ -14,7 +14,7 @@ ghost use Rattle.link.specs.Record.{format};
 ghost use Rattle.text.specs.Text.{answerRoom};
 ghost use Rattle.console.specs.Line.{callIn, lineCall};
 ghost use Rattle.console.specs.Text.{LineAnswered};
-ghost use Rattle.console.specs.Parts.{refusedLine, Gives};
+ghost use Rattle.console.specs.Internal.{refusedLine, Gives};
 
 // The call that the octets of a line make.
 fn call_in(s: &[u8]) -> Call

@@ -14,7 +14,7 @@ ghost use mathlib.Core.Path.{_≡_};
 ghost use Prim.Native.Nat.{_≤_};
 ghost use Rattle.octets.specs.Test.{ifEq, ifLt};
 ghost use Rattle.protocol.specs.Table.{whenClosed, whenListening, whenActive, whenPassive, dataRow, ackRow, openRows, whenEstablished, whenClosing, rule};
-ghost use Rattle.decide.specs.Rows.{Chosen};
+ghost use Rattle.decide.specs.Internal.{Chosen};
 
 // The states; document 01 calls 2 calling, 3 answering and 4 open.
 pub const CLOSED: u8 = 0;

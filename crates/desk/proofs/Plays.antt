@@ -16,7 +16,7 @@ use Rattle.hexline.specs.Line.{unhex}
 use Rattle.frame.specs.Read.{kindOf}
 use Rattle.calls.specs.declared.Call.the-variants.{Request, Receive}
 use Rattle.calls.specs.Calls.{Arguments, given}
-use Rattle.plan.specs.Plan.{blockOf}
+use Rattle.calls.specs.Answers.{blockOf}
 use Rattle.link.specs.Lent.{statusOf, sentOf}
 use Rattle.link.proofs.Answers.{sent-fits, sent-taken}
 use Rattle.logbook.specs.Log.{placeSize, senderAt, lengthAt, frameAt, holds}
@@ -30,9 +30,9 @@ use Rattle.moves.specs.declared.BenchAnswer.{BenchAnswer}
 use Rattle.moves.specs.Answer.{benchAnswerOf}
 use Rattle.moves.proofs.Does.{no-block}
 use Rattle.moves.proofs.Handed.{call-from}
-use Rattle.orders.specs.Played.{Played}
+use Rattle.orders.specs.Performed.{Performed}
 use Rattle.desk.specs.Text.{lead, benchText, answerRoom, askedWith, benchIn, BenchAnswered}
-use Rattle.desk.specs.Parts.{Gives}
+use Rattle.desk.specs.Internal.{Gives}
 
 -- what fits the text: an answer is about end 0 or 1, and a block has at most 64 octets
 module _ (w : Bench) where
@@ -87,7 +87,7 @@ abbrev frames : List ℕ
 frames = replicate longestFrame 0
 
 -- what a line's answer says of its text
-module _ {w : Bench} {q : Outcome At} {n : ℕ} {a b log frame : List ℕ} {r : BenchAnswer} (p : Played w q n frames a b log frame r) where
+module _ {w : Bench} {q : Outcome At} {n : ℕ} {a b log frame : List ℕ} {r : BenchAnswer} (p : Performed w q n frames a b log frame r) where
   end-is : r .end ≡ endOf q
   unfolding benchAnswerOf
   end-is = ap (λ (x : BenchAnswer). x .end) (p .answer)

@@ -9,7 +9,7 @@ use Rattle.octets.specs.Test.{first, Outcome, refused, ok, outcome, mapped}
 use Rattle.octets.specs.Octets.{left}
 use Rattle.hexline.specs.Line.{hex}
 use Rattle.calls.specs.Calls.{wire}
-use Rattle.plan.specs.Plan.{sentIn, blockOf}
+use Rattle.calls.specs.Answers.{sentIn, blockOf}
 use Rattle.link.specs.Lent.{statusOf}
 use Rattle.text.specs.declared.Output.{Output}
 use Rattle.text.specs.Text.{textOf, outputOf}

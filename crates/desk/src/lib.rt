@@ -9,7 +9,7 @@ ghost use Rattle.octets.specs.Sizes.{longestFrame, longestBlock};
 ghost use Rattle.text.specs.Text.{textOf, Begins};
 ghost use Rattle.rig.specs.Bench.{benchOf, lineAsks};
 ghost use Rattle.desk.specs.Text.{lead, answerRoom, BenchAnswered};
-ghost use Rattle.desk.specs.Parts.{Gives};
+ghost use Rattle.desk.specs.Internal.{Gives};
 
 // Room for an answer: what one end's answer needs, and two characters before it.
 pub const ANSWER_ROOM: usize = text::ANSWER_ROOM + 2;
@@ -47,7 +47,7 @@ fn write(
     ensures { λ r. ⌜ Gives (benchOf (now (a .entry)) (now (b .entry)) (now (log .entry)) (now (count .entry))) (lineAsks (benchOf (now (a .entry)) (now (b .entry)) (now (log .entry)) (now (count .entry))) (now (line .entry)) longestFrame) (now (out .entry)) (now (a .exit)) (now (b .exit)) (now (log .exit)) (now (count .exit)) (now (out .exit)) r ⌝ }
 {
     let mut frame = [0u8; octets::LONGEST_FRAME];
-    let r = testbench::play(a, b, log, *count, line, &mut frame);
+    let r = testbench::perform(a, b, log, *count, line, &mut frame);
     *count = r.count;
     tell(r, log, &frame, out)
 }

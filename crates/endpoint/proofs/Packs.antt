@@ -11,7 +11,7 @@ use Rattle.octets.specs.Octets.{put, padded}
 use Rattle.frame.specs.Frame.{Block}
 use Rattle.protocol.specs.Endpoint as abstract
 use Rattle.endpoint.specs.declared.Endpoint.{Endpoint}
-use Rattle.endpoint.specs.View.{placesSize, places, lengthsOf, pack, tab, blockAt, view}
+use Rattle.endpoint.specs.View.{placesSize, places, lengthsOf, pack, tab, placeBlock, view}
 use Rattle.endpoint.proofs.Pad.{put-padded, padded-padded, drop-padded, padded-is}
 
 -- every block has at most 64 bytes
@@ -104,8 +104,8 @@ getD-lengths [] i = refl
 getD-lengths (b ∷ q) zero = refl
 getD-lengths (b ∷ q) (suc i) = getD-lengths q i
 
-block-is : (q : List Block) (i : ℕ) → Small q → i < length q → blockAt (padded queueSize (lengthsOf q)) (padded placesSize (places q)) i ≡ getD q i []
-unfolding blockAt padded places
+block-is : (q : List Block) (i : ℕ) → Small q → i < length q → placeBlock (padded queueSize (lengthsOf q)) (padded placesSize (places q)) i ≡ getD q i []
+unfolding placeBlock padded places
 block-is q i s h =
     let b : Block = getD q i [] in
     let zl : List ℕ = replicate (queueSize - length (lengthsOf q)) 0 in
@@ -121,8 +121,8 @@ pub view-pack : (a : abstract.Endpoint) → Small (a .queue) → view (pack a) �
 unfolding view pack
 view-pack a s =
     let q = a .queue in
-    let eq : tab (length q) (blockAt (padded queueSize (lengthsOf q)) (padded placesSize (places q))) ≡ q =
-    tab-is q (blockAt (padded queueSize (lengthsOf q)) (padded placesSize (places q))) (length q) (omega arith) (λ i h. block-is q i s h) ∙ take-length q in
+    let eq : tab (length q) (placeBlock (padded queueSize (lengthsOf q)) (padded placesSize (places q))) ≡ q =
+    tab-is q (placeBlock (padded queueSize (lengthsOf q)) (padded placesSize (places q))) (length q) (omega arith) (λ i h. block-is q i s h) ∙ take-length q in
     λ i. record { state = a .state; local = a .local; remote = a .remote; accepted = a .accepted; delivered = a .delivered; queue = eq i }
 
 -- what soundness says of the arrays
@@ -136,24 +136,24 @@ pub record Tidy (w : ℕ) (l b : List ℕ) : Type 0 where
   pub clear : (k : ℕ) → k < placesSize → getD l (k / longestBlock) 0 ≤ k % longestBlock → getD b k 0 ≡ 0
 
 module _ (l b : List ℕ) (W : ℕ) (T : Tidy W l b) where
-  pub length-block : (i : ℕ) → i < W → length (blockAt l b i) ≡ getD l i 0
-  unfolding blockAt
+  pub length-block : (i : ℕ) → i < W → length (placeBlock l b i) ≡ getD l i 0
+  unfolding placeBlock
   length-block i h = length-take-le (getD l i 0) (drop (i * longestBlock) b) (rw length-drop (omega (arith, T .short i h)))
 
-  lengths-tab : (w : ℕ) → w ≤ W → lengthsOf (tab w (blockAt l b)) ≡ take w l
+  lengths-tab : (w : ℕ) → w ≤ W → lengthsOf (tab w (placeBlock l b)) ≡ take w l
   unfolding tab lengthsOf
   lengths-tab zero h = refl
   lengths-tab (suc w) h =
-      rw (lengths-append (tab w (blockAt l b)) (blockAt l b w ∷ []), lengths-tab w (omega arith), length-block w h)
+      rw (lengths-append (tab w (placeBlock l b)) (placeBlock l b w ∷ []), lengths-tab w (omega arith), length-block w h)
       (sym (take-suc l w 0 (omega arith)))
 
-  pub small-tab : (w : ℕ) → w ≤ W → Small (tab w (blockAt l b))
+  pub small-tab : (w : ℕ) → w ≤ W → Small (tab w (placeBlock l b))
   unfolding tab
   small-tab zero h = tt
-  small-tab (suc w) h = small-append (tab w (blockAt l b)) (blockAt l b w) (small-tab w (omega arith)) (rw (length-block w h) (T .short w h))
+  small-tab (suc w) h = small-append (tab w (placeBlock l b)) (placeBlock l b w) (small-tab w (omega arith)) (rw (length-block w h) (T .short w h))
 
-  place-is : (w : ℕ) → w < W → padded longestBlock (blockAt l b w) ≡ take longestBlock (drop (w * longestBlock) b)
-  unfolding blockAt
+  place-is : (w : ℕ) → w < W → padded longestBlock (placeBlock l b w) ≡ take longestBlock (drop (w * longestBlock) b)
+  unfolding placeBlock
   place-is w h =
       let d : List ℕ = drop (w * longestBlock) b in
       let x = getD l w 0 in
@@ -166,18 +166,18 @@ module _ (l b : List ℕ) (W : ℕ) (T : Tidy W l b) where
       let k2 : (w * longestBlock + i) % longestBlock ≡ i = omega arith in
       rw (getD-take longestBlock d i 0 u, getD-drop) (T .clear (w * longestBlock + i) (omega arith) (rw (k1, k2) v))))
 
-  places-tab : (w : ℕ) → w ≤ W → places (tab w (blockAt l b)) ≡ take (w * longestBlock) b
+  places-tab : (w : ℕ) → w ≤ W → places (tab w (placeBlock l b)) ≡ take (w * longestBlock) b
   unfolding tab places
   places-tab zero h = refl
   places-tab (suc w) h =
       let e : suc w * longestBlock ≡ w * longestBlock + longestBlock = omega arith in
-      rw (places-append (tab w (blockAt l b)) (blockAt l b w ∷ []), places-tab w (omega arith), append-nil (padded longestBlock (blockAt l b w)), place-is w h, e)
+      rw (places-append (tab w (placeBlock l b)) (placeBlock l b w ∷ []), places-tab w (omega arith), append-nil (padded longestBlock (placeBlock l b w)), place-is w h, e)
       (sym (take-add (w * longestBlock) longestBlock b))
 
-  pub lengths-back : padded queueSize (lengthsOf (tab W (blockAt l b))) ≡ l
+  pub lengths-back : padded queueSize (lengthsOf (tab W (placeBlock l b))) ≡ l
   lengths-back = rw (lengths-tab W (omega arith)) (padded-is queueSize l W (T .eight) (T .few) (T .unused))
 
-  pub blocks-back : padded placesSize (places (tab W (blockAt l b))) ≡ b
+  pub blocks-back : padded placesSize (places (tab W (placeBlock l b))) ≡ b
   blocks-back =
       rw (places-tab W (omega arith))
       (padded-is placesSize b (W * longestBlock) (T .bytes) (omega arith)
@@ -186,14 +186,14 @@ module _ (l b : List ℕ) (W : ℕ) (T : Tidy W l b) where
 pub pack-view : (e : Endpoint) → Tidy (e .waiting) (e .lengths) (e .blocks) → pack (view e) ≡ e
 unfolding pack view
 pack-view e T =
-    let n : length (tab (e .waiting) (blockAt (e .lengths) (e .blocks))) ≡ e .waiting = length-tab (e .waiting) (blockAt (e .lengths) (e .blocks)) in
+    let n : length (tab (e .waiting) (placeBlock (e .lengths) (e .blocks))) ≡ e .waiting = length-tab (e .waiting) (placeBlock (e .lengths) (e .blocks)) in
     let el = lengths-back (e .lengths) (e .blocks) (e .waiting) T in
     let eb = blocks-back (e .lengths) (e .blocks) (e .waiting) T in
     λ i. record { state = e .state; local = e .local; remote = e .remote; accepted = e .accepted; delivered = e .delivered; waiting = n i; lengths = el i; blocks = eb i }
 
 pub count : (e : Endpoint) → length (view e .queue) ≡ e .waiting
 unfolding view
-count e = length-tab (e .waiting) (blockAt (e .lengths) (e .blocks))
+count e = length-tab (e .waiting) (placeBlock (e .lengths) (e .blocks))
 
 pub small : (e : Endpoint) → Tidy (e .waiting) (e .lengths) (e .blocks) → Small (view e .queue)
 unfolding view

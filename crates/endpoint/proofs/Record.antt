@@ -12,7 +12,7 @@ use Rattle.octets.proofs.Octets.{width, octets-take, octets-drop, then-put, Fit
 use Rattle.endpoint.specs.declared.Endpoint.{Endpoint}
 use Rattle.decide.specs.declared.Numbers.{Numbers}
 use Rattle.endpoint.specs.Record.{acceptedAt, blocksAt, deliveredAt, lengthsAt, localAt, recordSize, remoteAt, waitingAt, numbersLayout, encode, decode, Fits}
-use Rattle.endpoint.specs.Parts.{recordOf, numbersIn}
+use Rattle.endpoint.specs.Internal.{recordOf, numbersIn}
 
 -- a number written over itself
 pub put-same : (d : List ℕ) (at : ℕ) → Octets d → at + 4 ≤ length d → d ≡ put d at (bytes 4 (field 4 at d))

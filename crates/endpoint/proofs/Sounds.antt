@@ -16,9 +16,9 @@ use Rattle.protocol.specs.Endpoint as abstract
 use Rattle.protocol.specs.Endpoint.{sized, allOf, numbersSound}
 use Rattle.protocol.proofs.Sound.{sized-append, Sound, sound-so}
 use Rattle.endpoint.specs.declared.Endpoint.{Endpoint}
-use Rattle.endpoint.specs.View.{placesSize, tab, blockAt, view}
+use Rattle.endpoint.specs.View.{placesSize, tab, placeBlock, view}
 use Rattle.endpoint.specs.Sound.{allBelow, zeros, lengthOk, lengthsOk, unusedAt, unusedOk, sound}
-use Rattle.endpoint.specs.Parts.{placeOk}
+use Rattle.endpoint.specs.Internal.{placeOk}
 use Rattle.endpoint.proofs.Tests.{all-at, all-hold, alike, zeros-at, zeros-of}
 use Rattle.endpoint.proofs.Packs.{Tidy, length-tab, length-block}
 
@@ -154,20 +154,20 @@ module _ (e : Endpoint) (s : sound e ≡ true) (l8 : length (e .lengths) ≡ que
     clear = clear-at (e .lengths) (e .blocks) unused-ok;
   }
 
-  sized-tab : (w : ℕ) → w ≤ e .waiting → sized (tab w (blockAt (e .lengths) (e .blocks))) ≡ true
+  sized-tab : (w : ℕ) → w ≤ e .waiting → sized (tab w (placeBlock (e .lengths) (e .blocks))) ≡ true
   unfolding tab sized
   sized-tab zero h = refl
   sized-tab (suc w) h =
-      let b = blockAt (e .lengths) (e .blocks) w in
+      let b = placeBlock (e .lengths) (e .blocks) w in
       let n = length-block (e .lengths) (e .blocks) (e .waiting) tidy w h in
-      sized-append (tab w (blockAt (e .lengths) (e .blocks))) (b ∷ []) (sized-tab w (omega arith))
+      sized-append (tab w (placeBlock (e .lengths) (e .blocks))) (b ∷ []) (sized-tab w (omega arith))
       (joined (in-range 1 longestBlock (length b) (rw n (tidy .some w h)) (rw n (tidy .short w h))) refl)
 
   -- the endpoint that a sound struct holds is sound
   pub view-sound : abstract.sound (view e) ≡ true
   unfolding abstract.sound view
   view-sound =
-      rw (length-tab (e .waiting) (blockAt (e .lengths) (e .blocks)))
+      rw (length-tab (e .waiting) (placeBlock (e .lengths) (e .blocks)))
       (joined (arrays-ok .0) (sized-tab (e .waiting) (omega arith)))
 
   pub facts : Sound (view e)

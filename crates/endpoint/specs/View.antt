@@ -41,8 +41,8 @@ tab zero f = []
 tab (suc n) f = tab n f ++ (f n ∷ [])
 
 -- the block at place i: as many octets as its length says
-unfoldable pub blockAt : List ℕ → List ℕ → ℕ → Block
-blockAt lengths blocks i = take (getD lengths i 0) (drop (i * longestBlock) blocks)
+unfoldable pub placeBlock : List ℕ → List ℕ → ℕ → Block
+placeBlock lengths blocks i = take (getD lengths i 0) (drop (i * longestBlock) blocks)
 
 -- the endpoint that a struct holds
 unfoldable pub view : Endpoint → abstract.Endpoint
@@ -53,5 +53,5 @@ view e =
       remote = e .remote;
       accepted = e .accepted;
       delivered = e .delivered;
-      queue = tab (e .waiting) (blockAt (e .lengths) (e .blocks));
+      queue = tab (e .waiting) (placeBlock (e .lengths) (e .blocks));
     }

@@ -17,7 +17,7 @@ ghost use Rattle.protocol.specs.Endpoint.{allOf, numbersSound};
 ghost use Rattle.endpoint.specs.View.{placesSize, pack};
 ghost use Rattle.endpoint.specs.Sound.{zeros, lengthsOk, unusedOk, sound};
 ghost use Rattle.endpoint.specs.Record.{recordSize, encode, decode};
-ghost use Rattle.endpoint.specs.Parts.{placeOk, recordOf, numbersOf, numbersIn};
+ghost use Rattle.endpoint.specs.Internal.{placeOk, recordOf, numbersOf, numbersIn};
 
 // The octets of all places, which are one flat array: 512.
 pub const PLACES_SIZE: usize = octets::QUEUE_SIZE * octets::LONGEST_BLOCK;

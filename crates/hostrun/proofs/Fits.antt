@@ -12,7 +12,8 @@ use Rattle.octets.specs.Octets.{left}
 use Rattle.octets.proofs.Test.{by-eq, eq-yes, eq-no}
 use Rattle.protocol.specs.Table.{Step}
 use Rattle.calls.specs.Calls.{Arguments, wire, bufferAfter}
-use Rattle.plan.specs.Plan.{noticeOf, blockBy}
+use Rattle.calls.specs.Answers.{noticeOf}
+use Rattle.plan.specs.Internal.{blockBy}
 use Rattle.plan.proofs.Up.{right}
 use Rattle.endpoint.specs.declared.Endpoint.{Endpoint}
 use Rattle.endpoint.specs.View.{view}

@@ -20,15 +20,16 @@ use Rattle.protocol.specs.Table.{Step}
 use Rattle.calls.specs.declared.Call.the-variants.{Request}
 use Rattle.calls.specs.Calls.{Arguments, given, wire, asked, performed, recordAfter, bufferAfter}
 use Rattle.plan.specs.declared.Plan.{Plan}
-use Rattle.plan.specs.Plan.{noticeOf, sentIn, blockOf, blockPart, blockBy, endpointAfter, joinedBy, blockOut, sentBy, Sends}
+use Rattle.calls.specs.Answers.{noticeOf, sentIn, blockOf, blockPart, endpointAfter}
+use Rattle.plan.specs.Internal.{blockBy, joinedBy, blockOut, sentBy, Sends}
 use Rattle.plan.proofs.Up.{Right, right, refusing-silent, request-silent}
 use Rattle.plan.proofs.Up as up
 use Rattle.endpoint.specs.declared.Endpoint.{Endpoint}
-use Rattle.endpoint.specs.View.{placesSize, blockAt, pack, view}
+use Rattle.endpoint.specs.View.{placesSize, placeBlock, pack, view}
 use Rattle.endpoint.specs.Record.{recordSize, encode, decode, lengthsAt, blocksAt}
 use Rattle.endpoint.proofs.Record.{encode-decode}
 use Rattle.machine.specs.Calls.{outcomeOf, stepAnswerOf}
-use Rattle.machine.specs.Carried.{Plans, carried}
+use Rattle.machine.specs.Internal.{Plans, carried}
 use Rattle.machine.proofs.Carries.{leaves, hands-up, sends, sends-is}
 use Rattle.link.specs.declared.Answer.{Answer}
 use Rattle.link.specs.Record.{format}
@@ -118,7 +119,7 @@ module _ (rec : List ℕ) (long : recordSize ≤ length rec) where
     refuses z out h = turned-down (enough c ∙ is-refused o (λ y. z (w .number ∙ y)) ∙ ap (λ (n : ℕ). refused n) (sym (w .number))) rec (c .octets) out h
 
     pub accepts : Octets rec → p .number ≡ 0 → {out out′ : List ℕ} {n : ℕ}
-        → Sends (sentBy (p .reply) (blockOut (p .queue) joins (blockAt (decode rec .lengths) (decode rec .blocks) 0))) out out′ n
+        → Sends (sentBy (p .reply) (blockOut (p .queue) joins (placeBlock (decode rec .lengths) (decode rec .blocks) 0))) out out′ n
         → {rec′ : List ℕ} → rec′ ≡ put rec 0 (encode (carried p joins (decode rec))) → {b : Block} → b ≡ blockBy (p .notice) (c .octets)
         → Called (performed format rec c) rec (c .octets) out rec′ out′
         (record { status = record { number = 0; state = p .numbers .state; notice = p .notice; local = p .numbers .local; remote = p .numbers .remote }; sent = n; block = length b })

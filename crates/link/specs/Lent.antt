@@ -7,7 +7,7 @@ use lib.ListN.{length}
 use Rattle.octets.specs.Test.{when, first, Outcome, refused, ok, outcome, numberOf}
 use Rattle.protocol.specs.Endpoint.{fresh}
 use Rattle.protocol.specs.Table.{Step}
-use Rattle.plan.specs.Plan.{noticeOf, blockOf, blockPart}
+use Rattle.calls.specs.Answers.{noticeOf, blockOf, blockPart}
 use Rattle.endpoint.specs.declared.Endpoint.{Endpoint}
 use Rattle.endpoint.specs.View.{pack}
 use Rattle.endpoint.specs.Record.{recordSize, decode}

@@ -15,12 +15,13 @@ ghost use Rattle.octets.specs.Test.{first, refused, numberOf};
 ghost use Rattle.octets.specs.Octets.{put, left};
 ghost use Rattle.calls.specs.declared.Call.the-variants.{Request, Receive};
 ghost use Rattle.calls.specs.Calls.{given, performed};
-ghost use Rattle.plan.specs.Plan.{blockOf, Room};
+ghost use Rattle.calls.specs.Answers.{blockOf};
+ghost use Rattle.plan.specs.Internal.{Room};
 ghost use Rattle.endpoint.specs.Record.{recordSize, encode, decode};
-ghost use Rattle.machine.specs.Carried.{Plans, carried};
+ghost use Rattle.machine.specs.Internal.{Plans, carried};
 ghost use Rattle.link.specs.Record.{format, recordQuestions};
 ghost use Rattle.link.specs.Lent.{answerOf, Called, answerIn, freshIn};
-ghost use Rattle.link.specs.Planned.{PlannedCall, Finished};
+ghost use Rattle.link.specs.Internal.{PlannedCall, Finished};
 
 // The octets of a record.
 pub const RECORD_SIZE: usize = endpoint::RECORD_SIZE;
@@ -153,14 +154,14 @@ pub fn finish(p: Plan, rec: &mut [u8], s: &[u8], out: &mut [u8]) -> Answer
     );
     store(p, joined, rec);
     let block = plan::handed_up(p.notice, s);
-    let n = p.numbers;
+    let after = p.numbers;
     Answer {
         status: Status {
             number: plan::ACCEPTED,
-            state: n.state,
+            state: after.state,
             notice: p.notice,
-            local: n.local,
-            remote: n.remote,
+            local: after.local,
+            remote: after.remote,
         },
         sent,
         block: block.len(),

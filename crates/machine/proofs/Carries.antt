@@ -16,23 +16,24 @@ use Rattle.octets.proofs.Outcomes.{is-refused}
 use Rattle.frame.specs.Frame.{Block}
 use Rattle.protocol.specs.Table.{Step}
 use Rattle.calls.specs.Calls.{Arguments, wire, bufferAfter}
-use Rattle.decide.specs.Rows.{holding}
+use Rattle.decide.specs.Internal.{holding}
 use Rattle.plan.specs.declared.Plan.{Plan}
 use Rattle.plan.specs.declared.Queue.{Queue}
 use Rattle.plan.specs.declared.Queue.the-variants.{Keep, Join, Release}
-use Rattle.plan.specs.Plan.{noticeOf, sentIn, blockOf, blockPart, blockBy, endpointAfter, joinedBy, queueAfter, Room, blockOut, sentBy, Oldest, Comes, Sends}
-use Rattle.plan.specs.Parts.{refusing}
+use Rattle.calls.specs.Answers.{noticeOf, sentIn, blockOf, blockPart, endpointAfter}
+use Rattle.plan.specs.Internal.{blockBy, joinedBy, queueAfter, Room, blockOut, sentBy, Oldest, Comes, Sends}
+use Rattle.plan.specs.Internal.{refusing}
 use Rattle.plan.proofs.Comes.{refuses, joined-short}
 use Rattle.plan.proofs.Up.{right, part, told}
 use Rattle.endpoint.specs.declared.Endpoint.{Endpoint}
-use Rattle.endpoint.specs.View.{places, placesSize, lengthsOf, pack, tab, blockAt, view}
+use Rattle.endpoint.specs.View.{places, placesSize, lengthsOf, pack, tab, placeBlock, view}
 use Rattle.endpoint.specs.Sound.{sound}
-use Rattle.endpoint.specs.Parts.{numbersOf}
+use Rattle.endpoint.specs.Internal.{numbersOf}
 use Rattle.endpoint.proofs.Packs.{Tidy, Small, small, count, tab-head, lengths-back, blocks-back, pack-view, lengths-added, blocks-added, lengths-dropped, blocks-dropped}
 use Rattle.endpoint.proofs.Sounds.{by-lt, tidy, facts}
 use Rattle.machine.specs.declared.StepAnswer.{StepAnswer}
 use Rattle.machine.specs.Calls.{outcomeOf, stepAnswerOf, Advances}
-use Rattle.machine.specs.Carried.{Plans, placesAfter, lengthsAfter, blocksAfter, carried}
+use Rattle.machine.specs.Internal.{Plans, placesAfter, lengthsAfter, blocksAfter, carried}
 use Rattle.machine.proofs.Ready.{passes}
 
 -- the oldest block is the one at place 0
@@ -41,9 +42,9 @@ unfolding tab
 heads zero f = tt
 heads (suc w) f = subst (λ (q : List Block). Oldest q (f 0)) (sym (tab-head w f)) refl
 
-pub oldest-at : (e : Endpoint) → Oldest (view e .queue) (blockAt (e .lengths) (e .blocks) 0)
+pub oldest-at : (e : Endpoint) → Oldest (view e .queue) (placeBlock (e .lengths) (e .blocks) 0)
 unfolding view
-oldest-at e = heads (e .waiting) (blockAt (e .lengths) (e .blocks))
+oldest-at e = heads (e .waiting) (placeBlock (e .lengths) (e .blocks))
 
 module _ (e : Endpoint) (s : sound e ≡ true) (l8 : length (e .lengths) ≡ queueSize) (l512 : length (e .blocks) ≡ placesSize) where
   is-tidy : Tidy (e .waiting) (e .lengths) (e .blocks)
@@ -172,7 +173,7 @@ module _ (e : Endpoint) (l8 : length (e .lengths) ≡ queueSize) (l512 : length 
   stands = part (right (sound e) (view e) c)
 
   -- what is sent is what the outcome sends
-  pub sends : {out out′ : List ℕ} {n : ℕ} → Sends (sentBy (p .reply) (blockOut (p .queue) joins (blockAt (e .lengths) (e .blocks) 0))) out out′ n
+  pub sends : {out out′ : List ℕ} {n : ℕ} → Sends (sentBy (p .reply) (blockOut (p .queue) joins (placeBlock (e .lengths) (e .blocks) 0))) out out′ n
       → Sends (sentIn o) out out′ n
   sends s = rw (w .sent) at s
 
@@ -186,7 +187,7 @@ module _ (e : Endpoint) (l8 : length (e .lengths) ≡ queueSize) (l512 : length 
       let k : o ≡ refused (p .number) = rw (w .number) (is-refused o (λ y. z (w .number ∙ y))) in
       answers (rw k refl) (rw k refl)
 
-  pub accepts : p .number ≡ 0 → {out out′ : List ℕ} {n : ℕ} → Sends (sentBy (p .reply) (blockOut (p .queue) joins (blockAt (e .lengths) (e .blocks) 0))) out out′ n
+  pub accepts : p .number ≡ 0 → {out out′ : List ℕ} {n : ℕ} → Sends (sentBy (p .reply) (blockOut (p .queue) joins (placeBlock (e .lengths) (e .blocks) 0))) out out′ n
       → {a : Endpoint} → a ≡ carried p joins e → {b : Block} → b ≡ blockBy (p .notice) (c .octets)
       → Advances e o (c .octets) out out′ (record { number = 0; endpoint = a; notice = p .notice; sent = n; block = length b })
   accepts z {out} s a b =

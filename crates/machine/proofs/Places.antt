@@ -11,9 +11,9 @@ use Rattle.octets.specs.Octets.{put}
 use Rattle.frame.specs.Frame.{Block}
 use Rattle.plan.specs.declared.Queue.{Queue}
 use Rattle.plan.specs.declared.Queue.the-variants.{Keep, Join, Release}
-use Rattle.plan.specs.Plan.{Room}
+use Rattle.plan.specs.Internal.{Room}
 use Rattle.endpoint.specs.View.{placesSize}
-use Rattle.machine.specs.Carried.{PlaceFor}
+use Rattle.machine.specs.Internal.{PlaceFor}
 
 -- a list moved to the front, and zeros after it: by way of a copy in n octets
 pub moved : (n m : ℕ) (l : List ℕ) → length l ≤ n → m ≤ length l → {k r : List ℕ} → k ≡ put (replicate n 0) 0 (take (length l - m) (drop m l))

@@ -6,7 +6,7 @@ use lib.ListN.{length}
 use Rattle.octets.specs.Test.{Outcome, refused, ok}
 use Rattle.calls.specs.Calls.{Arguments, asked, wire, bufferAfter}
 use Rattle.protocol.specs.Table.{notice, Step}
-use Rattle.plan.specs.Plan.{blockIn, blockOf, blockPart}
+use Rattle.calls.specs.Answers.{blockIn, blockOf, blockPart}
 use Rattle.endpoint.specs.declared.Endpoint.{Endpoint}
 use Rattle.machine.specs.declared.StepAnswer.{StepAnswer}
 use Rattle.endpoint.specs.View.{pack, view}

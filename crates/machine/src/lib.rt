@@ -13,11 +13,11 @@ ghost use lib.ListN.{length, getD, take, drop, replicate};
 ghost use Rattle.octets.specs.Sizes.{longestFrame, longestBlock, queueSize};
 ghost use Rattle.octets.specs.Octets.{put};
 ghost use Rattle.calls.specs.Calls.{given};
-ghost use Rattle.plan.specs.Plan.{Room, blockOut, sentBy, Sends};
-ghost use Rattle.endpoint.specs.View.{placesSize, blockAt};
-ghost use Rattle.endpoint.specs.Parts.{recordOf};
+ghost use Rattle.plan.specs.Internal.{Room, blockOut, sentBy, Sends};
+ghost use Rattle.endpoint.specs.View.{placesSize, placeBlock};
+ghost use Rattle.endpoint.specs.Internal.{recordOf};
 ghost use Rattle.machine.specs.Calls.{outcomeOf, Advances};
-ghost use Rattle.machine.specs.Carried.{Plans, placesAfter, PlaceFor, carried};
+ghost use Rattle.machine.specs.Internal.{Plans, placesAfter, PlaceFor, carried};
 
 // The plan of a call of the record of these numbers, lengths and blocks: s has the octets of a request or of a frame, room is the
 // length of the buffer for a frame out. 11 and 12 come first.
@@ -53,7 +53,7 @@ pub fn send<'a>(
     out: &mut [u8],
 ) -> usize
     requires { ⌜ (length (now blocks) ≡ placesSize) × ((length (now lengths) ≡ queueSize) × ((getD (now lengths) 0 0 ≤ longestBlock) × ((length (now joined) ≤ longestBlock) × (longestFrame ≤ length (now out))))) ⌝ }
-    ensures { λ r. ⌜ Sends (sentBy (p .reply) (blockOut (p .queue) (now (joined .entry)) (blockAt (now (lengths .entry)) (now (blocks .entry)) 0))) (now (out .entry)) (now (out .exit)) r ⌝ }
+    ensures { λ r. ⌜ Sends (sentBy (p .reply) (blockOut (p .queue) (now (joined .entry)) (placeBlock (now (lengths .entry)) (now (blocks .entry)) 0))) (now (out .entry)) (now (out .exit)) r ⌝ }
 {
     let count = octets::wide(lengths[0]);
     plan::send_reply(p, joined, &blocks[0..count], out)
@@ -147,11 +147,11 @@ pub fn step(call: Call, e: Endpoint, s: &[u8], out: &mut [u8]) -> StepAnswer
     let queue = p.queue;
     let joined = plan::joined(queue, s);
     let sent = send(p, joined, &e.lengths, &e.blocks, out);
-    let endpoint = carry_out(e, p, joined);
+    let after = carry_out(e, p, joined);
     let block = plan::handed_up(p.notice, s);
     StepAnswer {
         number: plan::ACCEPTED,
-        endpoint,
+        endpoint: after,
         notice: p.notice,
         sent,
         block: block.len(),

@@ -14,7 +14,7 @@ use Rattle.frame.specs.Layout.{encode}
 use Rattle.protocol.specs.Table.{Step, Sent, nothing, frame}
 use Rattle.calls.specs.declared.Call.the-variants.{Request}
 use Rattle.calls.specs.Calls.{Arguments, given, wire, performed}
-use Rattle.plan.specs.Plan.{sentIn, blockOf}
+use Rattle.calls.specs.Answers.{sentIn, blockOf}
 use Rattle.endpoint.specs.Record.{recordSize}
 use Rattle.link.specs.declared.Answer.{Answer}
 use Rattle.link.specs.Record.{format}
@@ -24,7 +24,7 @@ use Rattle.logbook.specs.Log.{places}
 use Rattle.rig.specs.Bench.{sends, logged, callOutcome, logAfter, countAfter}
 use Rattle.moves.specs.declared.BenchAnswer.{BenchAnswer}
 use Rattle.moves.specs.Answer.{blockStart, benchAnswerOf}
-use Rattle.moves.specs.Parts.{noted, notedCount, blockPlace, answerFrom, Does}
+use Rattle.moves.specs.Internal.{noted, notedCount, blockPlace, answerFrom, Does}
 use Rattle.moves.proofs.Moves.{has-place}
 use Rattle.moves.proofs.Short.{sent-short}
 

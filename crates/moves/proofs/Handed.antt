@@ -13,7 +13,7 @@ use Rattle.octets.proofs.Test.{by-eq, eq-no}
 use Rattle.protocol.specs.Table.{Step, Sent, nothing, frame}
 use Rattle.calls.specs.declared.Call.the-variants.{Receive}
 use Rattle.calls.specs.Calls.{Arguments, given, wire, performed}
-use Rattle.plan.specs.Plan.{noticeOf, blockOf}
+use Rattle.calls.specs.Answers.{noticeOf, blockOf}
 use Rattle.link.specs.Record.{format}
 use Rattle.link.specs.Lent.{sentOf}
 use Rattle.link.proofs.Answers.{block-five, block-none}

@@ -15,15 +15,16 @@ use Rattle.calls.specs.Calls.{Arguments, wire, performed}
 use Rattle.plan.specs.declared.Plan.{Plan}
 use Rattle.plan.specs.declared.Reply.{Reply}
 use Rattle.plan.specs.declared.Reply.the-variants as reply
-use Rattle.plan.specs.Plan.{sentIn, sentBy}
+use Rattle.calls.specs.Answers.{sentIn}
+use Rattle.plan.specs.Internal.{sentBy}
 use Rattle.endpoint.specs.Record.{recordSize, decode}
-use Rattle.machine.specs.Carried.{Plans}
+use Rattle.machine.specs.Internal.{Plans}
 use Rattle.link.specs.Record.{format}
 use Rattle.link.specs.Lent.{sentOf}
 use Rattle.link.proofs.Answers.{enough}
 use Rattle.logbook.specs.Log.{places}
 use Rattle.rig.specs.Bench.{sends, logged, callOutcome}
-use Rattle.moves.specs.Parts.{hasPlace}
+use Rattle.moves.specs.Internal.{hasPlace}
 
 -- a step that sends nothing, and one that sends a frame
 quiet-logs : (count : ℕ) (x : Step) → x .sent ≡ nothing → logged count x ≡ ok x

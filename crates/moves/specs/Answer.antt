@@ -4,7 +4,7 @@ use mathlib.Core.List.{List}
 use lib.ListN.{length}
 use Rattle.octets.specs.Test.{ifEq, Outcome}
 use Rattle.protocol.specs.Table.{Step}
-use Rattle.plan.specs.Plan.{blockOf}
+use Rattle.calls.specs.Answers.{blockOf}
 use Rattle.link.specs.Lent.{statusOf, sentOf}
 use Rattle.frame.specs.Layout.{dataBlockAt}
 use Rattle.logbook.specs.Log.{placeHead, placeSize}

@@ -15,7 +15,7 @@ ghost use Rattle.calls.specs.Calls.{given};
 ghost use Rattle.link.specs.Lent.{Called};
 ghost use Rattle.logbook.specs.Log.{places, logSize, lengthAt, frameAt};
 ghost use Rattle.rig.specs.Bench.{callOutcome};
-ghost use Rattle.moves.specs.Parts.{hasPlace, noted, notedCount, blockPlace, answerFrom, Does};
+ghost use Rattle.moves.specs.Internal.{hasPlace, noted, notedCount, blockPlace, answerFrom, Does};
 
 // Question 14 of a plan: what sends a frame needs a place for it in the log.
 pub fn has_place(reply: Reply, count: usize) -> bool

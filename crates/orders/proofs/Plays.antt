@@ -15,7 +15,7 @@ use Rattle.octets.proofs.Octets.{field-more, field-one}
 use Rattle.frame.specs.Read.{kindOf}
 use Rattle.calls.specs.declared.Call.the-variants.{Request, Receive}
 use Rattle.calls.specs.Calls.{Arguments, given, recordAfter, bufferAfter}
-use Rattle.plan.specs.Plan.{blockOf}
+use Rattle.calls.specs.Answers.{blockOf}
 use Rattle.logbook.specs.Log.{senderAt, frameAt, holds}
 use Rattle.logbook.proofs.Log.{held}
 use Rattle.rig.specs.Bench.{Bench, benchOf, recordAt, At, delivery, octetsAsk, callOutcome, comes, endOf, logAfter, countAfter, benchAfter}
@@ -23,8 +23,8 @@ use Rattle.link.specs.declared.Answer.{Answer}
 use Rattle.link.specs.Lent.{answerOf}
 use Rattle.moves.specs.declared.BenchAnswer.{BenchAnswer}
 use Rattle.moves.specs.Answer.{benchAnswerOf}
-use Rattle.moves.specs.Parts.{Does}
-use Rattle.orders.specs.Played.{Played}
+use Rattle.moves.specs.Internal.{Does}
+use Rattle.orders.specs.Performed.{Performed}
 
 -- a refusal tells of A's record
 pub told : (rec : List ℕ) (number count n : ℕ) {m : Answer} → m ≡ answerOf rec (refused number)
@@ -38,20 +38,20 @@ module _ (a b log : List ℕ) (count : ℕ) where
 
   -- a refused line leaves all as it is
   pub declines : {q : Outcome At} (n k : ℕ) (out : List ℕ) {r : BenchAnswer} → q ≡ refused k → r ≡ benchAnswerOf 0 a count n (refused k)
-      → Played w q n out a b log out r
+      → Performed w q n out a b log out r
   unfolding comes endOf andThen recordAt benchAfter benchAnswerOf recordAfter bufferAfter mapped left logAfter countAfter blockOf ifEq when
   declines n k out e h =
       rw e (record { answer = h; bench = λ i. benchOf a b log (h i .count); buffer = refl; handed = rw h refl })
 
   -- a call at an end leaves the other as it is
   pub at-a : {q : Outcome At} (n : ℕ) (c : Arguments) (out : List ℕ) {a′ log′ out′ : List ℕ} {r : BenchAnswer} → q ≡ ok (0, c)
-      → Does 0 a log count n (callOutcome a count c) out a′ log′ out′ r → Played w q n out a′ b log′ out′ r
+      → Does 0 a log count n (callOutcome a count c) out a′ log′ out′ r → Performed w q n out a′ b log′ out′ r
   unfolding comes endOf andThen recordAt benchAfter benchAnswerOf ifEq when
   at-a n c out e d =
       rw e (record { answer = d .answer; bench = λ i. benchOf (d .end i) b (d .entered i) (d .answer i .count); buffer = d .buffer; handed = d .handed })
 
   pub at-b : {q : Outcome At} (n : ℕ) (c : Arguments) (out : List ℕ) {b′ log′ out′ : List ℕ} {r : BenchAnswer} → q ≡ ok (1, c)
-      → Does 1 b log count n (callOutcome b count c) out b′ log′ out′ r → Played w q n out a b′ log′ out′ r
+      → Does 1 b log count n (callOutcome b count c) out b′ log′ out′ r → Performed w q n out a b′ log′ out′ r
   unfolding comes endOf andThen recordAt benchAfter benchAnswerOf ifEq when
   at-b n c out e d =
       rw e (record { answer = d .answer; bench = λ i. benchOf a (d .end i) (d .entered i) (d .answer i .count); buffer = d .buffer; handed = d .handed })

@@ -1,1 +1,1 @@
-pub mod Played
+pub mod Performed

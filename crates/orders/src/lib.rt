@@ -10,7 +10,7 @@ ghost use Rattle.endpoint.specs.Record.{recordSize};
 ghost use Rattle.logbook.specs.Log.{places, logSize};
 ghost use Rattle.rig.specs.Bench.{benchOf, delivery, octetsAsk};
 ghost use Rattle.moves.specs.Answer.{benchAnswerOf};
-ghost use Rattle.orders.specs.Played.{Played};
+ghost use Rattle.orders.specs.Performed.{Performed};
 
 const REQUEST_A: u8 = 0x50;
 
@@ -44,7 +44,7 @@ fn deliver(
     out: &mut [u8],
 ) -> BenchAnswer
     requires { ⌜ (recordSize ≤ length (now a)) × ((recordSize ≤ length (now b)) × ((logSize ≤ length (now log)) × (count ≤ places))) ⌝ }
-    ensures { λ r. ⌜ Played (benchOf (now (a .entry)) (now (b .entry)) (now (log .entry)) count) (delivery (benchOf (now (a .entry)) (now (b .entry)) (now (log .entry)) count) n (length (now (out .entry)))) n (now (out .entry)) (now (a .exit)) (now (b .exit)) (now (log .exit)) (now (out .exit)) r ⌝ }
+    ensures { λ r. ⌜ Performed (benchOf (now (a .entry)) (now (b .entry)) (now (log .entry)) count) (delivery (benchOf (now (a .entry)) (now (b .entry)) (now (log .entry)) count) n (length (now (out .entry)))) n (now (out .entry)) (now (a .exit)) (now (b .exit)) (now (log .exit)) (now (out .exit)) r ⌝ }
 {
     if !logbook::holds(log, count, n) {
         return refuse(a, refusal::NO_SUCH_FRAME, count);
@@ -65,7 +65,7 @@ pub fn ask(
     out: &mut [u8],
 ) -> BenchAnswer
     requires { ⌜ (1 ≤ length (now s)) × ((recordSize ≤ length (now a)) × ((recordSize ≤ length (now b)) × ((logSize ≤ length (now log)) × (count ≤ places)))) ⌝ }
-    ensures { λ r. ⌜ Played (benchOf (now (a .entry)) (now (b .entry)) (now (log .entry)) count) (octetsAsk (benchOf (now (a .entry)) (now (b .entry)) (now (log .entry)) count) (now (s .entry)) (length (now (out .entry)))) (field 2 1 (now (s .entry))) (now (out .entry)) (now (a .exit)) (now (b .exit)) (now (log .exit)) (now (out .exit)) r ⌝ }
+    ensures { λ r. ⌜ Performed (benchOf (now (a .entry)) (now (b .entry)) (now (log .entry)) count) (octetsAsk (benchOf (now (a .entry)) (now (b .entry)) (now (log .entry)) count) (now (s .entry)) (length (now (out .entry)))) (field 2 1 (now (s .entry))) (now (out .entry)) (now (a .exit)) (now (b .exit)) (now (log .exit)) (now (out .exit)) r ⌝ }
 {
     let kind = s[0];
     if kind == REQUEST_A {

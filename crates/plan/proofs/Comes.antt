@@ -13,13 +13,14 @@ use Rattle.protocol.specs.Table.{Indication, none, notice, Step, quiet, turned}
 use Rattle.protocol.specs.Table as table
 use Rattle.protocol.specs.Requests.{begun}
 use Rattle.decide.specs.declared.Numbers.{Numbers}
-use Rattle.decide.specs.Rows.{holding}
+use Rattle.decide.specs.Internal.{holding}
 use Rattle.plan.specs.declared.Reply.{Reply}
 use Rattle.plan.specs.declared.Plan.{Plan}
 use Rattle.plan.specs.declared.Queue.{Queue}
 use Rattle.plan.specs.declared.Queue.the-variants.{Keep, Join, Release}
-use Rattle.plan.specs.Plan.{noticeOf, sentIn, endpointAfter, joinedBy, queueAfter, Room, blockOut, sentBy, Comes}
-use Rattle.plan.specs.Parts.{refusing, keeping, turning, beginning, releasing}
+use Rattle.calls.specs.Answers.{noticeOf, sentIn, endpointAfter}
+use Rattle.plan.specs.Internal.{joinedBy, queueAfter, Room, blockOut, sentBy, Comes}
+use Rattle.plan.specs.Internal.{refusing, keeping, turning, beginning, releasing}
 
 -- an accepted call
 abbrev pub answers : Endpoint → Indication → Reply → Block → Outcome Step

@@ -28,7 +28,8 @@ use Rattle.protocol.proofs.Facts.{Found, hand-up, found}
 use Rattle.calls.specs.declared.Call.{Call}
 use Rattle.calls.specs.declared.Call.the-variants as call
 use Rattle.calls.specs.Calls.{Arguments, reads, does, asked}
-use Rattle.plan.specs.Plan.{noticeOf, blockIn, blockOf, blockPart, blockBy}
+use Rattle.calls.specs.Answers.{noticeOf, blockIn, blockOf, blockPart}
+use Rattle.plan.specs.Internal.{blockBy}
 
 -- a notice 5 comes with the octets from dataBlockAt on, any other with none
 pub record Right (s block : List ℕ) (n : ℕ) : Type 0 where

@@ -6,8 +6,8 @@ ghost use Prim.Native.Nat.{ℕ, _≤_};
 ghost use lib.ListN.{length};
 ghost use Rattle.octets.specs.Sizes.{longestFrame, longestBlock};
 ghost use Rattle.frame.specs.Layout.{dataBlockAt};
-ghost use Rattle.plan.specs.Plan.{blockBy, joinedBy, Room, blockOut, sentBy, Sends};
-ghost use Rattle.plan.specs.Parts.{refusing, keeping, turning};
+ghost use Rattle.plan.specs.Internal.{blockBy, joinedBy, Room, blockOut, sentBy, Sends};
+ghost use Rattle.plan.specs.Internal.{refusing, keeping, turning};
 
 // The number of an answer that refuses nothing.
 pub const ACCEPTED: u8 = 0;

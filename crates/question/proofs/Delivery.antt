@@ -14,8 +14,8 @@ use Rattle.logbook.specs.Log.{senderAt, frameAt, holds}
 use Rattle.logbook.proofs.Log.{too-high, held}
 use Rattle.rig.specs.Bench.{Bench, At, recordAt, delivery, callOutcome, comes, endOf}
 use Rattle.checks.proofs.Passed.{Passed, passed}
-use Rattle.question.specs.Found.{Changes, Matters, questions}
-use Rattle.question.specs.Parts.{Says}
+use Rattle.question.specs.Found.{Changes, WouldChange, questions}
+use Rattle.question.specs.Internal.{Says}
 
 -- 11 and 12 have been passed; there is no buffer for a frame that could be too short
 pub ready : (w : Bench) → first (questions w) ≡ 0 → Passed w longestFrame
@@ -24,11 +24,11 @@ ready w h = passed w longestFrame h
 
 module _ (w : Bench) (n : ℕ) where
   -- one that it does not hold
-  pub not-held : holds (w .count) n (w .log) ≡ false → Matters w n → ⊥
+  pub not-held : holds (w .count) n (w .log) ≡ false → WouldChange w n → ⊥
   unfolding delivery comes andThen outcome first when numberOf
   not-held h x = omega (arith, rw h at (x .accepted))
 
-  beyond : w .count ≤ n → Matters w n → ⊥
+  beyond : w .count ≤ n → WouldChange w n → ⊥
   beyond h = not-held (sym (too-high (w .count) n (w .log) h))
 
   module _ (h : holds (w .count) n (w .log) ≡ true) where
@@ -43,14 +43,14 @@ module _ (w : Bench) (n : ℕ) where
     abbrev Goes : Bool → Outcome At → Type 0
     Goes r d = Says r (Changes (recordAt (endOf d) w) (comes w d))
 
-    pub to-b : (r : Bool) → senderAt n (w .log) ≡ 0 → Says r (Changed (w .b)) → Says r (Matters w n)
+    pub to-b : (r : Bool) → senderAt n (w .log) ≡ 0 → Says r (Changed (w .b)) → Says r (WouldChange w n)
     unfolding recordAt endOf comes andThen ifEq when
     to-b r e x = subst (Goes r) (sym (goes {j = 1} (omega arith))) x
 
-    pub to-a : (r : Bool) → senderAt n (w .log) ≢ 0 → Says r (Changed (w .a)) → Says r (Matters w n)
+    pub to-a : (r : Bool) → senderAt n (w .log) ≢ 0 → Says r (Changed (w .a)) → Says r (WouldChange w n)
     unfolding recordAt endOf comes andThen ifEq when
     to-a r e x = subst (Goes r) (sym (goes {j = 0} (omega (arith, held (w .count) n (w .log) h .sender)))) x
 
--- no frame matters where none in the log does
-pub past : (w : Bench) → ((n : ℕ) → n < w .count → Matters w n → ⊥) → (n : ℕ) → Matters w n → ⊥
+-- no frame would_change where none in the log does
+pub past : (w : Bench) → ((n : ℕ) → n < w .count → WouldChange w n → ⊥) → (n : ℕ) → WouldChange w n → ⊥
 past w h n = by-lt n (w .count) (h n) (beyond w n)

@@ -19,17 +19,18 @@ use Rattle.protocol.specs.Table.{Step}
 use Rattle.calls.specs.declared.Call.the-variants.{Receive}
 use Rattle.calls.specs.Calls.{Arguments, given, does, performed, recordAfter}
 use Rattle.decide.specs.declared.Numbers.{Numbers}
-use Rattle.decide.specs.Rows.{holding}
+use Rattle.decide.specs.Internal.{holding}
 use Rattle.plan.specs.declared.Plan.{Plan}
 use Rattle.plan.specs.declared.Queue.{Queue}
 use Rattle.plan.specs.declared.Queue.the-variants.{Keep, Join, Release}
-use Rattle.plan.specs.Plan.{endpointAfter, joinedBy, queueAfter, Room, Comes, Planned}
+use Rattle.calls.specs.Answers.{endpointAfter}
+use Rattle.plan.specs.Internal.{joinedBy, queueAfter, Room, Comes, Planned}
 use Rattle.endpoint.specs.declared.Endpoint.{Endpoint}
-use Rattle.endpoint.specs.View.{pack, blockAt, view}
+use Rattle.endpoint.specs.View.{pack, placeBlock, view}
 use Rattle.endpoint.specs.Sound.{sound}
 use Rattle.endpoint.specs.Record.{recordSize, numbersLayout, decode}
 use Rattle.endpoint.specs.Record as endpoint
-use Rattle.endpoint.specs.Parts.{numbersOf}
+use Rattle.endpoint.specs.Internal.{numbersOf}
 use Rattle.endpoint.proofs.Packs.{count, pack-view}
 use Rattle.endpoint.proofs.Sounds.{tidy}
 use Rattle.machine.specs.Calls.{outcomeOf}
@@ -38,10 +39,10 @@ use Rattle.machine.proofs.Carries.{oldest-at, laden}
 use Rattle.link.specs.Record.{format}
 use Rattle.link.proofs.Answers.{rewritten, enough, lengths-long, blocks-long}
 use Rattle.rig.specs.Bench.{logged, callOutcome}
-use Rattle.moves.specs.Parts.{hasPlace}
+use Rattle.moves.specs.Internal.{hasPlace}
 use Rattle.moves.proofs.Moves.{by-plan}
 use Rattle.question.specs.Found.{Changes}
-use Rattle.question.specs.Parts.{Says, sameNumbers}
+use Rattle.question.specs.Internal.{Says, sameNumbers}
 
 -- the test of the numbers
 same-so : (n m : Numbers) → sameNumbers n m ≡ true → n ≡ m
@@ -164,9 +165,9 @@ module _ (rec : List ℕ) (long : recordSize ≤ length rec) (fine : sound (deco
       abbrev joins : Block
       joins = joinedBy (p .queue) s
 
-      planned : Comes (numbersOf end) (view end .queue) joins (blockAt (end .lengths) (end .blocks) 0) hears p
+      planned : Comes (numbersOf end) (view end .queue) joins (placeBlock (end .lengths) (end .blocks) 0) hears p
       unfolding view
-      planned = (rw e at h) joins (view end .queue) (blockAt (end .lengths) (end .blocks) 0) (count end) (oldest-at end)
+      planned = (rw e at h) joins (view end .queue) (placeBlock (end .lengths) (end .blocks) 0) (count end) (oldest-at end)
 
       by-14 : callOutcome rec count-used call ≡ when (hasPlace (p .reply) count-used) (performed format rec call) (refused 14)
       by-14 = by-plan rec long count-used call {p = p} (rw ready-is planned)

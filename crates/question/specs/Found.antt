@@ -20,8 +20,8 @@ pub record Changes (rec : List ℕ) (o : Outcome Step) : Type 0 where
   pub changed : recordAfter format rec o ≢ rec
 
 -- The delivery of frame n now is such a call. One that 14 refuses is not, since then nothing would be delivered.
-abbrev pub Matters : Bench → ℕ → Type 0
-Matters w n = Changes (recordAt (endOf (delivery w n longestFrame)) w) (comes w (delivery w n longestFrame))
+abbrev pub WouldChange : Bench → ℕ → Type 0
+WouldChange w n = Changes (recordAt (endOf (delivery w n longestFrame)) w) (comes w (delivery w n longestFrame))
 
 -- 11 and 12, as for a line; no buffer for a frame is lent.
 abbrev pub questions : Bench → List Question
@@ -29,8 +29,8 @@ questions w = sizeQuestions w (soundQuestions w [])
 
 -- Which of the frames that matter is named is left open.
 abbrev pub Answers : Bench → Found → Type 0
-Answers w (Frame n) = (first (questions w) ≡ 0) × ((n < w .count) × Matters w n)
-Answers w Nothing = (first (questions w) ≡ 0) × ((n : ℕ) → Matters w n → ⊥)
+Answers w (Frame n) = (first (questions w) ≡ 0) × ((n < w .count) × WouldChange w n)
+Answers w Nothing = (first (questions w) ≡ 0) × ((n : ℕ) → WouldChange w n → ⊥)
 Answers w (Refused k) = (first (questions w) ≡ k) × (k ≢ 0)
 
 -- For C: the number, and the frame's number, which is below 512 where there is one.
@@ -44,7 +44,7 @@ frameIn (Frame n) = n
 frameIn Nothing = places
 frameIn (Refused k) = places
 
-pub record Told (w : Bench) (number frame : ℕ) : Type 0 where
+pub record FrameNamed (w : Bench) (number frame : ℕ) : Type 0 where
   pub found : Found
   pub answers : Answers w found
   pub is-number : number ≡ numberIn found

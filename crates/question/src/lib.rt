@@ -11,8 +11,8 @@ ghost use Rattle.calls.specs.declared.Call.the-variants.{Receive};
 ghost use Rattle.calls.specs.Calls.{given};
 ghost use Rattle.link.specs.Record.{format};
 ghost use Rattle.rig.specs.Bench.{benchOf, callOutcome};
-ghost use Rattle.question.specs.Found.{Changes, Matters, questions, Answers, Told};
-ghost use Rattle.question.specs.Parts.{sameNumbers, Says};
+ghost use Rattle.question.specs.Found.{Changes, WouldChange, questions, Answers, FrameNamed};
+ghost use Rattle.question.specs.Internal.{sameNumbers, Says};
 
 // What the question answers: a frame's number, none, or the number of a refusal.
 pub enum Found {
@@ -52,9 +52,9 @@ fn changes(rec: &[u8], s: &[u8], count: usize) -> bool
 }
 
 // Whether the delivery of frame n would. It goes to the end that did not send it.
-fn matters(a: &[u8], b: &[u8], log: &[u8], count: usize, n: usize) -> bool
+fn would_change(a: &[u8], b: &[u8], log: &[u8], count: usize, n: usize) -> bool
     requires { ⌜ first (questions (benchOf (now a) (now b) (now log) count)) ≡ 0 ⌝ }
-    ensures { λ r. ⌜ Says r (Matters (benchOf (now (a .entry)) (now (b .entry)) (now (log .entry)) count) n) ⌝ }
+    ensures { λ r. ⌜ Says r (WouldChange (benchOf (now (a .entry)) (now (b .entry)) (now (log .entry)) count) n) ⌝ }
 {
     if !logbook::holds(log, count, n) {
         return false;
@@ -79,7 +79,7 @@ pub fn some_frame(a: &[u8], b: &[u8], log: &[u8], count: usize) -> Found
         if i >= count {
             break Found::Nothing;
         }
-        if matters(a, b, log, count, i) {
+        if would_change(a, b, log, count, i) {
             break Found::Frame(i);
         }
         i += 1;
@@ -95,7 +95,7 @@ pub extern "C" fn dock_some_frame(
     count: usize,
     frame: &mut usize,
 ) -> u8
-    ensures { λ r. ⌜ Told (benchOf (now (a .entry)) (now (b .entry)) (now (log .entry)) count) r (now (frame .exit)) ⌝ }
+    ensures { λ r. ⌜ FrameNamed (benchOf (now (a .entry)) (now (b .entry)) (now (log .entry)) count) r (now (frame .exit)) ⌝ }
 {
     let found = some_frame(a, b, log, count);
     match found {

@@ -25,11 +25,11 @@ ghost use Rattle.octets.specs.Sizes.{lastNumber};
 ghost use Rattle.octets.specs.Test.{ok};
 ghost use Rattle.frame.specs.Frame.{Block, DATA};
 ghost use Rattle.protocol.specs.Table.{rule, apply};
-ghost use Rattle.decide.specs.Rows.{carrying, Chosen};
+ghost use Rattle.decide.specs.Internal.{carrying, Chosen};
 ghost use Rattle.calls.specs.declared.Call.the-variants.{Receive};
 ghost use Rattle.calls.specs.Calls.{does};
-ghost use Rattle.plan.specs.Plan.{Planned};
-ghost use Rattle.plan.specs.Parts.{delivering, releasing};
+ghost use Rattle.plan.specs.Internal.{Planned};
+ghost use Rattle.plan.specs.Internal.{delivering, releasing};
 
 // One block more is handed up.
 fn deliver(n: Numbers) -> Numbers

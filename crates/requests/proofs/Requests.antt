@@ -15,7 +15,7 @@ use Rattle.frame.specs.Frame.{Block, Frame, Request, dataFrame, endListening, c
 use Rattle.protocol.specs.Endpoint.{listening, established, Endpoint, waiting}
 use Rattle.protocol.specs.Table.{none, Sent, nothing, frame, quiet, says}
 use Rattle.protocol.specs.Requests.{placeLeft, questions, refusal, accept, request, oldest, resent}
-use Rattle.plan.specs.Plan.{Oldest}
+use Rattle.plan.specs.Internal.{Oldest}
 
 -- where a number is left
 pub left : (b : Bool) (n : ℕ) → first ((8, b) ∷ (9, ltb n lastNumber) ∷ []) ≡ 0 → n < lastNumber

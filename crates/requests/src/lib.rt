@@ -31,8 +31,8 @@ ghost use Rattle.protocol.specs.Network.{ask};
 ghost use Rattle.protocol.specs.Limits.{Readable};
 ghost use Rattle.calls.specs.declared.Call.the-variants.{Request};
 ghost use Rattle.calls.specs.Calls.{does};
-ghost use Rattle.plan.specs.Plan.{Planned};
-ghost use Rattle.plan.specs.Parts.{beginning};
+ghost use Rattle.plan.specs.Internal.{Planned};
+ghost use Rattle.plan.specs.Internal.{beginning};
 
 // The most blocks that wait.
 const QUEUE_SIZE: u8 = octets::QUEUE_SIZE as u8;

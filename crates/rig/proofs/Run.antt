@@ -26,7 +26,7 @@ use Rattle.link.specs.Record.{format, ends}
 use Rattle.link.proofs.Demand.{lawful, no-end-alone}
 use Rattle.logbook.specs.Log.{places, logSize}
 use Rattle.rig.specs.Bench.{Bench, At, recordAt, lineAsks, sends, logged, callOutcome, comes, endOf, logAfter, countAfter, benchAfter}
-use Rattle.rig.specs.Run.{Line, played, playedAll, entry, callIn, callsOf, newEnds, newBench, Holds}
+use Rattle.rig.specs.Run.{Line, lineAfter, linesAfter, entry, entriesOf, callsOf, newEnds, newBench, Holds}
 use Rattle.rig.proofs.Sends.{grows, has-sent, encode-short}
 use Rattle.rig.proofs.Logged.{Among, Logged, Grows, still, logs}
 use Rattle.rig.proofs.Fair.{asked-fair}
@@ -128,12 +128,12 @@ accepts h (suc (suc i)) c l d room m = absurd (omega arith)
 
 -- one line
 record Goes (w : Bench) (e : Two ends) (x : Outcome At) (o : Outcome Step) : Type 0 where
-  pub left : Beside (benchAfter (endOf x) w o) (run ends e (callIn x o))
-  pub due : AllDue ends e (callIn x o)
+  pub left : Beside (benchAfter (endOf x) w o) (run ends e (entriesOf x o))
+  pub due : AllDue ends e (entriesOf x o)
 
 goes : {w : Bench} {e : Two ends} → Beside w e → (l : Line) (x : Outcome At) (o : Outcome Step)
     → lineAsks w (l .0) (l .1) ≡ x → comes w x ≡ o → Goes w e x o
-unfolding callIn comes andThen endOf
+unfolding entriesOf comes andThen endOf
 goes h l (refused n) (refused m) j k = record { left = refusal h 0 m; due = tt }
 goes h l (refused n) (ok y) j k = absurd (let z : _≡_ {A = ℕ} 0 1 = cc in omega arith)
 goes h l (ok x) (refused m) j k = record { left = refusal h (x .0) m; due = tt }
@@ -143,7 +143,7 @@ goes {w} {e} h l (ok x) (ok y) j k =
 
 -- all lines
 record GoesAll (w : Bench) (e : Two ends) (ls : List Line) : Type 0 where
-  pub left : Beside (playedAll w ls) (run ends e (callsOf w ls))
+  pub left : Beside (linesAfter w ls) (run ends e (callsOf w ls))
   pub due : AllDue ends e (callsOf w ls)
 
 -- what a line asks, and the calls that it makes
@@ -152,20 +152,20 @@ module _ (w : Bench) (l : Line) where
   asks = lineAsks w (l .0) (l .1)
 
   abbrev calls-callOutcome : List (Entry Arguments)
-  calls-callOutcome = callIn asks (comes w asks)
+  calls-callOutcome = entriesOf asks (comes w asks)
 
 line-goes : {w : Bench} {e : Two ends} → Beside w e → (l : Line) → Goes w e (asks w l) (comes w (asks w l))
 line-goes {w} h l = goes h l (asks w l) (comes w (asks w l)) refl refl
 
 one-more : {w : Bench} {e : Two ends} (l : Line) (ls : List Line) → Goes w e (asks w l) (comes w (asks w l))
-    → GoesAll (played w l) (run ends e (calls-callOutcome w l)) ls → GoesAll w e (l ∷ ls)
-unfolding playedAll callsOf
+    → GoesAll (lineAfter w l) (run ends e (calls-callOutcome w l)) ls → GoesAll w e (l ∷ ls)
+unfolding linesAfter callsOf
 one-more {w} {e} l ls g r =
-    let ds = callsOf (played w l) ls in
+    let ds = callsOf (lineAfter w l) ls in
     record { left = rw (run-append ends e (calls-callOutcome w l) ds) (r .left); due = due-append ends e (calls-callOutcome w l) ds (g .due) (r .due) }
 
 goes-all : {w : Bench} {e : Two ends} → Beside w e → (ls : List Line) → GoesAll w e ls
-unfolding played playedAll callsOf
+unfolding lineAfter linesAfter callsOf
 goes-all h [] = record { left = h; due = tt }
 goes-all h (l ∷ ls) = let g = line-goes h l in one-more l ls g (goes-all (g .left) ls)
 

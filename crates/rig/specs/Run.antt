@@ -16,27 +16,27 @@ abbrev pub Line : Type 0
 Line = List ℕ × ℕ
 
 -- the bench after one line, and after all
-unfoldable pub played : Bench → Line → Bench
-played w l = let q = lineAsks w (l .0) (l .1) in benchAfter (endOf q) w (comes w q)
+unfoldable pub lineAfter : Bench → Line → Bench
+lineAfter w l = let q = lineAsks w (l .0) (l .1) in benchAfter (endOf q) w (comes w q)
 
-unfoldable pub playedAll : Bench → List Line → Bench
-playedAll w [] = w
-playedAll w (l ∷ ls) = playedAll (played w l) ls
+unfoldable pub linesAfter : Bench → List Line → Bench
+linesAfter w [] = w
+linesAfter w (l ∷ ls) = linesAfter (lineAfter w l) ls
 
 -- a call at an end, as an entry of a list of calls
 unfoldable pub entry : At → Entry Arguments
 entry x = ifEq (x .0) 0 (atA (x .1)) (atB (x .1))
 
 -- the call that a line makes; a refused line makes none
-unfoldable pub callIn : Outcome At → Outcome Step → List (Entry Arguments)
-callIn (refused n) o = []
-callIn (ok x) (refused n) = []
-callIn (ok x) (ok y) = entry x ∷ []
+unfoldable pub entriesOf : Outcome At → Outcome Step → List (Entry Arguments)
+entriesOf (refused n) o = []
+entriesOf (ok x) (refused n) = []
+entriesOf (ok x) (ok y) = entry x ∷ []
 
 -- the calls that the lines of a run make
 unfoldable pub callsOf : Bench → List Line → List (Entry Arguments)
 callsOf w [] = []
-callsOf w (l ∷ ls) = let q = lineAsks w (l .0) (l .1) in callIn q (comes w q) ++ callsOf (played w l) ls
+callsOf w (l ∷ ls) = let q = lineAsks w (l .0) (l .1) in entriesOf q (comes w q) ++ callsOf (lineAfter w l) ls
 
 -- Two fresh ends, whatever follows the records in their buffers.
 abbrev pub newEnds : List ℕ → List ℕ → Two ends
@@ -49,6 +49,6 @@ newBench p q log = record { a = newEnds p q .a .rec; b = newEnds p q .b .rec; lo
 -- A run is such a list of calls, it leaves the records that the list leaves, and demand 3 holds of it.
 pub record Holds (p q log : List ℕ) (lines : List Line) : Type 0 where
   pub due : AllDue ends (newEnds p q) (callsOf (newBench p q log) lines)
-  pub end-a : playedAll (newBench p q log) lines .a ≡ run ends (newEnds p q) (callsOf (newBench p q log) lines) .a .rec
-  pub end-b : playedAll (newBench p q log) lines .b ≡ run ends (newEnds p q) (callsOf (newBench p q log) lines) .b .rec
+  pub end-a : linesAfter (newBench p q log) lines .a ≡ run ends (newEnds p q) (callsOf (newBench p q log) lines) .a .rec
+  pub end-b : linesAfter (newBench p q log) lines .b ≡ run ends (newEnds p q) (callsOf (newBench p q log) lines) .b .rec
   pub demand : Demand ends (newEnds p q) (callsOf (newBench p q log) lines)

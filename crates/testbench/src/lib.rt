@@ -2,11 +2,11 @@
 use hexline::Line;
 use moves::BenchAnswer;
 ghost use Rattle.rig.specs.Bench.{benchOf};
-ghost use Rattle.testbench.specs.Played.{LinePlayed, answerIn};
+ghost use Rattle.testbench.specs.Performed.{LinePerformed, answerIn};
 
 // Plays a line, which is given without its line feed, on the bench with the records a and b, the log and so many places of it in
 // use. A frame that is sent goes to the start of out and to the next place of the log.
-pub fn play(
+pub fn perform(
     a: &mut [u8],
     b: &mut [u8],
     log: &mut [u8],
@@ -14,7 +14,7 @@ pub fn play(
     line: &[u8],
     out: &mut [u8],
 ) -> BenchAnswer
-    ensures { λ r. ⌜ LinePlayed (benchOf (now (a .entry)) (now (b .entry)) (now (log .entry)) count) (now (line .entry)) (now (out .entry)) (now (a .exit)) (now (b .exit)) (now (log .exit)) (now (out .exit)) r ⌝ }
+    ensures { λ r. ⌜ LinePerformed (benchOf (now (a .entry)) (now (b .entry)) (now (log .entry)) count) (now (line .entry)) (now (out .entry)) (now (a .exit)) (now (b .exit)) (now (log .exit)) (now (out .exit)) r ⌝ }
 {
     let number = checks::ready(a, b, log, count, out.len());
     if number != 0 {
@@ -47,9 +47,9 @@ pub extern "C" fn dock_bench(
     at: &mut usize,
     block: &mut usize,
 ) -> u8
-    ensures { λ r. ⌜ LinePlayed (benchOf (now (a .entry)) (now (b .entry)) (now (log .entry)) (now (count .entry))) (now (line .entry)) (now (out .entry)) (now (a .exit)) (now (b .exit)) (now (log .exit)) (now (out .exit)) (answerIn r (now (end .exit)) (now (state .exit)) (now (notice .exit)) (now (local .exit)) (now (remote .exit)) (now (sent .exit)) (now (at .exit)) (now (block .exit)) (now (count .exit))) ⌝ }
+    ensures { λ r. ⌜ LinePerformed (benchOf (now (a .entry)) (now (b .entry)) (now (log .entry)) (now (count .entry))) (now (line .entry)) (now (out .entry)) (now (a .exit)) (now (b .exit)) (now (log .exit)) (now (out .exit)) (answerIn r (now (end .exit)) (now (state .exit)) (now (notice .exit)) (now (local .exit)) (now (remote .exit)) (now (sent .exit)) (now (at .exit)) (now (block .exit)) (now (count .exit))) ⌝ }
 {
-    let r = play(a, b, log, *count, line, out);
+    let r = perform(a, b, log, *count, line, out);
     *count = r.count;
     *end = r.end;
     let told = r.status;

@@ -1,7 +1,7 @@
 use mathlib.Core.Path.{refl}
 use Rattle.octets.proofs.Test.{eq-yes, eq-no}
 use Rattle.frame.specs.Frame.{DATA, SEND}
-use Rattle.codec.specs.Parts.{blockAfter}
+use Rattle.codec.specs.Internal.{blockAfter}
 use native.Mathlib.Omega.{arith}
 use borrow.Author.Needs.{needs}
 use Rattle.codec.proofs.block_length.Statement.{statement}

@@ -8,7 +8,7 @@ use Rattle.frame.specs.Answer.{inputRead, valuesOf}
 use Rattle.frame.specs.declared.Values.{Values}
 use Rattle.frame.specs.declared.InputRead.{InputRead}
 use Rattle.codec.specs.Calls.{shown}
-use Rattle.codec.specs.Parts.{blockAfter}
+use Rattle.codec.specs.Internal.{blockAfter}
 use Rattle.codec.proofs.Blocks.{frame-block, request-block, tells, tells-nothing}
 use borrow.Author.Needs.{needs}
 use Rattle.codec.proofs.codec_read.Statement.{statement}

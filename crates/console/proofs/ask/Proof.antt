@@ -7,7 +7,8 @@ use Rattle.octets.specs.Sizes.{longestFrame}
 use Rattle.octets.specs.Test.{Outcome}
 use Rattle.protocol.specs.Table.{Step}
 use Rattle.calls.specs.Calls.{performed}
-use Rattle.plan.specs.Plan.{noticeOf, blockOf, blockBy}
+use Rattle.calls.specs.Answers.{noticeOf, blockOf}
+use Rattle.plan.specs.Internal.{blockBy}
 use Rattle.link.specs.declared.Answer.{Answer}
 use Rattle.link.specs.Record.{format}
 use Rattle.link.specs.Lent.{statusOf, answerOf, Called}

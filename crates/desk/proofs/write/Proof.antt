@@ -7,10 +7,10 @@ use Rattle.desk.proofs.write.Statement.{statement}
 use Rattle.desk.proofs.write.Tie as tie
 
 tell-requires : tie.Need-tell-requires
-tell-requires c κs = let s = c .before .before .before .before .before .before .before .before .before .before .before .before .before .before .before .before .before .before .before .before .before in let a = s .args in (s .pre, tellable (c .before .before .before .before .before .before .before .before .before .before .play .ensures) (fine (benchOf (now (a .a)) (now (a .b)) (now (a .log)) (now (a .count))) (now (a .line)) longestFrame) (search needs))
+tell-requires c κs = let s = c .before .before .before .before .before .before .before .before .before .before .before .before .before .before .before .before .before .before .before .before .before in let a = s .args in (s .pre, tellable (c .before .before .before .before .before .before .before .before .before .before .perform .ensures) (fine (benchOf (now (a .a)) (now (a .b)) (now (a .log)) (now (a .count))) (now (a .line)) longestFrame) (search needs))
 
 returns : tie.Need-returns
-returns c = gives (c .before .before .before .before .before .before .before .before .before .before .before .before .before .play .ensures) (c .before .before .tell .ensures)
+returns c = gives (c .before .before .before .before .before .before .before .before .before .before .before .before .before .perform .ensures) (c .before .before .tell .ensures)
 
 pub write-spec : {M : Type 1} → statement M
 write-spec =

@@ -3,7 +3,7 @@ use lib.ListN.{length}
 use denote.Ref.{now}
 use Rattle.octets.specs.Sizes.{queueSize}
 use Rattle.endpoint.specs.View.{placesSize}
-use Rattle.endpoint.specs.Parts.{numbersOf}
+use Rattle.endpoint.specs.Internal.{numbersOf}
 use Rattle.endpoint.proofs.Record.{encode-puts}
 use native.Mathlib.Omega.{arith}
 use borrow.Author.Needs.{needs}

@@ -4,7 +4,7 @@ use denote.Ref.{now}
 use borrow.Author.Tests.{not-true, not-false}
 use Rattle.endpoint.specs.declared.Endpoint.{Endpoint}
 use Rattle.endpoint.specs.Sound.{sound}
-use Rattle.endpoint.specs.Parts.{recordOf}
+use Rattle.endpoint.specs.Internal.{recordOf}
 use Rattle.endpoint.proofs.Sounds.{Numbers, numbers-few}
 use native.Mathlib.Omega.{arith}
 use borrow.Author.Needs.{needs}

@@ -6,7 +6,8 @@ use Rattle.octets.specs.Test.{Outcome}
 use Rattle.protocol.specs.Table.{Step}
 use Rattle.calls.specs.declared.Call.the-variants.{Receive}
 use Rattle.calls.specs.Calls.{Arguments, given, performed}
-use Rattle.plan.specs.Plan.{noticeOf, blockBy, blockPart}
+use Rattle.calls.specs.Answers.{noticeOf, blockPart}
+use Rattle.plan.specs.Internal.{blockBy}
 use Rattle.link.specs.declared.Answer.{Answer}
 use Rattle.link.specs.Record.{format}
 use Rattle.link.specs.Lent.{statusOf, answerOf}

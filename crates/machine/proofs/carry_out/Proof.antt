@@ -3,7 +3,7 @@ use lib.ListN.{length}
 use denote.Ref.{now}
 use Rattle.octets.specs.Sizes.{queueSize}
 use Rattle.endpoint.specs.View.{placesSize}
-use Rattle.machine.specs.Carried.{carried}
+use Rattle.machine.specs.Internal.{carried}
 use Rattle.machine.proofs.Places.{for-lengths, for-blocks}
 use native.Mathlib.Omega.{arith}
 use borrow.Author.Needs.{needs}

@@ -3,7 +3,7 @@ use mathlib.Core.Path.{_≡_, refl}
 use lib.ListN.{length}
 use denote.Ref.{now}
 use Rattle.plan.specs.declared.Queue.the-variants.{Join, Release}
-use Rattle.machine.specs.Carried.{placesAfter}
+use Rattle.machine.specs.Internal.{placesAfter}
 use native.Mathlib.Omega.{arith}
 use borrow.Author.Needs.{needs}
 use Rattle.machine.proofs.change_places.Statement.{statement}

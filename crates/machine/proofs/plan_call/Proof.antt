@@ -3,12 +3,12 @@ use mathlib.Core.Bool.{true}
 use denote.Ref.{now}
 use borrow.Author.Tests.{not-true, not-false}
 use Rattle.calls.specs.Calls.{Arguments, given}
-use Rattle.plan.specs.Plan.{joinedBy}
+use Rattle.plan.specs.Internal.{joinedBy}
 use Rattle.plan.proofs.Comes.{by-joined}
 use Rattle.endpoint.specs.declared.Endpoint.{Endpoint}
-use Rattle.endpoint.specs.View.{blockAt, view}
+use Rattle.endpoint.specs.View.{placeBlock, view}
 use Rattle.endpoint.specs.Sound.{sound}
-use Rattle.endpoint.specs.Parts.{recordOf}
+use Rattle.endpoint.specs.Internal.{recordOf}
 use Rattle.endpoint.proofs.Packs.{count}
 use Rattle.machine.proofs.Ready.{no-room, unsound, ready}
 use Rattle.machine.proofs.Carries.{oldest-at, laden, refusal}
@@ -51,7 +51,7 @@ returns-3 c =
     let s = c .before .before .before .before .before .before .before .before .before in
     let e = record-of s in
     rw (ready e (call-of s) (c .before .before .before .before .before .if1 .left) (is-fine (c .before .before .before)), c .before .enum-told .given .1)
-    (by-joined (now (s .args .s)) (c .request .ensures (view e .queue) (blockAt (e .lengths) (e .blocks) 0) (count e) (oldest-at e)))
+    (by-joined (now (s .args .s)) (c .request .ensures (view e .queue) (placeBlock (e .lengths) (e .blocks) 0) (count e) (oldest-at e)))
 
 returns-4 : tie.Need-returns-4
 unfolding view
@@ -59,7 +59,7 @@ returns-4 c =
     let s = c .before .before .before .before .before .before .before .before .before in
     let e = record-of s in
     rw (ready e (call-of s) (c .before .before .before .before .before .if1 .left) (is-fine (c .before .before .before)), c .before .enum-told2 .given .1)
-    (c .receive .ensures (joinedBy (c .receive .result .queue) (now (s .args .s))) (view e .queue) (blockAt (e .lengths) (e .blocks) 0) (count e) (oldest-at e))
+    (c .receive .ensures (joinedBy (c .receive .result .queue) (now (s .args .s))) (view e .queue) (placeBlock (e .lengths) (e .blocks) 0) (count e) (oldest-at e))
 
 pub plan-call-spec : {M : Type 1} → statement M
 plan-call-spec =

@@ -1,11 +1,11 @@
 use native.Mathlib.Nat.{sub-zero}
-use Rattle.endpoint.specs.View.{blockAt}
+use Rattle.endpoint.specs.View.{placeBlock}
 use borrow.Author.Needs.{needs}
 use Rattle.machine.proofs.send.Statement.{statement}
 use Rattle.machine.proofs.send.Tie as tie
 
 returns : tie.Need-returns
-unfolding blockAt
+unfolding placeBlock
 returns c = rw (c .before .before .before .before .before .wide .ensures .0, sub-zero) at (c .before .before .send-reply .ensures)
 
 pub send-spec : {M : Type 1} → statement M

@@ -4,7 +4,7 @@ use denote.Ref.{now}
 use Rattle.octets.specs.Sizes.{queueSize}
 use Rattle.calls.specs.Calls.{Arguments, given}
 use Rattle.endpoint.specs.View.{placesSize}
-use Rattle.machine.specs.Carried.{Plans}
+use Rattle.machine.specs.Internal.{Plans}
 use Rattle.machine.proofs.Carries.{sendable, ready-to, long-enough, turns-down, accepts}
 use borrow.Author.Needs.{needs}
 use Rattle.machine.proofs.step.Statement.{statement}

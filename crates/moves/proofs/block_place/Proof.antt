@@ -1,7 +1,7 @@
 use mathlib.Core.Path.{sym}
 use Rattle.octets.proofs.Test.{eq-yes, eq-no}
 use Rattle.moves.specs.Answer.{blockStart}
-use Rattle.moves.specs.Parts.{blockPlace}
+use Rattle.moves.specs.Internal.{blockPlace}
 use borrow.Author.Needs.{needs}
 use Rattle.moves.proofs.block_place.Statement.{statement}
 use Rattle.moves.proofs.block_place.Tie as tie

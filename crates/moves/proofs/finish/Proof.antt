@@ -1,7 +1,7 @@
 use mathlib.Core.Path.{sym, ap, _∙_}
 use denote.Ref.{now}
 use lib.Seq.{length-take-le}
-use Rattle.moves.specs.Parts.{notedCount}
+use Rattle.moves.specs.Internal.{notedCount}
 use Rattle.moves.proofs.Does.{answers}
 use native.Mathlib.Omega.{arith}
 use borrow.Author.Needs.{needs}

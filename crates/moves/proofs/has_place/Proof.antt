@@ -1,5 +1,5 @@
 use mathlib.Core.Path.{refl}
-use Rattle.moves.specs.Parts.{hasPlace}
+use Rattle.moves.specs.Internal.{hasPlace}
 use borrow.Author.Needs.{needs}
 use Rattle.moves.proofs.has_place.Statement.{statement}
 use Rattle.moves.proofs.has_place.Tie as tie

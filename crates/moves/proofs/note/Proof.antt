@@ -1,7 +1,7 @@
 use mathlib.Core.Path.{sym, _∙_}
 use Rattle.octets.proofs.Test.{eq-yes, eq-no}
 use native.Mathlib.Omega.{arith}
-use Rattle.moves.specs.Parts.{noted, notedCount}
+use Rattle.moves.specs.Internal.{noted, notedCount}
 use native.Mathlib.Omega.{arith}
 use borrow.Author.Needs.{needs}
 use Rattle.moves.proofs.note.Statement.{statement}

@@ -5,7 +5,7 @@ use lib.ListN.{length, drop, length-drop}
 use lib.Seq.{take-all}
 use Rattle.frame.specs.Layout.{dataBlockAt}
 use Rattle.octets.proofs.Test.{eq-yes, eq-no}
-use Rattle.plan.specs.Plan.{blockBy}
+use Rattle.plan.specs.Internal.{blockBy}
 use native.Mathlib.Omega.{arith}
 use borrow.Author.Needs.{needs}
 use Rattle.plan.proofs.handed_up.Statement.{statement}

@@ -5,7 +5,7 @@ use lib.Seq.{take-all}
 use denote.Ref.{now}
 use Rattle.frame.specs.Layout.{sendBlockAt}
 use Rattle.plan.specs.declared.Queue.the-variants.{Join}
-use Rattle.plan.specs.Plan.{joinedBy}
+use Rattle.plan.specs.Internal.{joinedBy}
 use native.Mathlib.Omega.{arith}
 use borrow.Author.Needs.{needs}
 use Rattle.plan.proofs.joined.Statement.{statement}

@@ -1,5 +1,5 @@
 use mathlib.Core.Path.{refl}
-use Rattle.question.specs.Parts.{sameNumbers}
+use Rattle.question.specs.Internal.{sameNumbers}
 use Rattle.question.proofs.same.Statement.{statement}
 use Rattle.question.proofs.same.Tie as tie
 

@@ -7,14 +7,14 @@ use borrow.Author.Needs.{needs}
 use Rattle.logbook.specs.Log.{places}
 use Rattle.octets.specs.Test.{when, first}
 use Rattle.rig.specs.Bench.{Bench, benchOf}
-use Rattle.question.specs.Found.{Matters, questions}
+use Rattle.question.specs.Found.{WouldChange, questions}
 use Rattle.question.proofs.Delivery.{ready, past}
 use Rattle.question.proofs.some_frame.Statement.{statement}
 use Rattle.question.proofs.some_frame.Tie as tie
 
--- no frame before i matters
+-- no frame before i would_change
 abbrev Inv-loop : tie.InvT-loop
-Inv-loop a b log count refusal i₀ i = (count ≤ places) × ((i ≤ places) × ((k : ℕ) → k < i → Matters (benchOf a b log count) k → ⊥))
+Inv-loop a b log count refusal i₀ i = (count ≤ places) × ((i ≤ places) × ((k : ℕ) → k < i → WouldChange (benchOf a b log count) k → ⊥))
 
 abbrev μ-loop : tie.MeasureT-loop
 μ-loop a b log count refusal i₀ i = places - i
@@ -39,8 +39,8 @@ returns c = (sym (asks (c .before)), c .if1 .taken)
 loop-holds : tie.Need-loop-holds Inv-loop μ-loop
 loop-holds c = let f = ready (bench (c .before .before .before .before .before)) (passed c) .few in (f, (omega arith, below-none _))
 
-matters-requires : tie.Need-matters-requires Inv-loop μ-loop
-matters-requires c κs = passed (c .before .before)
+would-change-requires : tie.Need-would-change-requires Inv-loop μ-loop
+would-change-requires c κs = passed (c .before .before)
 
 add-i : tie.Need-add-i Inv-loop μ-loop
 add-i c = search needs
@@ -51,7 +51,7 @@ loop-less c = search needs
 loop-again : tie.Need-loop-again Inv-loop μ-loop
 loop-again c =
     let l = c .before .before .before .loop .inv in
-    (l .0, (search needs, below-more _ _ (l .1 .1) (rw (c .if3 .left) at (c .before .matters .ensures))))
+    (l .0, (search needs, below-more _ _ (l .1 .1) (rw (c .if3 .left) at (c .before .would_change .ensures))))
 
 returns-2 : tie.Need-returns-2 Inv-loop μ-loop
 returns-2 c =
@@ -59,9 +59,9 @@ returns-2 c =
 
 returns-3 : tie.Need-returns-3 Inv-loop μ-loop
 returns-3 c =
-    (passed (c .before .before .before .before), (omega (arith, c .before .before .if2 .left), rw (c .if3 .taken) at (c .before .matters .ensures)))
+    (passed (c .before .before .before .before), (omega (arith, c .before .before .if2 .left), rw (c .if3 .taken) at (c .before .would_change .ensures)))
 
 pub some-frame-spec : {M : Type 1} → statement M
 some-frame-spec =
     tie.close
-    (tie.spec Inv-loop μ-loop ready-requires returns loop-holds matters-requires add-i loop-less loop-again returns-2 returns-3)
+    (tie.spec Inv-loop μ-loop ready-requires returns loop-holds would-change-requires add-i loop-less loop-again returns-2 returns-3)

@@ -11,10 +11,10 @@ use Rattle.protocol.specs.declared.Rule.{Rule}
 use Rattle.protocol.specs.declared.Rule.the-variants.{HandUp, Release}
 use Rattle.protocol.specs.Endpoint.{closed, listening, activeOpening, passiveOpening, established}
 use Rattle.protocol.specs.Table.{none, connected, rejected, closedByPartner, closeFinished, handedUp, notice, apply}
-use Rattle.decide.specs.Rows.{holding, carrying}
+use Rattle.decide.specs.Internal.{holding, carrying}
 use Rattle.plan.specs.declared.Reply.the-variants.{Nothing, Frame}
-use Rattle.plan.specs.Plan.{sentBy}
-use Rattle.plan.specs.Parts.{delivering}
+use Rattle.plan.specs.Internal.{sentBy}
+use Rattle.plan.specs.Internal.{delivering}
 use Rattle.plan.proofs.Comes.{keeps, turns, releases}
 use Rattle.receiving.proofs.Found.{hands-up, frees}
 use native.Mathlib.Omega.{arith}

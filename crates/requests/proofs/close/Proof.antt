@@ -2,9 +2,9 @@ use Rattle.frame.specs.declared.Header.the-variants.{Dr}
 use Rattle.frame.specs.Answer.{frameOf}
 use Rattle.protocol.specs.Table.{none, notice}
 use Rattle.protocol.specs.Requests.{accept}
-use Rattle.decide.specs.Rows.{holding}
+use Rattle.decide.specs.Internal.{holding}
 use Rattle.plan.specs.declared.Reply.the-variants.{Frame}
-use Rattle.plan.specs.Plan.{sentBy}
+use Rattle.plan.specs.Internal.{sentBy}
 use Rattle.plan.proofs.Comes.{refuses, turns}
 use Rattle.requests.proofs.Requests.{close-8, close-0}
 use borrow.Author.Needs.{needs}

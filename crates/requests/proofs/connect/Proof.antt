@@ -7,8 +7,8 @@ use Rattle.frame.specs.Answer.{frameOf}
 use Rattle.plan.specs.declared.Reply.the-variants.{Frame}
 use Rattle.protocol.specs.Endpoint.{activeOpening}
 use Rattle.protocol.specs.Requests.{questions, refusal, accept}
-use Rattle.decide.specs.Rows.{holding}
-use Rattle.plan.specs.Plan.{sentBy}
+use Rattle.decide.specs.Internal.{holding}
+use Rattle.plan.specs.Internal.{sentBy}
 use Rattle.plan.proofs.Comes.{refuses, begins}
 use Rattle.requests.proofs.Requests.{refused-by, allowed, left}
 use native.Mathlib.Omega.{arith}

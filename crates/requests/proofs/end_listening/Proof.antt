@@ -1,8 +1,8 @@
 use Rattle.protocol.specs.Table.{none, notice}
 use Rattle.protocol.specs.Requests.{accept}
-use Rattle.decide.specs.Rows.{holding}
+use Rattle.decide.specs.Internal.{holding}
 use Rattle.plan.specs.declared.Reply.the-variants.{Nothing}
-use Rattle.plan.specs.Plan.{sentBy}
+use Rattle.plan.specs.Internal.{sentBy}
 use Rattle.plan.proofs.Comes.{refuses, turns}
 use Rattle.requests.proofs.Requests.{end-listening-8, end-listening-0}
 use borrow.Author.Needs.{needs}

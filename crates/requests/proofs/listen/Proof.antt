@@ -4,9 +4,9 @@ use Rattle.octets.specs.Sizes.{lastNumber}
 use Rattle.frame.specs.Frame.{listen}
 use Rattle.protocol.specs.Endpoint.{listening}
 use Rattle.protocol.specs.Requests.{questions, refusal, accept}
-use Rattle.decide.specs.Rows.{holding}
+use Rattle.decide.specs.Internal.{holding}
 use Rattle.plan.specs.declared.Reply.the-variants.{Nothing}
-use Rattle.plan.specs.Plan.{sentBy}
+use Rattle.plan.specs.Internal.{sentBy}
 use Rattle.plan.proofs.Comes.{refuses, begins}
 use Rattle.requests.proofs.Requests.{refused-by, allowed, left}
 use borrow.Author.Needs.{needs}

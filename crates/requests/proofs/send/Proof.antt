@@ -9,8 +9,9 @@ use Rattle.frame.specs.Answer.{frameOf}
 use Rattle.protocol.specs.Endpoint.{established}
 use Rattle.protocol.specs.Table.{notice}
 use Rattle.protocol.specs.Requests.{accept}
-use Rattle.decide.specs.Rows.{holding}
-use Rattle.plan.specs.Plan.{noticeOf, sentIn, endpointAfter, queueAfter, sentBy}
+use Rattle.decide.specs.Internal.{holding}
+use Rattle.calls.specs.Answers.{noticeOf, sentIn, endpointAfter}
+use Rattle.plan.specs.Internal.{queueAfter, sentBy}
 use Rattle.plan.proofs.Comes.{refuses}
 use Rattle.requests.proofs.Requests.{send-refused, send-10, send-0, left}
 use native.Mathlib.Omega.{arith}

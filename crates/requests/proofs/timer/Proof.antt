@@ -5,9 +5,9 @@ use Rattle.frame.specs.declared.Header.the-variants.{Crao, Crpo, Dr, Data}
 use Rattle.frame.specs.Answer.{frameOf}
 use Rattle.protocol.specs.Table.{none, notice}
 use Rattle.protocol.specs.Requests.{resent}
-use Rattle.decide.specs.Rows.{holding}
+use Rattle.decide.specs.Internal.{holding}
 use Rattle.plan.specs.declared.Reply.the-variants.{Nothing, Frame}
-use Rattle.plan.specs.Plan.{sentBy}
+use Rattle.plan.specs.Internal.{sentBy}
 use Rattle.plan.proofs.Comes.{keeps}
 use Rattle.requests.proofs.Requests.{timer-says, timer-quiet, resent-oldest, oldest-is, oldest-none}
 use native.Mathlib.Omega.{arith}

@@ -11,7 +11,7 @@ use Rattle.protocol.specs.Table.{Step}
 use Rattle.calls.specs.Calls.{recordAfter, bufferAfter}
 use Rattle.plan.specs.declared.Reply.{Reply}
 use Rattle.plan.specs.declared.Reply.the-variants as reply
-use Rattle.plan.specs.Plan.{blockOf}
+use Rattle.calls.specs.Answers.{blockOf}
 use Rattle.link.specs.declared.Answer.{Answer}
 use Rattle.link.specs.Record.{format}
 use Rattle.logbook.specs.Log.{placeSize, places, place}

@@ -18,8 +18,8 @@ use Rattle.testbench.proofs.Asked as asked
 use Rattle.testbench.proofs.Asked.{unready, passes, sizes, some-octet}
 use native.Mathlib.Omega.{arith}
 use borrow.Author.Needs.{needs}
-use Rattle.testbench.proofs.play.Statement.{statement}
-use Rattle.testbench.proofs.play.Tie as tie
+use Rattle.testbench.proofs.perform.Statement.{statement}
+use Rattle.testbench.proofs.perform.Tie as tie
 
 -- the line of a bench that is ready
 abbrev line : tie.After-ask-arg3 → List ℕ
@@ -60,8 +60,8 @@ returns-3 c =
     let y = checked.passed (benchOf (now (a .a)) (now (a .b)) (now (a .log)) (a .count)) (length (now (a .out))) (sym (c .before .before .before .before .before .before .before .before .before .ready .ensures) ∙ c .before .before .before .before .before .before .before .before .if1 .left) in
     declines (now (a .a)) (now (a .b)) (now (a .log)) (a .count) (field 2 1 (unhex (now (a .line)))) _ (now (a .out)) (asked.turned-away (now (a .a)) (now (a .b)) (now (a .log)) (a .count) (now (a .line)) (length (now (a .out))) y (q .0) (q .1) ∙ ap refused (sym (q .2))) (c .refuse2 .ensures (field 2 1 (unhex (now (a .line)))))
 
-pub play-spec : {M : Type 1} → statement M
-play-spec =
+pub perform-spec : {M : Type 1} → statement M
+perform-spec =
     tie.close
     (tie.spec (λ c κs. search needs) (λ c κs. search needs) (λ c. search needs) (λ c. search needs) (λ c. search needs) returns (λ c. search needs)
     (λ c κs. search needs) (λ c. search needs) array-share-prefix-s slice-aggregate-ask ask-requires (λ c. search needs) (λ c κs. search needs)

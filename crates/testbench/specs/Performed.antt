@@ -6,11 +6,11 @@ use Rattle.octets.specs.Octets.{field}
 use Rattle.hexline.specs.Line.{unhex}
 use Rattle.rig.specs.Bench.{Bench, lineAsks}
 use Rattle.moves.specs.declared.BenchAnswer.{BenchAnswer}
-use Rattle.orders.specs.Played.{Played}
+use Rattle.orders.specs.Performed.{Performed}
 
 -- A line's text: all questions up to 13, in document 01's order, give the call.
-abbrev pub LinePlayed : Bench → List ℕ → List ℕ → List ℕ → List ℕ → List ℕ → List ℕ → BenchAnswer → Type 0
-LinePlayed w line out a b log out′ r = Played w (lineAsks w line (length out)) (field 2 1 (unhex line)) out a b log out′ r
+abbrev pub LinePerformed : Bench → List ℕ → List ℕ → List ℕ → List ℕ → List ℕ → List ℕ → BenchAnswer → Type 0
+LinePerformed w line out a b log out′ r = Performed w (lineAsks w line (length out)) (field 2 1 (unhex line)) out a b log out′ r
 
 -- the answer in numbers, for programs in C
 abbrev pub answerIn : ℕ → ℕ → ℕ → ℕ → ℕ → ℕ → ℕ → ℕ → ℕ → ℕ → BenchAnswer

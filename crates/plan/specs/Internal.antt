@@ -1,5 +1,6 @@
--- A plan: what a call does to the numbers of a record, what becomes of its waiting blocks, and what is sent.
-use Prim.Native.Nat.{ℕ, _≤_, _<_}
+-- A plan: what a call does to the numbers of a record, what becomes of its waiting blocks, and what is sent. No public call's contract needs
+-- this.
+use Prim.Native.Nat.{ℕ, _≤_, _<_, _+_, _-_}
 use mathlib.Core.Path.{_≡_}
 use mathlib.Core.List.{List, [], _∷_, _++_}
 use lib.ListN.{length, take, drop}
@@ -12,43 +13,15 @@ use Rattle.frame.specs.Answer.{frameOf}
 use Rattle.protocol.specs.Endpoint.{Endpoint}
 use Rattle.protocol.specs.Table.{Sent, nothing, frame, Step, notice, Indication, none, connected, rejected, closedByPartner, closeFinished, handedUp}
 use Rattle.calls.specs.Calls.{wire}
+use Rattle.calls.specs.Answers.{noticeOf, sentIn, endpointAfter}
 use Rattle.decide.specs.declared.Numbers.{Numbers}
-use Rattle.decide.specs.Rows.{holding}
+use Rattle.decide.specs.Internal.{holding}
 use Rattle.plan.specs.declared.Queue.{Queue}
 use Rattle.plan.specs.declared.Queue.the-variants.{Keep, Join, Release}
 use Rattle.plan.specs.declared.Reply.{Reply}
 use Rattle.plan.specs.declared.Reply.the-variants as reply
 use Rattle.plan.specs.declared.Plan.{Plan}
-
--- what a call answers besides: a refusal has no notice, sends nothing and leaves the endpoint
-unfoldable pub noticeOf : Outcome Step → ℕ
-noticeOf (refused n) = 0
-noticeOf (ok x) = notice (x .indication)
-
-unfoldable pub sentIn : Outcome Step → Sent
-sentIn (refused n) = nothing
-sentIn (ok x) = x .sent
-
-unfoldable pub endpointAfter : Endpoint → Outcome Step → Endpoint
-endpointAfter e (refused n) = e
-endpointAfter e (ok x) = x .endpoint
-
--- the block handed up
-unfoldable pub blockIn : Indication → Block
-blockIn none = []
-blockIn connected = []
-blockIn rejected = []
-blockIn closedByPartner = []
-blockIn closeFinished = []
-blockIn (handedUp b) = b
-
-unfoldable pub blockOf : Outcome Step → Block
-blockOf (refused n) = []
-blockOf (ok x) = blockIn (x .indication)
-
--- "A part of the caller's own received frame": the n octets of s from 14 on, where the block of a DATA stands.
-unfoldable pub blockPart : List ℕ → ℕ → Block
-blockPart s n = take n (drop dataBlockAt s)
+use Rattle.plan.specs.declared.Reply.the-variants.{Nothing}
 
 -- the block that a notice tells of: all that follows octet 14 with notice 5, else none
 unfoldable pub blockBy : ℕ → List ℕ → Block
@@ -104,3 +77,50 @@ Planned n b does p = (q : List Block) (old : Block) → length q ≡ n .waiting 
 pub record Sends (x : Sent) (out out′ : List ℕ) (n : ℕ) : Type 0 where
   pub count : n ≡ length (wire x)
   pub octets : out′ ≡ put out 0 (wire x)
+
+-- Plans that many rows share.
+
+-- nothing is done
+abbrev pub refusing : Numbers → ℕ → Plan
+refusing n k = record { number = k; numbers = n; queue = Keep; notice = 0; reply = Nothing }
+
+-- the blocks stay
+abbrev pub keeping : Numbers → ℕ → Reply → Plan
+keeping n notice reply = record { number = 0; numbers = n; queue = Keep; notice = notice; reply = reply }
+
+-- all blocks leave, in the same incarnation and in the next
+abbrev pub turning : Numbers → ℕ → ℕ → ℕ → Reply → Plan
+turning n st d notice reply =
+    record {
+      number = 0;
+      numbers = record { state = st; local = n .local; remote = d; accepted = 0; delivered = 0; waiting = 0 };
+      queue = Release (n .waiting);
+      notice = notice;
+      reply = reply;
+    }
+
+abbrev pub beginning : Numbers → ℕ → Reply → Plan
+beginning n st reply =
+    record {
+      number = 0;
+      numbers = record { state = st; local = n .local + 1; remote = 0; accepted = 0; delivered = 0; waiting = 0 };
+      queue = Release (n .waiting);
+      notice = 0;
+      reply = reply;
+    }
+
+-- one block more is handed up
+abbrev pub delivering : Numbers → Numbers
+delivering n =
+    record { state = n .state; local = n .local; remote = n .remote; accepted = n .accepted; delivered = n .delivered + 1; waiting = n .waiting }
+
+-- the k oldest blocks leave
+abbrev pub releasing : Numbers → ℕ → Plan
+releasing n k =
+    record {
+      number = 0;
+      numbers = record { state = n .state; local = n .local; remote = n .remote; accepted = n .accepted; delivered = n .delivered; waiting = n .waiting - k };
+      queue = Release k;
+      notice = 0;
+      reply = Nothing;
+    }

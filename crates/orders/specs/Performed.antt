@@ -5,14 +5,14 @@ use mathlib.Core.List.{List}
 use lib.ListN.{take, drop}
 use Rattle.octets.specs.Test.{Outcome}
 use Rattle.calls.specs.Calls.{bufferAfter}
-use Rattle.plan.specs.Plan.{blockOf}
+use Rattle.calls.specs.Answers.{blockOf}
 use Rattle.rig.specs.Bench.{Bench, benchOf, At, recordAt, comes, endOf, benchAfter}
 use Rattle.moves.specs.declared.BenchAnswer.{BenchAnswer}
 use Rattle.moves.specs.Answer.{benchAnswerOf}
 
 -- A line on the bench w: q is the call that it makes, or its refusal; n is the frame that it delivers, if it delivers one. A block
 -- handed up is a part of the log.
-pub record Played (w : Bench) (q : Outcome At) (n : ℕ) (out a b log out′ : List ℕ) (r : BenchAnswer) : Type 0 where
+pub record Performed (w : Bench) (q : Outcome At) (n : ℕ) (out a b log out′ : List ℕ) (r : BenchAnswer) : Type 0 where
   pub answer : r ≡ benchAnswerOf (endOf q) (recordAt (endOf q) w) (w .count) n (comes w q)
   pub bench : benchOf a b log (r .count) ≡ benchAfter (endOf q) w (comes w q)
   pub buffer : out′ ≡ bufferAfter out (comes w q)

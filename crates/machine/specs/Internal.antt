@@ -9,15 +9,15 @@ use Rattle.calls.specs.Calls.{Arguments}
 use Rattle.plan.specs.declared.Plan.{Plan}
 use Rattle.plan.specs.declared.Queue.{Queue}
 use Rattle.plan.specs.declared.Queue.the-variants.{Keep, Join, Release}
-use Rattle.plan.specs.Plan.{joinedBy, Comes}
+use Rattle.plan.specs.Internal.{joinedBy, Comes}
 use Rattle.endpoint.specs.declared.Endpoint.{Endpoint}
-use Rattle.endpoint.specs.View.{blockAt, view}
-use Rattle.endpoint.specs.Parts.{recordOf, numbersOf}
+use Rattle.endpoint.specs.View.{placeBlock, view}
+use Rattle.endpoint.specs.Internal.{recordOf, numbersOf}
 use Rattle.machine.specs.Calls.{outcomeOf}
 
 -- p is the plan of a call of the record e
 abbrev pub Plans : Endpoint → Arguments → Plan → Type 0
-Plans e c p = Comes (numbersOf e) (view e .queue) (joinedBy (p .queue) (c .octets)) (blockAt (e .lengths) (e .blocks) 0) (outcomeOf e c) p
+Plans e c p = Comes (numbersOf e) (view e .queue) (joinedBy (p .queue) (c .octets)) (placeBlock (e .lengths) (e .blocks) 0) (outcomeOf e c) p
 
 -- Places of so many octets after a plan, where w of them are in use: s joins in the next; where some leave, the others move to the front
 -- and zeros follow.

@@ -6,7 +6,7 @@ use Rattle.calls.specs.declared.Call.{Call}
 use Rattle.calls.specs.Calls.{given, performed}
 use Rattle.plan.specs.declared.Plan.{Plan}
 use Rattle.endpoint.specs.Record.{decode}
-use Rattle.machine.specs.Carried.{Plans}
+use Rattle.machine.specs.Internal.{Plans}
 use Rattle.link.specs.declared.Answer.{Answer}
 use Rattle.link.specs.Record.{format}
 use Rattle.link.specs.Lent.{Called}

@@ -9,8 +9,8 @@ use Rattle.octets.specs.Sizes.{longestFrame}
 use Rattle.logbook.specs.Log.{holds}
 use Rattle.rig.specs.Bench.{Bench, benchOf}
 use Rattle.question.proofs.Delivery.{ready, not-held, to-a, to-b}
-use Rattle.question.proofs.matters.Statement.{statement}
-use Rattle.question.proofs.matters.Tie as tie
+use Rattle.question.proofs.would_change.Statement.{statement}
+use Rattle.question.proofs.would_change.Tie as tie
 
 abbrev bench : tie.Start → Bench
 bench c = benchOf (now (c .args .a)) (now (c .args .b)) (now (c .args .log)) (c .args .count)
@@ -62,7 +62,7 @@ returns-3 c =
     to-a (bench s) (s .args .n) (is-held (c .before .before .before .before)) (c .changes2 .result) (λ z. c .before .if2 .left (c .before .before .sender-of .ensures ∙ z))
     (rw (c .before .before .before .frame-of .ensures) at (c .changes2 .ensures))
 
-pub matters-spec : {M : Type 1} → statement M
-matters-spec =
+pub would-change-spec : {M : Type 1} → statement M
+would-change-spec =
     tie.close
     (tie.spec holds-requires returns frame-of-requires sender-of-requires changes-requires returns-2 changes-requires-2 returns-3)
