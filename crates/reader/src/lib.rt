@@ -25,13 +25,14 @@ use frame::SENDER;
 use frame::TIMER;
 use octets::refusal;
 ghost use mathlib.Core.Path.{_≡_};
-ghost use mathlib.Core.List.{List};
+ghost use mathlib.Core.List.{List, [], _∷_};
 ghost use mathlib.Core.Bool.{true};
-ghost use Prim.Native.Nat.{ℕ, _≤_};
-ghost use lib.ListN.{length, drop};
+ghost use Prim.Native.Nat.{ℕ, _+_, _-_, _≤_};
+ghost use lib.Dec.{leb, eqb};
+ghost use lib.ListN.{length, drop, getD};
 ghost use Rattle.octets.specs.Test.{when, first, refused, ok, mapped};
 ghost use Rattle.frame.specs.Read.{kindOf, numberAt, frameAt, requestAt, countOk, numbersOk, readable, sizeQuestions, readFrameAs, readFrame, readRequestAs, readRequest, frame, request, readInput};
-ghost use Rattle.frame.specs.Layout.{isFrame, isRequest, hasBlock, numbersSize, dataNumbers, sendNumbers};
+ghost use Rattle.frame.specs.Layout.{isFrame, isRequest, numbersSize, dataNumbers, sendNumbers};
 ghost use Rattle.frame.specs.Answer.{classOf, requestOf, frameTold, requestTold, frameRead, requestRead, inputRead};
 
 // The largest number of a DATA.
@@ -52,35 +53,6 @@ pub fn class_of(s: &[u8]) -> Class
     }
 }
 
-// What follows is over the kind and the octets after the head.
-fn has_block(kind: u8) -> bool
-    ensures { λ r. ⌜ r ≡ hasBlock kind ⌝ }
-{
-    (kind == DATA) | (kind == SEND)
-}
-
-// The octets of the numbers of a kind.
-fn numbers_size(kind: u8) -> usize
-    ensures { λ r. ⌜ (r ≡ numbersSize kind) × (r ≤ dataNumbers) ⌝ }
-{
-    if kind == DATA {
-        return DATA_NUMBERS;
-    }
-    if kind == ACK {
-        return ACK_NUMBERS;
-    }
-    if kind == SEND {
-        return SEND_NUMBERS;
-    }
-    if kind < CRAO {
-        return 0;
-    }
-    if DRACK < kind {
-        return 0;
-    }
-    CONTROL_NUMBERS
-}
-
 // Question 5.
 fn count_ok(count: u8) -> bool
     ensures { λ r. ⌜ r ≡ countOk count ⌝ }
@@ -88,17 +60,21 @@ fn count_ok(count: u8) -> bool
     (1 <= count) & (count <= octets::LONGEST_BLOCK as u8)
 }
 
-// Questions 4 to 6; 0 where all are answered yes. A block is exactly as many octets as its count says.
-fn size_refusal(kind: u8, rest: &[u8]) -> u8
-    ensures { λ r. ⌜ r ≡ first (sizeQuestions kind (now (rest .entry))) ⌝ }
+// What follows is over the kind and the octets after the head. Question 4 where no block follows; 0 where it is answered yes.
+fn plain_refusal(size: usize, rest: &[u8]) -> u8
+    ensures { λ r. ⌜ r ≡ first ((4, eqb (length (now (rest .entry))) size) ∷ []) ⌝ }
 {
-    let size = numbers_size(kind);
-    if !has_block(kind) {
-        if rest.len() != size {
-            return refusal::BAD_SIZE;
-        }
-        return 0;
+    if rest.len() != size {
+        return refusal::BAD_SIZE;
     }
+    0
+}
+
+// Questions 4 to 6 where a block follows its count octet: it is exactly as many octets as the count says.
+fn block_refusal(size: usize, rest: &[u8]) -> u8
+    requires { ⌜ (1 ≤ size) × (size ≤ dataNumbers) ⌝ }
+    ensures { λ r. ⌜ r ≡ first ((4, leb size (length (now (rest .entry)))) ∷ (5, countOk (getD (now (rest .entry)) (size - 1) 0)) ∷ (6, eqb (length (now (rest .entry))) (size + getD (now (rest .entry)) (size - 1) 0)) ∷ []) ⌝ }
+{
     if rest.len() < size {
         return refusal::BAD_SIZE;
     }
@@ -110,6 +86,26 @@ fn size_refusal(kind: u8, rest: &[u8]) -> u8
         return refusal::BAD_BLOCK;
     }
     0
+}
+
+// Questions 4 to 6; 0 where all are answered yes.
+fn size_refusal(kind: u8, rest: &[u8]) -> u8
+    requires { ⌜ 1 ≤ kind ⌝ }
+    ensures { λ r. ⌜ r ≡ first (sizeQuestions kind (now (rest .entry))) ⌝ }
+{
+    if kind == DATA {
+        return block_refusal(DATA_NUMBERS, rest);
+    }
+    if kind == SEND {
+        return block_refusal(SEND_NUMBERS, rest);
+    }
+    if kind == ACK {
+        return plain_refusal(ACK_NUMBERS, rest);
+    }
+    if kind <= DRACK {
+        return plain_refusal(CONTROL_NUMBERS, rest);
+    }
+    plain_refusal(0, rest)
 }
 
 // Question 7.
@@ -145,7 +141,7 @@ fn frame_of(kind: u8, rest: &[u8]) -> FrameRead
     FrameRead::Frame(frame::header_of(kind, sender, quoted, number))
 }
 
-// A frame whose kind is known.
+// A frame whose kind is known. DATA comes most: where the kind is at hand, the tests of the others fall away.
 fn known_frame(kind: u8, rest: &[u8]) -> FrameRead
     requires { ⌜ isFrame kind ≡ true ⌝ }
     ensures { λ r. ⌜ frameTold r (drop dataNumbers (now (rest .entry))) ≡ readFrameAs kind (now (rest .entry)) ⌝ }
@@ -153,6 +149,9 @@ fn known_frame(kind: u8, rest: &[u8]) -> FrameRead
     let refusal = size_refusal(kind, rest);
     if refusal != 0 {
         return FrameRead::Refused(refusal);
+    }
+    if kind == DATA {
+        return frame_of(DATA, rest);
     }
     frame_of(kind, rest)
 }
