@@ -1,5 +1,6 @@
 use Prim.Native.Nat.{_-_, _≤_}
 use mathlib.Core.Path.{_≡_, refl, sym, ap₂, _∙_}
+use mathlib.Core.Bool.{_&&_}
 use lib.ListN.{length, take}
 use lib.Seq.{take-length}
 use denote.Ref.{now}
