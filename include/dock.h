@@ -7,9 +7,9 @@
  * not overlap.
  *
  * Link with the static library that has the call (built by `rt staticlib NAME`):
- *   link       dock_fresh, dock_request, dock_receive
- *   testbench  dock_bench
- *   question   dock_some_frame
+ *   link         dock_fresh, dock_request, dock_receive
+ *   bench_line   dock_bench
+ *   bench_query  dock_some_frame
  */
 #ifndef DOCK_H
 #define DOCK_H

@@ -7,17 +7,17 @@ use lib.Dec.{leb}
 use lib.ListN.{length}
 use Rattle.octets.specs.Test.{when, first, Outcome, ok, outcome}
 use Rattle.octets.specs.Sizes.{longestFrame}
-use Rattle.hexline.specs.Line.{unhex}
+use Rattle.hex.specs.Line.{unhex}
 use Rattle.link.specs.Lent.{freshRecord}
-use Rattle.rig.specs.Bench.{Bench, benchOf, sizeQuestions, soundQuestions, At, octetsAsk, lineAsks, comes, endOf, benchAfter}
-use Rattle.desk.specs.Text.{answerRoom, benchText, askedWith}
-use Rattle.lines.specs.Split.{cut}
-use Rattle.lines.proofs.Long.{asks-cut}
-use Rattle.stream.specs.declared.Place.{Place}
-use Rattle.stream.specs.Answering.{Cuts, textOf}
-use Rattle.stream.specs.Program.{Ran, Over, joined}
-use Rattle.stream.proofs.Steps.{free, free-room}
-use Rattle.stream.proofs.Program.{program-run}
+use Rattle.bench_spec.specs.Bench.{Bench, benchOf, sizeQuestions, soundQuestions, At, octetsAsk, lineAsks, comes, endOf, benchAfter}
+use Rattle.bench_answer.specs.Text.{answerRoom, benchText, askedWith}
+use Rattle.line_split.specs.Split.{cut}
+use Rattle.line_split.proofs.Long.{asks-cut}
+use Rattle.line_io.specs.declared.Place.{Place}
+use Rattle.line_io.specs.Answering.{Cuts, textOf}
+use Rattle.line_io.specs.Program.{Ran, Over, joined}
+use Rattle.line_io.proofs.Steps.{free, free-room}
+use Rattle.line_io.proofs.Program.{program-run}
 use Rattle.bench.specs.Ends.{bothEnds, freshBench}
 
 same : (w : Bench) (l : List ℕ) → lineAsks w (cut l) longestFrame ≡ lineAsks w l longestFrame

@@ -2,10 +2,10 @@
 use lib.ListN.{replicate}
 use Rattle.octets.specs.Sizes.{longestFrame}
 use Rattle.link.specs.Lent.{freshRecord}
-use Rattle.logbook.specs.Log.{logSize}
-use Rattle.rig.specs.Bench.{Bench, benchOf, lineAsks, comes, endOf, benchAfter}
-use Rattle.desk.specs.Text.{benchText}
-use Rattle.stream.specs.Answering.{Answering}
+use Rattle.bench_log.specs.Log.{logSize}
+use Rattle.bench_spec.specs.Bench.{Bench, benchOf, lineAsks, comes, endOf, benchAfter}
+use Rattle.bench_answer.specs.Text.{benchText}
+use Rattle.line_io.specs.Answering.{Answering}
 
 -- Its state is the bench. A line's text is that of what it asks.
 abbrev pub bothEnds : Answering

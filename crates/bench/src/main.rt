@@ -1,15 +1,15 @@
 // The bench program: two ends and every frame ever sent, asked by lines of standard input, answered on standard output.
-use stream::Place;
-use text::Output;
+use answer_text::Output;
+use line_io::Place;
 ghost use mathlib.Core.Path.{_≡_};
 ghost use Prim.Native.Nat.{_+_, _≤_, _<_};
 ghost use lib.ListN.{length};
 ghost use Rattle.link.specs.Lent.{freshRecord};
-ghost use Rattle.rig.specs.Bench.{benchOf};
-ghost use Rattle.desk.specs.Text.{answerRoom};
-ghost use Rattle.stream.specs.Place.{Fits};
-ghost use Rattle.stream.specs.Step.{Replied, Stepped};
-ghost use Rattle.stream.specs.Program.{Ran};
+ghost use Rattle.bench_spec.specs.Bench.{benchOf};
+ghost use Rattle.bench_answer.specs.Text.{answerRoom};
+ghost use Rattle.line_io.specs.Place.{Fits};
+ghost use Rattle.line_io.specs.Step.{Replied, Stepped};
+ghost use Rattle.line_io.specs.Program.{Ran};
 ghost use Rattle.bench.specs.Ends.{bothEnds};
 
 // Answers a line into the free part of out; how many characters the answer has.
@@ -25,7 +25,7 @@ fn answer(
     requires { ⌜ filled + answerRoom ≤ length (now out) ⌝ }
     ensures { λ r. ⌜ Replied bothEnds (benchOf (now (a .entry)) (now (b .entry)) (now (log .entry)) (now (count .entry))) (now (line .entry)) (now (out .entry)) filled (benchOf (now (a .exit)) (now (b .exit)) (now (log .exit)) (now (count .exit))) (now (out .exit)) r ⌝ }
 {
-    let reply = desk::answer(a, b, log, count, line, &mut out[filled..]);
+    let reply = bench_answer::answer(a, b, log, count, line, &mut out[filled..]);
     match reply {
         Output::Written(n) => n,
         Output::Refused(_) => 0,
@@ -36,39 +36,47 @@ fn answer(
 fn step(
     a: &mut [u8; link::RECORD_SIZE],
     b: &mut [u8; link::RECORD_SIZE],
-    log: &mut [u8; logbook::LOG_SIZE],
+    log: &mut [u8; bench_log::LOG_SIZE],
     count: &mut usize,
-    buf: &mut [u8; stream::BUFFER_SIZE],
-    line: &mut [u8; stream::LONGEST_KEPT],
-    out: &mut [u8; stream::BUFFER_SIZE],
+    buf: &mut [u8; line_io::BUFFER_SIZE],
+    line: &mut [u8; line_io::LONGEST_KEPT],
+    out: &mut [u8; line_io::BUFFER_SIZE],
     p: Place,
 ) -> Place
     requires { ⌜ (Fits p) × (0 < p .steps) ⌝ }
     ensures { λ r. ⌜ Stepped bothEnds answerRoom (benchOf (now (a .entry)) (now (b .entry)) (now (log .entry)) (now (count .entry))) (now (buf .entry)) (now (line .entry)) (now (out .entry)) p (benchOf (now (a .exit)) (now (b .exit)) (now (log .exit)) (now (count .exit))) (now (buf .exit)) (now (line .exit)) (now (out .exit)) r ⌝ }
 {
-    let q = stream::next(buf, line, out, desk::ANSWER_ROOM, p);
+    let q = line_io::next(buf, line, out, bench_answer::ANSWER_ROOM, p);
     if q.lines == 0 {
         return q;
     }
-    let n = answer(a, b, log, count, stream::ready(buf, line, q), out, q.filled);
-    stream::answered(q, n)
+    let n = answer(
+        a,
+        b,
+        log,
+        count,
+        line_io::ready(buf, line, q),
+        out,
+        q.filled,
+    );
+    line_io::answered(q, n)
 }
 
 // Two fresh ends, and steps while some are left.
 fn run(
     a: &mut [u8; link::RECORD_SIZE],
     b: &mut [u8; link::RECORD_SIZE],
-    log: &mut [u8; logbook::LOG_SIZE],
+    log: &mut [u8; bench_log::LOG_SIZE],
     count: &mut usize,
-    buf: &mut [u8; stream::BUFFER_SIZE],
-    line: &mut [u8; stream::LONGEST_KEPT],
-    out: &mut [u8; stream::BUFFER_SIZE],
+    buf: &mut [u8; line_io::BUFFER_SIZE],
+    line: &mut [u8; line_io::LONGEST_KEPT],
+    out: &mut [u8; line_io::BUFFER_SIZE],
 ) -> Place
     ensures { λ r. ⌜ (Ran bothEnds answerRoom (benchOf freshRecord freshRecord (now (log .entry)) (now (count .entry))) (benchOf (now (a .exit)) (now (b .exit)) (now (log .exit)) (now (count .exit))) (now (buf .exit)) (now (line .exit)) (now (out .exit)) r) × (r .steps ≡ 0) ⌝ }
 {
     link::dock_fresh(a);
     link::dock_fresh(b);
-    let mut p = stream::start();
+    let mut p = line_io::start();
     while p.steps > 0 {
         p = step(a, b, log, count, buf, line, out, p);
     }
@@ -78,11 +86,11 @@ fn run(
 fn main() {
     let mut a = [0u8; link::RECORD_SIZE];
     let mut b = [0u8; link::RECORD_SIZE];
-    let mut log = [0u8; logbook::LOG_SIZE];
+    let mut log = [0u8; bench_log::LOG_SIZE];
     let mut count = 0;
-    let mut buf = [0u8; stream::BUFFER_SIZE];
-    let mut line = [0u8; stream::LONGEST_KEPT];
-    let mut out = [0u8; stream::BUFFER_SIZE];
+    let mut buf = [0u8; line_io::BUFFER_SIZE];
+    let mut line = [0u8; line_io::LONGEST_KEPT];
+    let mut out = [0u8; line_io::BUFFER_SIZE];
     run(
         &mut a,
         &mut b,

@@ -4,8 +4,8 @@ use mathlib.Core.Path.{_≡_, refl}
 use mathlib.Core.List.{List}
 use native.Mathlib.Omega.{arith}
 use Rattle.octets.specs.Test.{Outcome, refused, ok, numberOf}
-use Rattle.hexline.specs.Line.{lineOf}
-use Rattle.hexline.specs.declared.Line.the-variants.{Decoded, Refused}
+use Rattle.hex.specs.Line.{lineOf}
+use Rattle.hex.specs.declared.Line.the-variants.{Decoded, Refused}
 use Rattle.codec.specs.Calls.{counted}
 
 pub record Answered (o : Outcome (List ℕ)) (c n m : ℕ) : Type 0 where

@@ -8,7 +8,7 @@ use lib.Dec.{leb}
 use Rattle.octets.specs.Sizes.{longestFrame}
 use Rattle.octets.specs.Test.{ifEq, first, Outcome, refused, ok, outcome, mapped, numberOf}
 use Rattle.octets.specs.Octets.{left}
-use Rattle.hexline.specs.Line.{hex}
+use Rattle.hex.specs.Line.{hex}
 use Rattle.frame.specs.Frame.{Block, DATA, connect, listen, endListening, close, timer, send}
 use Rattle.frame.specs.Layout.{isFrame, encode}
 use Rattle.frame.specs.Read.{countOk, readFrame, readRequest, Input, frame, request, readInput}

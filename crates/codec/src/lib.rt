@@ -4,12 +4,12 @@ use frame::CRAO;
 use frame::DATA;
 use frame::InputRead;
 use frame::SEND;
-use hexline::Line;
+use hex::Line;
 use octets::refusal;
 ghost use mathlib.Core.Path.{_≡_};
 ghost use Rattle.octets.specs.Octets.{left};
 ghost use Rattle.octets.specs.Test.{numberOf};
-ghost use Rattle.hexline.specs.Line.{readInto};
+ghost use Rattle.hex.specs.Line.{readInto};
 ghost use Rattle.frame.specs.Layout.{isFrame};
 ghost use Rattle.frame.specs.Read.{countOk};
 ghost use Rattle.frame.specs.Answer.{inputRead};
@@ -22,7 +22,7 @@ ghost use Rattle.codec.specs.Internal.{blockAfter};
 pub extern "C" fn codec_read_line(line: &[u8], out: &mut [u8], length: &mut usize) -> u8
     ensures { λ r. ⌜ Filled (readInto (now (line .entry)) (now (out .entry))) (now (out .entry)) (now (out .exit)) (now (length .entry)) (now (length .exit)) r ⌝ }
 {
-    let read = hexline::read(line, out);
+    let read = hex::read(line, out);
     match read {
         Line::Decoded(n) => {
             *length = n;
@@ -42,7 +42,7 @@ pub extern "C" fn codec_write_line(s: &[u8], out: &mut [u8]) -> u8
     if out.len() / 2 < s.len() {
         return refusal::SHORT_BUFFER;
     }
-    hexline::write(s, out);
+    hex::write(s, out);
     0
 }
 
@@ -57,9 +57,9 @@ fn read_known(known: u8, s: &[u8]) -> InputRead
     ensures { λ r. ⌜ inputRead r (now (s .entry)) ≡ readKnown known (now (s .entry)) ⌝ }
 {
     match known {
-        FRAMES => reader::frame_input(reader::read_frame(s)),
-        REQUESTS => reader::request_input(reader::read_request(s)),
-        BOTH => reader::read_input(s),
+        FRAMES => frame_read::frame_input(frame_read::read_frame(s)),
+        REQUESTS => frame_read::request_input(frame_read::read_request(s)),
+        BOTH => frame_read::read_input(s),
         _ => InputRead::Refused(refusal::UNKNOWN_KIND),
     }
 }

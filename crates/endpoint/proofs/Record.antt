@@ -7,44 +7,44 @@ use lib.ListN.{length, take, drop, getD, length-append, length-drop, take-append
 use lib.Seq.{take-at, drop-at, take-add, drop-drop, length-take-le}
 use Rattle.octets.specs.Sizes.{queueSize}
 use Rattle.endpoint.specs.View.{placesSize}
-use Rattle.octets.specs.Octets.{put, bytes, number, field, lay, fields, size, Octets}
+use Rattle.octets.specs.Octets.{put, octetsOf, number, field, lay, fields, size, Octets}
 use Rattle.octets.proofs.Octets.{width, octets-take, octets-drop, then-put, Fit, none, one, fields-lay, lay-fields, length-lay}
 use Rattle.endpoint.specs.declared.Endpoint.{Endpoint}
-use Rattle.decide.specs.declared.Numbers.{Numbers}
+use Rattle.step_rules.specs.declared.Numbers.{Numbers}
 use Rattle.endpoint.specs.Record.{acceptedAt, blocksAt, deliveredAt, lengthsAt, localAt, recordSize, remoteAt, waitingAt, numbersLayout, encode, decode, Fits}
 use Rattle.endpoint.specs.Internal.{recordOf, numbersIn}
 
 -- a number written over itself
-pub put-same : (d : List ℕ) (at : ℕ) → Octets d → at + 4 ≤ length d → d ≡ put d at (bytes 4 (field 4 at d))
+pub put-same : (d : List ℕ) (at : ℕ) → Octets d → at + 4 ≤ length d → d ≡ put d at (octetsOf 4 (field 4 at d))
 unfolding put field
 put-same d at o h =
     let s : List ℕ = take 4 (drop at d) in
     let l : length s ≡ 4 = length-take-le 4 (drop at d) (rw length-drop (omega arith)) in
-    let w : bytes 4 (number s) ≡ s = width 4 .writes s l (octets-take 4 (drop at d) (octets-drop at d o)) in
+    let w : octetsOf 4 (number s) ≡ s = width 4 .writes s l (octets-take 4 (drop at d) (octets-drop at d o)) in
     rw (w, l, ← drop-drop 4 at d, take-append-drop 4 (drop at d)) (sym (take-append-drop at d))
 
 byte : (v : ℕ) → v < 256 → v % 256 ≡ v
 byte v h = omega arith
 
 pub numbers-put : (n : Numbers) (d : List ℕ) → n .state < 256 → n .waiting < 256 → recordSize ≤ length d
-    → {a b c f g h : List ℕ} → a ≡ put d 0 (n .state ∷ []) → b ≡ put a localAt (bytes 4 (n .local)) → c ≡ put b remoteAt (bytes 4 (n .remote))
-    → f ≡ put c acceptedAt (bytes 4 (n .accepted)) → g ≡ put f deliveredAt (bytes 4 (n .delivered)) → h ≡ put g waitingAt (n .waiting ∷ []) → h ≡ put d 0 (numbersIn n)
-unfolding numbersIn lay bytes
+    → {a b c f g h : List ℕ} → a ≡ put d 0 (n .state ∷ []) → b ≡ put a localAt (octetsOf 4 (n .local)) → c ≡ put b remoteAt (octetsOf 4 (n .remote))
+    → f ≡ put c acceptedAt (octetsOf 4 (n .accepted)) → g ≡ put f deliveredAt (octetsOf 4 (n .delivered)) → h ≡ put g waitingAt (n .waiting ∷ []) → h ≡ put d 0 (numbersIn n)
+unfolding numbersIn lay octetsOf
 numbers-put e d rs rw′ n {a} {b} {c} {f} {g} {h} ea eb ec ef eg eh =
     let p1 : List ℕ = e .state ∷ [] in
-    let p2 : List ℕ = p1 ++ bytes 4 (e .local) in
-    let p3 : List ℕ = p2 ++ bytes 4 (e .remote) in
-    let p4 : List ℕ = p3 ++ bytes 4 (e .accepted) in
-    let p5 : List ℕ = p4 ++ bytes 4 (e .delivered) in
-    let s2 : b ≡ put d 0 p2 = then-put d p1 (bytes 4 (e .local)) localAt refl (omega arith) ea eb in
-    let s3 : c ≡ put d 0 p3 = then-put d p2 (bytes 4 (e .remote)) remoteAt refl (omega arith) s2 ec in
-    let s4 : f ≡ put d 0 p4 = then-put d p3 (bytes 4 (e .accepted)) acceptedAt refl (omega arith) s3 ef in
-    let s5 : g ≡ put d 0 p5 = then-put d p4 (bytes 4 (e .delivered)) deliveredAt refl (omega arith) s4 eg in
+    let p2 : List ℕ = p1 ++ octetsOf 4 (e .local) in
+    let p3 : List ℕ = p2 ++ octetsOf 4 (e .remote) in
+    let p4 : List ℕ = p3 ++ octetsOf 4 (e .accepted) in
+    let p5 : List ℕ = p4 ++ octetsOf 4 (e .delivered) in
+    let s2 : b ≡ put d 0 p2 = then-put d p1 (octetsOf 4 (e .local)) localAt refl (omega arith) ea eb in
+    let s3 : c ≡ put d 0 p3 = then-put d p2 (octetsOf 4 (e .remote)) remoteAt refl (omega arith) s2 ec in
+    let s4 : f ≡ put d 0 p4 = then-put d p3 (octetsOf 4 (e .accepted)) acceptedAt refl (omega arith) s3 ef in
+    let s5 : g ≡ put d 0 p5 = then-put d p4 (octetsOf 4 (e .delivered)) deliveredAt refl (omega arith) s4 eg in
     let s6 : h ≡ put d 0 (p5 ++ (e .waiting ∷ [])) = then-put d p5 (e .waiting ∷ []) waitingAt refl (omega arith) s5 eh in
     rw (byte (e .state) rs, byte (e .waiting) rw′) s6
 
 pub numbers-18 : (n : Numbers) → length (numbersIn n) ≡ lengthsAt
-unfolding numbersIn lay bytes
+unfolding numbersIn lay octetsOf
 numbers-18 n = refl
 
 -- the numbers, then the arrays, each at its place

@@ -6,7 +6,7 @@ use lib.ListN.{getD}
 use Rattle.octets.specs.Sizes.{longestBlock}
 use Rattle.octets.specs.Test.{inRange}
 use Rattle.octets.specs.Octets.{lay}
-use Rattle.decide.specs.declared.Numbers.{Numbers}
+use Rattle.step_rules.specs.declared.Numbers.{Numbers}
 use Rattle.endpoint.specs.declared.Endpoint.{Endpoint}
 use Rattle.endpoint.specs.Sound.{zeros, unusedAt}
 use Rattle.endpoint.specs.Record.{numbersLayout}

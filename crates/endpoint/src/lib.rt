@@ -1,17 +1,17 @@
 // The record of one end of a connection: a struct, question 12, and its octets.
-use decide::CLOSED;
-use decide::CLOSING;
-use decide::ESTABLISHED;
-use decide::LISTENING;
-use decide::Numbers;
-use decide::PASSIVE_OPENING;
+use step_rules::CLOSED;
+use step_rules::CLOSING;
+use step_rules::ESTABLISHED;
+use step_rules::LISTENING;
+use step_rules::Numbers;
+use step_rules::PASSIVE_OPENING;
 ghost use mathlib.Core.Path.{_≡_};
 ghost use mathlib.Core.Bool.{_&&_};
 ghost use Prim.Native.Nat.{_+_, _≤_, _<_};
 ghost use lib.ListN.{length};
 ghost use Rattle.octets.specs.Sizes.{queueSize};
 ghost use Rattle.octets.specs.Test.{when};
-ghost use Rattle.octets.specs.Octets.{put, bytes};
+ghost use Rattle.octets.specs.Octets.{put, octetsOf};
 ghost use Rattle.protocol.specs.Endpoint as abstract;
 ghost use Rattle.protocol.specs.Endpoint.{allOf, numbersSound};
 ghost use Rattle.endpoint.specs.View.{placesSize, pack};
@@ -205,7 +205,7 @@ pub fn load_numbers(s: &[u8]) -> Numbers
 // Writes x into the four octets of d from at, where they do not hold it yet.
 fn change32(d: &mut [u8], at: usize, x: u32)
     requires { ⌜ at + 4 ≤ length (now d) ⌝ }
-    ensures { λ _. ⌜ now (d .exit) ≡ put (now (d .entry)) at (bytes 4 x) ⌝ }
+    ensures { λ _. ⌜ now (d .exit) ≡ put (now (d .entry)) at (octetsOf 4 x) ⌝ }
 {
     if octets::load32(d, at) == x {
         return;

@@ -14,15 +14,15 @@ use Rattle.protocol.specs.Claim.{NoEndAlone}
 use Rattle.protocol.specs.Limits.{Bounded, Sized}
 use Rattle.protocol.proofs.World.{Simulates, no-end-alone}
 use Rattle.protocol.proofs.Theorem.{Roomy, roomy, limited}
-use Rattle.calls.specs.Calls.{Arguments, ownQuestions, does, asked, performed}
-use Rattle.calls.proofs.Lift.{fair}
+use Rattle.call_spec.specs.Calls.{Arguments, ownQuestions, does, asked, performed}
+use Rattle.call_spec.proofs.Lift.{fair}
 use Rattle.endpoint.specs.declared.Endpoint.{Endpoint}
 use Rattle.endpoint.specs.View.{pack}
 use Rattle.endpoint.specs.Sound.{sound}
 use Rattle.endpoint.specs.Record.{recordSize, encode}
 use Rattle.endpoint.proofs.Held.{held, pack-sound}
-use Rattle.machine.specs.declared.StepAnswer.{StepAnswer}
-use Rattle.machine.specs.Calls.{outcomeOf, stepAnswerOf, Advances}
+use Rattle.endpoint_step.specs.declared.StepAnswer.{StepAnswer}
+use Rattle.endpoint_step.specs.Calls.{outcomeOf, stepAnswerOf, Advances}
 use Rattle.link.specs.Record.{format}
 use Rattle.link.proofs.Demand.{lawful}
 use Rattle.host.specs.Hosts.{ends}

@@ -4,15 +4,15 @@ use mir.Val.{Val}
 use denote.Laws.{Is}
 use denote.Enum.Laws as EL
 use denote.Struct.Laws as LL
-use Rattle.calls.specs.declared.Call.{Call}
-use Rattle.calls.proofs.Call as K
-use Rattle.calls.proofs.Call.Laws as K′
+use Rattle.call_spec.specs.declared.Call.{Call}
+use Rattle.call_spec.proofs.Call as K
+use Rattle.call_spec.proofs.Call.Laws as K′
 use Rattle.endpoint.specs.declared.Endpoint.{Endpoint}
 use Rattle.endpoint.proofs.Endpoint as T
 use Rattle.endpoint.proofs.Endpoint.Laws as T′
-use Rattle.machine.specs.declared.StepAnswer.{StepAnswer}
-use Rattle.machine.proofs.StepAnswer as D
-use Rattle.machine.proofs.StepAnswer.Laws as D′
+use Rattle.endpoint_step.specs.declared.StepAnswer.{StepAnswer}
+use Rattle.endpoint_step.proofs.StepAnswer as D
+use Rattle.endpoint_step.proofs.StepAnswer.Laws as D′
 
 abbrev pub of-call : Call → Val
 of-call c = EL.val K.the-type K′.the-laws c

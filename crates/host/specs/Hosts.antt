@@ -2,11 +2,11 @@
 use mathlib.Core.Path.{_≡_}
 use Rattle.protocol.specs.Endpoint.{fresh}
 use Rattle.protocol.specs.World.{Ends}
-use Rattle.calls.specs.Calls.{Arguments, said}
-use Rattle.calls.specs.Claim.{Due}
+use Rattle.call_spec.specs.Calls.{Arguments, said}
+use Rattle.call_spec.specs.Claim.{Due}
 use Rattle.endpoint.specs.declared.Endpoint.{Endpoint}
 use Rattle.endpoint.specs.View.{pack}
-use Rattle.machine.specs.Calls.{outcomeOf, stepAnswerOf}
+use Rattle.endpoint_step.specs.Calls.{outcomeOf, stepAnswerOf}
 
 abbrev pub ends : Ends
 ends =

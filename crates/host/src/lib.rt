@@ -1,17 +1,17 @@
 // A host's own record, lent to one thin call that updates it.
-use calls::Call;
+use call_spec::Call;
 use endpoint::Endpoint;
-use machine::StepAnswer;
+use endpoint_step::StepAnswer;
 ghost use mathlib.Core.Path.{_≡_};
 ghost use lib.ListN.{length};
-ghost use Rattle.calls.specs.Calls.{given};
-ghost use Rattle.machine.specs.Calls.{outcomeOf, Advances};
+ghost use Rattle.call_spec.specs.Calls.{given};
+ghost use Rattle.endpoint_step.specs.Calls.{outcomeOf, Advances};
 
 // The step by value on a record that is lent. A refusal's answer has the record as it was.
 pub fn advance(call: Call, e: &mut Endpoint, s: &[u8], out: &mut [u8]) -> StepAnswer
     ensures { λ r. ⌜ Advances (now (e .entry)) (outcomeOf (now (e .entry)) (given call (now (s .entry)) (length (now (out .entry))))) (now (s .entry)) (now (out .entry)) (now (out .exit)) r × (now (e .exit) ≡ r .endpoint) ⌝ }
 {
-    let r = machine::step(call, *e, s, out);
+    let r = endpoint_step::step(call, *e, s, out);
     *e = r.endpoint;
     r
 }

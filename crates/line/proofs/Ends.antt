@@ -6,20 +6,20 @@ use borrow.Author.Tests.{le-leb}
 use lib.Dec.{leb}
 use lib.ListN.{length}
 use Rattle.octets.specs.Test.{when, first, ok, outcome}
-use Rattle.hexline.specs.Line.{unhex}
-use Rattle.calls.specs.Calls.{performed, recordAfter}
+use Rattle.hex.specs.Line.{unhex}
+use Rattle.call_spec.specs.Calls.{performed, recordAfter}
 use Rattle.link.specs.Record.{format}
 use Rattle.link.specs.Lent.{freshRecord}
-use Rattle.text.specs.Text.{answerRoom}
-use Rattle.console.specs.Line.{lineCall, lineOutcome}
-use Rattle.console.specs.Text.{text, answered}
-use Rattle.lines.specs.Split.{cut}
-use Rattle.lines.proofs.Long.{asks-cut}
-use Rattle.stream.specs.declared.Place.{Place}
-use Rattle.stream.specs.Answering.{Cuts, textOf}
-use Rattle.stream.specs.Program.{Ran, Over, joined}
-use Rattle.stream.proofs.Steps.{free, free-room}
-use Rattle.stream.proofs.Program.{program-run}
+use Rattle.answer_text.specs.Text.{answerRoom}
+use Rattle.line_answer.specs.Line.{lineCall, lineOutcome}
+use Rattle.line_answer.specs.Text.{text, answered}
+use Rattle.line_split.specs.Split.{cut}
+use Rattle.line_split.proofs.Long.{asks-cut}
+use Rattle.line_io.specs.declared.Place.{Place}
+use Rattle.line_io.specs.Answering.{Cuts, textOf}
+use Rattle.line_io.specs.Program.{Ran, Over, joined}
+use Rattle.line_io.proofs.Steps.{free, free-room}
+use Rattle.line_io.proofs.Program.{program-run}
 use Rattle.line.specs.Ends.{oneEnd}
 
 same : (rec l : List ℕ) → lineOutcome rec (cut l) ≡ lineOutcome rec l

@@ -1,11 +1,11 @@
 -- What answers the lines of the line program: one end.
 use Prim.Native.Nat.{ℕ}
 use mathlib.Core.List.{List}
-use Rattle.calls.specs.Calls.{recordAfter}
+use Rattle.call_spec.specs.Calls.{recordAfter}
 use Rattle.link.specs.Record.{format}
-use Rattle.console.specs.Line.{lineOutcome}
-use Rattle.console.specs.Text.{text}
-use Rattle.stream.specs.Answering.{Answering}
+use Rattle.line_answer.specs.Line.{lineOutcome}
+use Rattle.line_answer.specs.Text.{text}
+use Rattle.line_io.specs.Answering.{Answering}
 
 -- Its state is the record. A line's text is that of its outcome.
 abbrev pub oneEnd : Answering

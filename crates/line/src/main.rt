@@ -1,14 +1,14 @@
 // The line program: one end, asked by lines of standard input, answered on standard output.
-use stream::Place;
-use text::Output;
+use answer_text::Output;
+use line_io::Place;
 ghost use mathlib.Core.Path.{_≡_};
 ghost use Prim.Native.Nat.{_+_, _≤_, _<_};
 ghost use lib.ListN.{length};
 ghost use Rattle.link.specs.Lent.{freshRecord};
-ghost use Rattle.text.specs.Text.{answerRoom};
-ghost use Rattle.stream.specs.Place.{Fits};
-ghost use Rattle.stream.specs.Step.{Replied, Stepped};
-ghost use Rattle.stream.specs.Program.{Ran};
+ghost use Rattle.answer_text.specs.Text.{answerRoom};
+ghost use Rattle.line_io.specs.Place.{Fits};
+ghost use Rattle.line_io.specs.Step.{Replied, Stepped};
+ghost use Rattle.line_io.specs.Program.{Ran};
 ghost use Rattle.line.specs.Ends.{oneEnd};
 
 // Answers a line into the free part of out; how many characters the answer has.
@@ -16,7 +16,7 @@ fn answer(rec: &mut [u8], line: &[u8], out: &mut [u8], filled: usize) -> usize
     requires { ⌜ filled + answerRoom ≤ length (now out) ⌝ }
     ensures { λ r. ⌜ Replied oneEnd (now (rec .entry)) (now (line .entry)) (now (out .entry)) filled (now (rec .exit)) (now (out .exit)) r ⌝ }
 {
-    let reply = console::answer(rec, line, &mut out[filled..]);
+    let reply = line_answer::answer(rec, line, &mut out[filled..]);
     match reply {
         Output::Written(n) => n,
         Output::Refused(_) => 0,
@@ -26,33 +26,33 @@ fn answer(rec: &mut [u8], line: &[u8], out: &mut [u8], filled: usize) -> usize
 // One step of the stream, with the answer where a line is ready.
 fn step(
     rec: &mut [u8; link::RECORD_SIZE],
-    buf: &mut [u8; stream::BUFFER_SIZE],
-    line: &mut [u8; stream::LONGEST_KEPT],
-    out: &mut [u8; stream::BUFFER_SIZE],
+    buf: &mut [u8; line_io::BUFFER_SIZE],
+    line: &mut [u8; line_io::LONGEST_KEPT],
+    out: &mut [u8; line_io::BUFFER_SIZE],
     p: Place,
 ) -> Place
     requires { ⌜ (Fits p) × (0 < p .steps) ⌝ }
     ensures { λ r. ⌜ Stepped oneEnd answerRoom (now (rec .entry)) (now (buf .entry)) (now (line .entry)) (now (out .entry)) p (now (rec .exit)) (now (buf .exit)) (now (line .exit)) (now (out .exit)) r ⌝ }
 {
-    let q = stream::next(buf, line, out, text::ANSWER_ROOM, p);
+    let q = line_io::next(buf, line, out, answer_text::ANSWER_ROOM, p);
     if q.lines == 0 {
         return q;
     }
-    let n = answer(rec, stream::ready(buf, line, q), out, q.filled);
-    stream::answered(q, n)
+    let n = answer(rec, line_io::ready(buf, line, q), out, q.filled);
+    line_io::answered(q, n)
 }
 
 // A fresh end, and steps while some are left.
 fn run(
     rec: &mut [u8; link::RECORD_SIZE],
-    buf: &mut [u8; stream::BUFFER_SIZE],
-    line: &mut [u8; stream::LONGEST_KEPT],
-    out: &mut [u8; stream::BUFFER_SIZE],
+    buf: &mut [u8; line_io::BUFFER_SIZE],
+    line: &mut [u8; line_io::LONGEST_KEPT],
+    out: &mut [u8; line_io::BUFFER_SIZE],
 ) -> Place
     ensures { λ r. ⌜ (Ran oneEnd answerRoom freshRecord (now (rec .exit)) (now (buf .exit)) (now (line .exit)) (now (out .exit)) r) × (r .steps ≡ 0) ⌝ }
 {
     link::dock_fresh(rec);
-    let mut p = stream::start();
+    let mut p = line_io::start();
     while p.steps > 0 {
         p = step(rec, buf, line, out, p);
     }
@@ -61,8 +61,8 @@ fn run(
 
 fn main() {
     let mut rec = [0u8; link::RECORD_SIZE];
-    let mut buf = [0u8; stream::BUFFER_SIZE];
-    let mut line = [0u8; stream::LONGEST_KEPT];
-    let mut out = [0u8; stream::BUFFER_SIZE];
+    let mut buf = [0u8; line_io::BUFFER_SIZE];
+    let mut line = [0u8; line_io::LONGEST_KEPT];
+    let mut out = [0u8; line_io::BUFFER_SIZE];
     run(&mut rec, &mut buf, &mut line, &mut out);
 }

@@ -17,20 +17,20 @@ use Rattle.octets.proofs.Outcomes.{after-question, is-refused}
 use Rattle.frame.specs.Frame.{Block}
 use Rattle.protocol.specs.Endpoint as abstract
 use Rattle.protocol.specs.Table.{Step}
-use Rattle.calls.specs.declared.Call.the-variants.{Request}
-use Rattle.calls.specs.Calls.{Arguments, given, wire, asked, performed, recordAfter, bufferAfter}
-use Rattle.plan.specs.declared.Plan.{Plan}
-use Rattle.calls.specs.Answers.{noticeOf, sentIn, blockOf, blockPart, endpointAfter}
-use Rattle.plan.specs.Internal.{blockBy, joinedBy, blockOut, sentBy, Sends}
-use Rattle.plan.proofs.Up.{Right, right, refusing-silent, request-silent}
-use Rattle.plan.proofs.Up as up
+use Rattle.call_spec.specs.declared.Call.the-variants.{Request}
+use Rattle.call_spec.specs.Calls.{Arguments, given, wire, asked, performed, recordAfter, bufferAfter}
+use Rattle.step_plan.specs.declared.Plan.{Plan}
+use Rattle.call_spec.specs.Answers.{noticeOf, sentIn, blockOf, blockPart, endpointAfter}
+use Rattle.step_plan.specs.Internal.{blockBy, joinedBy, blockOut, sentBy, Sends}
+use Rattle.step_plan.proofs.Up.{Right, right, refusing-silent, request-silent}
+use Rattle.step_plan.proofs.Up as up
 use Rattle.endpoint.specs.declared.Endpoint.{Endpoint}
 use Rattle.endpoint.specs.View.{placesSize, placeBlock, pack, view}
 use Rattle.endpoint.specs.Record.{recordSize, encode, decode, lengthsAt, blocksAt}
 use Rattle.endpoint.proofs.Record.{encode-decode}
-use Rattle.machine.specs.Calls.{outcomeOf, stepAnswerOf}
-use Rattle.machine.specs.Internal.{Plans, carried}
-use Rattle.machine.proofs.Carries.{leaves, hands-up, sends, sends-is}
+use Rattle.endpoint_step.specs.Calls.{outcomeOf, stepAnswerOf}
+use Rattle.endpoint_step.specs.Internal.{Plans, carried}
+use Rattle.endpoint_step.proofs.Carries.{leaves, hands-up, sends, sends-is}
 use Rattle.link.specs.declared.Answer.{Answer}
 use Rattle.link.specs.Record.{format}
 use Rattle.link.specs.Lent.{toldOf, statusOf, sentOf, answerOf, Called}

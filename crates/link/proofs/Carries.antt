@@ -10,12 +10,12 @@ use Rattle.endpoint.specs.View.{placesSize}
 use Rattle.octets.specs.Octets.{put}
 use Rattle.octets.proofs.Octets.{length-put}
 use Rattle.frame.specs.Frame.{Block}
-use Rattle.plan.specs.declared.Plan.{Plan}
+use Rattle.step_plan.specs.declared.Plan.{Plan}
 use Rattle.endpoint.specs.declared.Endpoint.{Endpoint}
 use Rattle.endpoint.specs.Record.{encode, decode, lengthsAt, blocksAt, recordSize}
 use Rattle.endpoint.specs.Internal.{recordOf, numbersIn}
 use Rattle.endpoint.proofs.Record.{numbers-18, encode-puts}
-use Rattle.machine.specs.Internal.{lengthsAfter, blocksAfter, carried}
+use Rattle.endpoint_step.specs.Internal.{lengthsAfter, blocksAfter, carried}
 
 -- a part that is lent and comes back is a write
 lent : (x s : List ℕ) (at n : ℕ) → length s ≡ n → take at x ++ (s ++ drop n (drop at x)) ≡ put x at s

@@ -9,7 +9,7 @@ use lib.ListN.{length, length-append}
 use Rattle.octets.proofs.Buffers.{length-padded}
 use Rattle.octets.specs.Sizes.{longestFrame, queueSize}
 use Rattle.octets.specs.Test.{when, first, ok, refusing, andThen}
-use Rattle.octets.specs.Octets.{bytes, lay}
+use Rattle.octets.specs.Octets.{octetsOf, lay}
 use Rattle.protocol.specs.Endpoint as abstract
 use Rattle.protocol.specs.Network as protocol
 use Rattle.protocol.specs.Claim.{NoEndAlone}
@@ -21,9 +21,9 @@ use Rattle.endpoint.specs.Record.{recordSize, encode, Fits}
 use Rattle.endpoint.proofs.Packs.{length-lengths, length-places}
 use Rattle.endpoint.proofs.Held.{small-of, held, pack-sound}
 use Rattle.endpoint.proofs.Record.{decode-encode}
-use Rattle.calls.specs.Calls.{Arguments, said, does, asked, performed}
-use Rattle.calls.specs.Claim.{Lawful}
-use Rattle.calls.proofs.Lift.{demand-3}
+use Rattle.call_spec.specs.Calls.{Arguments, said, does, asked, performed}
+use Rattle.call_spec.specs.Claim.{Lawful}
+use Rattle.call_spec.proofs.Lift.{demand-3}
 use Rattle.link.specs.Record.{format, ends}
 
 -- the struct that holds an endpoint whose numbers have 32 bits
@@ -44,7 +44,7 @@ packed-fits e s b =
     }
 
 length-encode : (e : abstract.Endpoint) → Fits (pack e) → length (encode (pack e)) ≡ recordSize
-unfolding encode lay bytes
+unfolding encode lay octetsOf
 length-encode e f = let l = length-append (pack e .lengths) (pack e .blocks) in omega (arith, l, f .lengths, f .blocks)
 
 pub lawful : Lawful format

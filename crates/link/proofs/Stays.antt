@@ -13,9 +13,9 @@ use Rattle.protocol.specs.Table.{Step}
 use Rattle.protocol.specs.Limits.{Bounded}
 use Rattle.endpoint.specs.View.{view}
 use Rattle.endpoint.specs.Record.{recordSize, decode}
-use Rattle.machine.specs.Calls.{outcomeOf}
-use Rattle.machine.proofs.Laws.{field-32, InOctets, leaves}
-use Rattle.calls.specs.Calls.{Arguments, performed, recordAfter}
+use Rattle.endpoint_step.specs.Calls.{outcomeOf}
+use Rattle.endpoint_step.proofs.Laws.{field-32, InOctets, leaves}
+use Rattle.call_spec.specs.Calls.{Arguments, performed, recordAfter}
 use Rattle.link.specs.Record.{format}
 use Rattle.link.proofs.Demand.{lawful}
 use Rattle.link.proofs.Answers.{lengths-long, blocks-long}

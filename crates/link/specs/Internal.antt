@@ -2,11 +2,11 @@
 use Prim.Native.Nat.{ℕ}
 use mathlib.Core.List.{List}
 use lib.ListN.{length}
-use Rattle.calls.specs.declared.Call.{Call}
-use Rattle.calls.specs.Calls.{given, performed}
-use Rattle.plan.specs.declared.Plan.{Plan}
+use Rattle.call_spec.specs.declared.Call.{Call}
+use Rattle.call_spec.specs.Calls.{given, performed}
+use Rattle.step_plan.specs.declared.Plan.{Plan}
 use Rattle.endpoint.specs.Record.{decode}
-use Rattle.machine.specs.Internal.{Plans}
+use Rattle.endpoint_step.specs.Internal.{Plans}
 use Rattle.link.specs.declared.Answer.{Answer}
 use Rattle.link.specs.Record.{format}
 use Rattle.link.specs.Lent.{Called}

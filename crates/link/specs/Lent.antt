@@ -7,12 +7,12 @@ use lib.ListN.{length}
 use Rattle.octets.specs.Test.{when, first, Outcome, refused, ok, outcome, numberOf}
 use Rattle.protocol.specs.Endpoint.{fresh}
 use Rattle.protocol.specs.Table.{Step}
-use Rattle.calls.specs.Answers.{noticeOf, blockOf, blockPart}
+use Rattle.call_spec.specs.Answers.{noticeOf, blockOf, blockPart}
 use Rattle.endpoint.specs.declared.Endpoint.{Endpoint}
 use Rattle.endpoint.specs.View.{pack}
 use Rattle.endpoint.specs.Record.{recordSize, decode}
-use Rattle.calls.specs.declared.Status.{Status}
-use Rattle.calls.specs.Calls.{wire, recordAfter, bufferAfter}
+use Rattle.call_spec.specs.declared.Status.{Status}
+use Rattle.call_spec.specs.Calls.{wire, recordAfter, bufferAfter}
 use Rattle.link.specs.declared.Answer.{Answer}
 use Rattle.link.specs.Record.{format}
 

@@ -8,8 +8,8 @@ use Rattle.protocol.specs.World.{Ends}
 use Rattle.endpoint.specs.View.{pack, view}
 use Rattle.endpoint.specs.Sound.{sound}
 use Rattle.endpoint.specs.Record.{recordSize, encode, decode}
-use Rattle.calls.specs.Calls.{Format}
-use Rattle.calls.specs.Claim as calls
+use Rattle.call_spec.specs.Calls.{Format}
+use Rattle.call_spec.specs.Claim as calls
 
 abbrev pub format : Format
 format = record { size = recordSize; sound = λ s. sound (decode s); holds = λ s. view (decode s); octets = λ e. encode (pack e) }

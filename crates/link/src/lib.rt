@@ -1,24 +1,24 @@
 // The calls of an end on lent buffers: its record of 538 octets, a request or a frame, and room for a frame out. A call is planned
 // first; then come its stores, in this order: the frame out, the record, the numbers told.
-use calls::Call;
-use calls::Status;
+use call_spec::Call;
+use call_spec::Status;
 use endpoint::BLOCKS_AT;
 use endpoint::Endpoint;
 use endpoint::LENGTHS_AT;
 use octets::refusal;
-use plan::Plan;
+use step_plan::Plan;
 ghost use mathlib.Core.Path.{_≡_};
 ghost use Prim.Native.Nat.{_≤_};
 ghost use lib.ListN.{length};
 ghost use Rattle.octets.specs.Sizes.{longestBlock, queueSize};
 ghost use Rattle.octets.specs.Test.{first, refused, numberOf};
 ghost use Rattle.octets.specs.Octets.{put, left};
-ghost use Rattle.calls.specs.declared.Call.the-variants.{Request, Receive};
-ghost use Rattle.calls.specs.Calls.{given, performed};
-ghost use Rattle.calls.specs.Answers.{blockOf};
-ghost use Rattle.plan.specs.Internal.{Room};
+ghost use Rattle.call_spec.specs.declared.Call.the-variants.{Request, Receive};
+ghost use Rattle.call_spec.specs.Calls.{given, performed};
+ghost use Rattle.call_spec.specs.Answers.{blockOf};
+ghost use Rattle.step_plan.specs.Internal.{Room};
 ghost use Rattle.endpoint.specs.Record.{recordSize, encode, decode};
-ghost use Rattle.machine.specs.Internal.{Plans, carried};
+ghost use Rattle.endpoint_step.specs.Internal.{Plans, carried};
 ghost use Rattle.link.specs.Record.{format, recordQuestions};
 ghost use Rattle.link.specs.Lent.{answerOf, Called, answerIn, freshIn};
 ghost use Rattle.link.specs.Internal.{PlannedCall, Finished};
@@ -42,7 +42,7 @@ pub extern "C" fn dock_fresh(rec: &mut [u8]) -> u8
         return refusal::SHORT_BUFFER;
     }
     endpoint::encode(Endpoint::fresh(), rec);
-    plan::ACCEPTED
+    step_plan::ACCEPTED
 }
 
 // Question 12 of a record.
@@ -64,7 +64,7 @@ pub fn ready(rec: &[u8]) -> u8
     if !is_sound(rec) {
         return refusal::UNSOUND;
     }
-    plan::ACCEPTED
+    step_plan::ACCEPTED
 }
 
 // A refusal tells how the record stands; all is 0 where the buffer is too short for one.
@@ -76,7 +76,7 @@ pub fn refuse(rec: &[u8], number: u8) -> Answer
             status: Status {
                 number,
                 state: 0,
-                notice: plan::NONE,
+                notice: step_plan::NONE,
                 local: 0,
                 remote: 0,
             },
@@ -89,7 +89,7 @@ pub fn refuse(rec: &[u8], number: u8) -> Answer
         status: Status {
             number,
             state: n.state,
-            notice: plan::NONE,
+            notice: step_plan::NONE,
             local: n.local,
             remote: n.remote,
         },
@@ -105,7 +105,7 @@ pub fn plan_call(call: Call, rec: &[u8], s: &[u8], room: usize) -> Plan
     ensures { λ r. ⌜ Plans (decode (now (rec .entry))) (given call (now (s .entry)) room) r ⌝ }
 {
     let n = endpoint::load_numbers(rec);
-    machine::plan_call(
+    endpoint_step::plan_call(
         call,
         n,
         &rec[LENGTHS_AT..BLOCKS_AT],
@@ -125,8 +125,8 @@ fn store(p: Plan, joined: &[u8], rec: &mut [u8])
     let n = p.numbers;
     endpoint::store_numbers(n, rec);
     let count = [joined.len() as u8];
-    machine::change_places(queue, 1, waiting, &count, &mut rec[LENGTHS_AT..BLOCKS_AT]);
-    machine::change_places(
+    endpoint_step::change_places(queue, 1, waiting, &count, &mut rec[LENGTHS_AT..BLOCKS_AT]);
+    endpoint_step::change_places(
         queue,
         Endpoint::LONGEST_BLOCK,
         waiting,
@@ -140,12 +140,12 @@ pub fn finish(p: Plan, rec: &mut [u8], s: &[u8], out: &mut [u8]) -> Answer
     requires { ⌜ (recordSize ≤ length (now rec)) × PlannedCall (now rec) (now s) (length (now out)) p ⌝ }
     ensures { λ r. ⌜ Finished p (now (rec .entry)) (now (s .entry)) (now (out .entry)) (now (rec .exit)) (now (out .exit)) r ⌝ }
 {
-    if p.number != plan::ACCEPTED {
+    if p.number != step_plan::ACCEPTED {
         return refuse(rec, p.number);
     }
     let queue = p.queue;
-    let joined = plan::joined(queue, s);
-    let sent = machine::send(
+    let joined = step_plan::joined(queue, s);
+    let sent = endpoint_step::send(
         p,
         joined,
         &rec[LENGTHS_AT..BLOCKS_AT],
@@ -153,11 +153,11 @@ pub fn finish(p: Plan, rec: &mut [u8], s: &[u8], out: &mut [u8]) -> Answer
         out,
     );
     store(p, joined, rec);
-    let block = plan::handed_up(p.notice, s);
+    let block = step_plan::handed_up(p.notice, s);
     let after = p.numbers;
     Answer {
         status: Status {
-            number: plan::ACCEPTED,
+            number: step_plan::ACCEPTED,
             state: after.state,
             notice: p.notice,
             local: after.local,
@@ -227,7 +227,7 @@ pub fn receive<'a>(
     *local = told.local;
     *remote = told.remote;
     *sent = a.sent;
-    plan::handed_up(told.notice, s)
+    step_plan::handed_up(told.notice, s)
 }
 
 // Receives the frame s for programs in C. Answers the number; the block handed up is octets 14 on of s, and its length, 0 where

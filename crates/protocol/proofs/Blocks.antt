@@ -12,7 +12,7 @@ use lib.Seq.{drop-drop, drop-append-le, getD-append-seam, append-snoc, getD-drop
 use Rattle.octets.proofs.Test.{if-eq, eq-yes, eq-no}
 use Rattle.frame.specs.Frame.{Block, DATA, Frame}
 use Rattle.protocol.specs.Endpoint.{Endpoint, waiting}
-use Rattle.protocol.specs.Table.{Indication, none, connected, rejected, closedByPartner, closeFinished, handedUp, Sent}
+use Rattle.protocol.specs.Table.{Notice, none, connected, rejected, closedByPartner, closeFinished, handedUp, Sent}
 use Rattle.protocol.specs.Network.{Call, Event, History, now, sent}
 use Rattle.protocol.specs.Claim.{Opens, blockUp, handedUpIn, blockSent, acceptedFor, OpenedWith, Prefix}
 use Rattle.protocol.proofs.Facts.{silent, Laden, load, Carry, keeps, clears, begins, takes, releases, queues, stepTo}
@@ -46,7 +46,7 @@ prefix-more xs ys b p s = go (p .0) (p .1)
         (zs, append-snoc xs b zs ∙ ap (λ (c : Block). xs ++ c ∷ zs) (sym w) ∙ q)
 
 -- What one more call adds.
-no-block : (n : Indication) → T (silent n) → blockUp n ≡ []
+no-block : (n : Notice) → T (silent n) → blockUp n ≡ []
 no-block none t = refl
 no-block connected t = refl
 no-block rejected t = refl
@@ -55,15 +55,15 @@ no-block closeFinished t = refl
 no-block (handedUp b) t = absurd t
 
 module _ (x : Event) (h : History) where
-  pub up-silent : T (silent (x .answer .indication)) → (l : ℕ) → handedUpIn l (x ∷ h) ≡ handedUpIn l h
+  pub up-silent : T (silent (x .answer .notice)) → (l : ℕ) → handedUpIn l (x ∷ h) ≡ handedUpIn l h
   unfolding handedUpIn
-  up-silent t l = add-none (handedUpIn l h) (if-eq (λ (bs : List Block). bs ≡ []) _ _ (λ _. no-block (x .answer .indication) t) (λ _. refl))
+  up-silent t l = add-none (handedUpIn l h) (if-eq (λ (bs : List Block). bs ≡ []) _ _ (λ _. no-block (x .answer .notice) t) (λ _. refl))
 
   pub up-other : (l : ℕ) → x .answer .endpoint .local ≢ l → handedUpIn l (x ∷ h) ≡ handedUpIn l h
   unfolding handedUpIn
   up-other l d = add-none (handedUpIn l h) (eq-no _ _ _ _ d)
 
-  pub up-here : handedUpIn (x .answer .endpoint .local) (x ∷ h) ≡ handedUpIn (x .answer .endpoint .local) h ++ blockUp (x .answer .indication)
+  pub up-here : handedUpIn (x .answer .endpoint .local) (x ∷ h) ≡ handedUpIn (x .answer .endpoint .local) h ++ blockUp (x .answer .notice)
   unfolding handedUpIn
   up-here = ap (λ (bs : List Block). handedUpIn (x .answer .endpoint .local) h ++ bs) (eq-yes _ _ _ _ refl)
 
@@ -179,7 +179,7 @@ pub nothing-up : {h : History} → Named h → Stock h → 1 ≤ now h .state �
 nothing-up {h} nm st p q = st .up-none (now h .local) (λ d u. omega (arith, nm .past d u p))
 
 -- only an open end accepts a block
-nothing-taken : {e x : Endpoint} {f : Frame} {n : Indication} {bs : List Block} → Carry e f x n bs → x .state ≢ 4 → bs ≡ []
+nothing-taken : {e x : Endpoint} {f : Frame} {n : Notice} {bs : List Block} → Carry e f x n bs → x .state ≢ 4 → bs ≡ []
 nothing-taken (keeps t) u = refl
 nothing-taken (clears t t′) u = refl
 nothing-taken (begins p q t) u = refl
@@ -220,7 +220,7 @@ placed-on x h g p e =
 
 -- One more call c at the end h, which sends o.
 module _ (c : Call) (o : Sent) (f : Frame) {h : History} (nm : Named h) (st : Stock h) (ld : Laden (now h)) where
-  abbrev next : Endpoint → Indication → History
+  abbrev next : Endpoint → Notice → History
   next x n = event c h (stepTo x n o) ∷ h
 
   abbrev L : ℕ
@@ -233,7 +233,7 @@ module _ (c : Call) (o : Sent) (f : Frame) {h : History} (nm : Named h) (st : St
   abbrev first : ℕ
   first = now h .accepted - waiting (now h)
 
-  counts-on : {x : Endpoint} {n : Indication} {bs : List Block} → blockSent c ≡ bs → Carry (now h) f x n bs → x .state ≡ 4 → Counts (next x n)
+  counts-on : {x : Endpoint} {n : Notice} {bs : List Block} → blockSent c ≡ bs → Carry (now h) f x n bs → x .state ≡ 4 → Counts (next x n)
   unfolding now
   counts-on s (keeps t) e =
       let k = st .counts e in
@@ -291,7 +291,7 @@ module _ (c : Call) (o : Sent) (f : Frame) {h : History} (nm : Named h) (st : St
       }
 
   -- nothing is handed up in an incarnation that never opened
-  up-none-on : {x : Endpoint} {n : Indication} {bs : List Block} → Carry (now h) f x n bs → (l : ℕ) → ((d : ℕ) → OpenedWith h l d → ⊥)
+  up-none-on : {x : Endpoint} {n : Notice} {bs : List Block} → Carry (now h) f x n bs → (l : ℕ) → ((d : ℕ) → OpenedWith h l d → ⊥)
       → handedUpIn l (next x n) ≡ []
   up-none-on (keeps t) l u = up-silent _ h t l ∙ st .up-none l u
   up-none-on (clears t t′) l u = up-silent _ h t′ l ∙ st .up-none l u
@@ -303,7 +303,7 @@ module _ (c : Call) (o : Sent) (f : Frame) {h : History} (nm : Named h) (st : St
   up-none-on (queues b p q r) l u = up-silent _ h tt l ∙ st .up-none l u
 
   -- a call within an incarnation
-  pub stock-within : {x : Endpoint} {n : Indication} → Carry (now h) f x n (blockSent c) → Says x f o → Back (now h) x → Stock (next x n)
+  pub stock-within : {x : Endpoint} {n : Notice} → Carry (now h) f x n (blockSent c) → Says x f o → Back (now h) x → Stock (next x n)
   unfolding now sent
   stock-within {x} k v r = record {
     counts = counts-on refl k;
@@ -317,7 +317,7 @@ module _ (c : Call) (o : Sent) (f : Frame) {h : History} (nm : Named h) (st : St
   }
 
   -- a call that begins one
-  pub stock-begun : {x : Endpoint} {n : Indication} → T (silent n) → blockSent c ≡ [] → Says x f o → x .local ≡ L + 1 → x .state ≤ 2
+  pub stock-begun : {x : Endpoint} {n : Notice} → T (silent n) → blockSent c ≡ [] → Says x f o → x .local ≡ L + 1 → x .state ≤ 2
       → length (x .queue) ≤ x .accepted → Stock (next x n)
   unfolding now sent
   stock-begun {x} t s v l p w = record {

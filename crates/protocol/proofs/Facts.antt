@@ -19,7 +19,7 @@ use Rattle.protocol.specs.declared.Rule.the-variants.{FinishedByDisconne
 use Rattle.protocol.specs.Endpoint.{Endpoint, waiting}
 use Rattle.protocol.specs.Table.{whenClosed, whenListening, whenActive, whenPassive, dataRow, ackRow, openRows}
 use Rattle.protocol.specs.Table.{whenEstablished, whenClosing, rule}
-use Rattle.protocol.specs.Table.{Indication, none, connected, rejected, closedByPartner, closeFinished, handedUp, Sent, nothing, frame, Step}
+use Rattle.protocol.specs.Table.{Notice, none, connected, rejected, closedByPartner, closeFinished, handedUp, Sent, nothing, frame, Step}
 use Rattle.protocol.specs.Table.{turned, delivering, releasing, apply, step}
 use Rattle.octets.specs.Sizes.{lastNumber, queueSize}
 use Rattle.protocol.specs.Requests.{queueing}
@@ -44,7 +44,7 @@ pub data Move (e : Endpoint) (f : Frame) : Endpoint → Type 0 where
   hangs-up : 1 ≤ e .state → 1 ≤ e .remote → Move e f (turned 5 (e .remote) e)
   drops : 1 ≤ e .state → Excuse e f → Move e f (turned 0 0 e)
 
-abbrev pub silent : Indication → Bool
+abbrev pub silent : Notice → Bool
 silent none = true
 silent connected = true
 silent rejected = true
@@ -52,11 +52,11 @@ silent closedByPartner = true
 silent closeFinished = true
 silent (handedUp b) = false
 
--- What becomes of the blocks: e turns into x with the indication n, and accepts bs to send.
-pub data Carry (e : Endpoint) (f : Frame) : Endpoint → Indication → List Block → Type 0 where
-  keeps : {n : Indication} → T (silent n) → Carry e f e n []
-  clears : {st d : ℕ} {n : Indication} → T (not (eqb st 4)) → T (silent n) → Carry e f (turned st d e) n []
-  begins : {d : ℕ} {n : Indication} → 2 ≤ e .state → e .state ≤ 3 → T (silent n) → Carry e f (turned 4 d e) n []
+-- What becomes of the blocks: e turns into x with the notice n, and accepts bs to send.
+pub data Carry (e : Endpoint) (f : Frame) : Endpoint → Notice → List Block → Type 0 where
+  keeps : {n : Notice} → T (silent n) → Carry e f e n []
+  clears : {st d : ℕ} {n : Notice} → T (not (eqb st 4)) → T (silent n) → Carry e f (turned st d e) n []
+  begins : {d : ℕ} {n : Notice} → 2 ≤ e .state → e .state ≤ 3 → T (silent n) → Carry e f (turned 4 d e) n []
   takes : f .kind ≡ DATA → f .quoted ≡ e .local → f .sender ≡ e .remote → e .state ≡ 4 → f .number ≡ e .delivered
       → Carry e f (delivering e) (handedUp (f .block)) []
   releases : e .state ≡ 4 → e .accepted - waiting e < f .number → f .number ≤ e .accepted → Carry e f (releasing (f .number) e) none []
@@ -90,12 +90,12 @@ pub data Says (x : Endpoint) (f : Frame) : Sent → Type 0 where
       → Says x f (frame (dataFrame (x .local) (x .remote) m b))
   ack : (m : ℕ) → x .state ≡ 4 → m ≡ x .delivered → Says x f (frame (ackFrame (x .local) (x .remote) m))
 
-abbrev pub stepTo : Endpoint → Indication → Sent → Step
-stepTo x n o = record { endpoint = x; indication = n; sent = o }
+abbrev pub stepTo : Endpoint → Notice → Sent → Step
+stepTo x n o = record { endpoint = x; notice = n; sent = o }
 
 -- A step as a whole: how it moves, what becomes of the blocks, what it says.
 pub data Fires (e : Endpoint) (f : Frame) (bs : List Block) : Step → Type 0 where
-  fires : {x : Endpoint} {n : Indication} {o : Sent} → Move e f x → Carry e f x n bs → Says x f o → Fires e f bs (stepTo x n o)
+  fires : {x : Endpoint} {n : Notice} {o : Sent} → Move e f x → Carry e f x n bs → Says x f o → Fires e f bs (stepTo x n o)
 
 -- What the table has found where it chooses a rule; s < D has been passed.
 pub data Found (e : Endpoint) (f : Frame) : Rule → Type 0 where
@@ -218,7 +218,7 @@ pub heard : (e : Endpoint) (f : Frame) → Fires e f [] (step e f)
 unfolding step
 heard e f = does (found e f)
 
-pub load : {e x : Endpoint} {f : Frame} {n : Indication} {bs : List Block} → Laden e → Carry e f x n bs → Laden x
+pub load : {e x : Endpoint} {f : Frame} {n : Notice} {bs : List Block} → Laden e → Carry e f x n bs → Laden x
 load l (keeps t) = l
 load l (clears t u) = record { waits = omega arith; places = omega arith; idle = λ n. (refl, refl) }
 load l (begins p q t) = record { waits = omega arith; places = omega arith; idle = λ n. (refl, refl) }

@@ -9,7 +9,7 @@ use lib.ListN.{length}
 use Rattle.frame.specs.Frame.{Block, CRAO, CRPO, CRACK, REJ, RESET, DR, DRACK, DATA, Frame, control}
 use Rattle.frame.specs.Frame.{Request, connect, listen, endListening, close, timer, send}
 use Rattle.protocol.specs.Endpoint.{Endpoint, waiting, sized, sound}
-use Rattle.protocol.specs.Table.{Indication, Sent, frame, Step}
+use Rattle.protocol.specs.Table.{Notice, Sent, frame, Step}
 use Rattle.octets.specs.Sizes.{lastNumber}
 use Rattle.protocol.specs.Requests.{begun, accept}
 use Rattle.protocol.specs.Network.{Call, ask, deliver, perform, History, now, sent}
@@ -43,7 +43,7 @@ unfolding sized
 sized-none = refl
 
 -- within an incarnation
-bounded-on : {e x : Endpoint} {f : Frame} {n : Indication} {bs : List Block} → Small f → Bounded e → Move e f x → Carry e f x n bs → Bounded x
+bounded-on : {e x : Endpoint} {f : Frame} {n : Notice} {bs : List Block} → Small f → Bounded e → Move e f x → Carry e f x n bs → Bounded x
 bounded-on {e} {x} {f} u v m k = record {
   local≤ = omega (arith, v .local≤, back m .local);
   remote≤ = remote m;
@@ -62,7 +62,7 @@ bounded-on {e} {x} {f} u v m k = record {
     remote (hangs-up p d) = v .remote≤
     remote (drops p y) = omega arith
 
-    accepted : {x : Endpoint} {n : Indication} {bs : List Block} → Carry e f x n bs → x .accepted ≤ lastNumber
+    accepted : {x : Endpoint} {n : Notice} {bs : List Block} → Carry e f x n bs → x .accepted ≤ lastNumber
     accepted (keeps t) = v .accepted≤
     accepted (clears t t′) = omega arith
     accepted (begins p q t) = omega arith
@@ -70,7 +70,7 @@ bounded-on {e} {x} {f} u v m k = record {
     accepted (releases p q r) = v .accepted≤
     accepted (queues b p q r) = omega arith
 
-    delivered : {x : Endpoint} {n : Indication} {bs : List Block} → Carry e f x n bs → x .delivered ≤ lastNumber
+    delivered : {x : Endpoint} {n : Notice} {bs : List Block} → Carry e f x n bs → x .delivered ≤ lastNumber
     delivered (keeps t) = v .delivered≤
     delivered (clears t t′) = omega arith
     delivered (begins p q t) = omega arith
@@ -78,7 +78,7 @@ bounded-on {e} {x} {f} u v m k = record {
     delivered (releases p q r) = v .delivered≤
     delivered (queues b p q r) = v .delivered≤
 
-sized-on : {e x : Endpoint} {f : Frame} {n : Indication} {bs : List Block} → sized (e .queue) ≡ true → sized bs ≡ true → Carry e f x n bs
+sized-on : {e x : Endpoint} {f : Frame} {n : Notice} {bs : List Block} → sized (e .queue) ≡ true → sized bs ≡ true → Carry e f x n bs
     → sized (x .queue) ≡ true
 sized-on q t (keeps p) = q
 sized-on q t (clears p r) = t

@@ -6,7 +6,7 @@ use mathlib.Core.List.{List, [], _∷_, List·Memᴰ, List·Memᴰ·head, List·
 use native.Mathlib.Omega.{arith}
 use Rattle.frame.specs.Frame.{Block, Frame, control, connect}
 use Rattle.protocol.specs.Endpoint.{Endpoint}
-use Rattle.protocol.specs.Table.{Sent, Indication, Step}
+use Rattle.protocol.specs.Table.{Sent, Notice, Step}
 use Rattle.protocol.specs.Requests.{begun, accept}
 use Rattle.protocol.specs.Network.{Call, ask, Event, History, now, sent}
 use Rattle.protocol.specs.Claim.{BegunByConnect, Opens, Met}
@@ -60,9 +60,9 @@ module _ {a b : History} (h : Joint a b) where
   j = record { at = now b; by = h .by-b }
 
   -- The end a hears f, which b has sent: the same incarnation.
-  module _ (c : Call) (f : Frame) (hf : Holds j i f) {x : Endpoint} (n : Indication) (o : Sent) (m : Move (now a) f x) where
+  module _ (c : Call) (f : Frame) (hf : Holds j i f) {x : Endpoint} (n : Notice) (o : Sent) (m : Move (now a) f x) where
     abbrev ev : Event
-    ev = event c a (record { endpoint = x; indication = n; sent = o })
+    ev = event c a (record { endpoint = x; notice = n; sent = o })
 
     -- an incarnation begun by connect stays so
     older : BegunByConnect a (now a .local) → BegunByConnect (ev ∷ a) (x .local)
@@ -112,7 +112,7 @@ module _ {a b : History} (h : Joint a b) where
   hears (from m) = h .holds-b _ m
 
   -- a new incarnation
-  begins-on : (c : Call) {st by : ℕ} → Begins st by → now a .state ≡ 0 → (by ≡ 1 → c ≡ ask connect) → {n : Indication} {o : Sent}
+  begins-on : (c : Call) {st by : ℕ} → Begins st by → now a .state ≡ 0 → (by ≡ 1 → c ≡ ask connect) → {n : Notice} {o : Sent}
       → Says (begun st (now a)) (control 0 0 0) o → Next a b (event c a (stepTo (begun st (now a)) n o) ∷ a)
   unfolding now sent
   begins-on c {by = by} t z k {o = o} w =

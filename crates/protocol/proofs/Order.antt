@@ -9,7 +9,7 @@ use lib.Dec.{T}
 use lib.ListN.{length}
 use Rattle.frame.specs.Frame.{Block, DATA, Frame, control}
 use Rattle.protocol.specs.Endpoint.{Endpoint}
-use Rattle.protocol.specs.Table.{Indication, handedUp, Sent, delivering}
+use Rattle.protocol.specs.Table.{Notice, handedUp, Sent, delivering}
 use Rattle.protocol.specs.Requests.{accept}
 use Rattle.protocol.specs.Network.{Call, Event, History, now, sent}
 use Rattle.protocol.specs.Claim.{handedUpIn, blockSent, acceptedFor, OpenedWith, Prefix, InOrder}
@@ -50,7 +50,7 @@ module _ {a b : History} (w : Flow a b) where
       (prefix-grow (handedUpIn l b) (acceptedFor d l a) (m .0) (w .order-b l d u))
 
   -- a call that hands nothing up; if it opens an incarnation, nothing was handed up there before
-  order-silent : (x : Event) → T (silent (x .answer .indication)) → ((l d : ℕ) → Opening x l d → handedUpIn l a ≡ []) → Order (x ∷ a) b
+  order-silent : (x : Event) → T (silent (x .answer .notice)) → ((l d : ℕ) → Opening x l d → handedUpIn l a ≡ []) → Order (x ∷ a) b
   order-silent x t e l d u =
       let ys : List Block = acceptedFor d l b in
       subst (λ (xs : List Block). Prefix xs ys) (sym (up-silent x a t l))
@@ -96,7 +96,7 @@ module _ {a b : History} (w : Flow a b) where
   sent-by no-frame e = absurd (omega arith)
   sent-by (from m) e = m
 
-  order-on : (c : Call) (o : Sent) {f : Frame} → Heard b f → {x : Endpoint} {n : Indication} {bs : List Block} → Carry (now a) f x n bs
+  order-on : (c : Call) (o : Sent) {f : Frame} → Heard b f → {x : Endpoint} {n : Notice} {bs : List Block} → Carry (now a) f x n bs
       → Back (now a) x → Order (event c a (stepTo x n o) ∷ a) b
   order-on c o h (keeps t) r = order-silent _ t (opens-empty refl r)
   order-on c o h (clears t u) r = order-silent _ u (opens-empty refl r)
@@ -105,7 +105,7 @@ module _ {a b : History} (w : Flow a b) where
   order-on c o h (releases p q s) r = order-silent _ tt (opens-empty refl r)
   order-on c o h (queues b p q s) r = order-silent _ tt (opens-empty refl r)
 
-  begun-on : Laden (now a) → (c : Call) (o : Sent) {x : Endpoint} {n : Indication} → T (silent n) → blockSent c ≡ [] → Says x (control 0 0 0) o
+  begun-on : Laden (now a) → (c : Call) (o : Sent) {x : Endpoint} {n : Notice} → T (silent n) → blockSent c ≡ [] → Says x (control 0 0 0) o
       → x .local ≡ now a .local + 1 → x .state ≤ 2 → length (x .queue) ≤ x .accepted → Flow (event c a (stepTo x n o) ∷ a) b
   begun-on ld c o t s v l p q = record {
     named-a = named-begun _ refl (w .named-a) l (omega arith);

@@ -6,7 +6,7 @@ use mathlib.Core.List.{List, [], _∷_, _++_, List·Memᴰ}
 use Rattle.octets.specs.Test.{ifEq, ok}
 use Rattle.frame.specs.Frame.{Block, Frame, connect, listen, endListening, close, timer, send}
 use Rattle.protocol.specs.Endpoint.{closed, activeOpening, established, closing, Endpoint}
-use Rattle.protocol.specs.Table.{Indication, none, connected, rejected, closedByPartner, closeFinished, handedUp}
+use Rattle.protocol.specs.Table.{Notice, none, connected, rejected, closedByPartner, closeFinished, handedUp}
 use Rattle.protocol.specs.Table.{frame, quiet, says, turned, step}
 use Rattle.protocol.specs.Requests.{request}
 use Rattle.protocol.specs.Network.{Call, ask, deliver, Event, History, now}
@@ -43,7 +43,7 @@ EachMeets E w [] = Unit {0}
 EachMeets E w (c ∷ cs) = Meets E w (made E c w) × EachMeets E (made E c w) cs
 
 -- the block of a call answered with notice 5
-abbrev pub blockUp : Indication → List Block
+abbrev pub blockUp : Notice → List Block
 blockUp none = []
 blockUp connected = []
 blockUp rejected = []
@@ -54,7 +54,7 @@ blockUp (handedUp b) = b ∷ []
 -- handed up in the incarnation l: the blocks of the calls answered with notice 5 and that L, in the order of the list
 unfoldable pub handedUpIn : ℕ → History → List Block
 handedUpIn l [] = []
-handedUpIn l (x ∷ earlier) = handedUpIn l earlier ++ ifEq (x .answer .endpoint .local) l (blockUp (x .answer .indication)) []
+handedUpIn l (x ∷ earlier) = handedUpIn l earlier ++ ifEq (x .answer .endpoint .local) l (blockUp (x .answer .notice)) []
 
 -- the block of an accepted send request
 abbrev pub blockSent : Call → List Block

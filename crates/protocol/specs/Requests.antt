@@ -71,7 +71,7 @@ accept listen e = quiet (begun listening e) none
 accept endListening e = quiet (turned closed 0 e) none
 accept close e = says (turned closing (e .remote) e) none (control DR (e .local) (e .remote))
 accept (send b) e = says (queueing b e) none (dataFrame (e .local) (e .remote) (e .accepted) b)
-accept timer e = record { endpoint = e; indication = none; sent = resent e }
+accept timer e = record { endpoint = e; notice = none; sent = resent e }
 
 -- what a request answers: its refusal, or the step
 unfoldable pub request : Request → Endpoint → Outcome Step

@@ -120,35 +120,35 @@ rule e f =
 -- What a row does.
 
 -- document 01: a notice
-pub data Indication : Type 0 where
-  none connected rejected closedByPartner closeFinished : Indication
-  handedUp : Block → Indication
+pub data Notice : Type 0 where
+  none connected rejected closedByPartner closeFinished : Notice
+  handedUp : Block → Notice
 
 -- document 01's number of a notice
-unfoldable pub notice : Indication → ℕ
-notice none = 0
-notice connected = 1
-notice rejected = 2
-notice closedByPartner = 3
-notice closeFinished = 4
-notice (handedUp b) = 5
+unfoldable pub noticeNumber : Notice → ℕ
+noticeNumber none = 0
+noticeNumber connected = 1
+noticeNumber rejected = 2
+noticeNumber closedByPartner = 3
+noticeNumber closeFinished = 4
+noticeNumber (handedUp b) = 5
 
 -- a call sends one frame or nothing
 pub data Sent : Type 0 where
   nothing : Sent
   frame : Frame → Sent
 
--- What a call answers: the endpoint after it, its indication (with the block, where one is handed up), and what it sends.
+-- What a call answers: the endpoint after it, its notice (with the block, where one is handed up), and what it sends.
 pub record Step : Type 0 where
   pub endpoint : Endpoint
-  pub indication : Indication
+  pub notice : Notice
   pub sent : Sent
 
-abbrev pub quiet : Endpoint → Indication → Step
-quiet e n = record { endpoint = e; indication = n; sent = nothing }
+abbrev pub quiet : Endpoint → Notice → Step
+quiet e n = record { endpoint = e; notice = n; sent = nothing }
 
-abbrev pub says : Endpoint → Indication → Frame → Step
-says e n g = record { endpoint = e; indication = n; sent = frame g }
+abbrev pub says : Endpoint → Notice → Frame → Step
+says e n g = record { endpoint = e; notice = n; sent = frame g }
 
 -- The same incarnation in state st, with the partner d. Only an open end has blocks, and it begins with none.
 abbrev pub turned : ℕ → ℕ → Endpoint → Endpoint

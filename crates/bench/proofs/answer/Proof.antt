@@ -1,11 +1,11 @@
 use mathlib.Core.Path.{ap, _∙_}
 use denote.Ref.{now}
 use native.Mathlib.Omega.{arith}
-use Rattle.rig.specs.Bench.{benchOf}
-use Rattle.text.proofs.Outputs.{written-count, written-text, never-refused}
-use Rattle.desk.specs.Text.{benchText, benchIn}
-use Rattle.desk.proofs.Plays.{written-fits}
-use Rattle.stream.proofs.Steps.{replied}
+use Rattle.bench_spec.specs.Bench.{benchOf}
+use Rattle.answer_text.proofs.Outputs.{written-count, written-text, never-refused}
+use Rattle.bench_answer.specs.Text.{benchText, benchIn}
+use Rattle.bench_answer.proofs.Plays.{written-fits}
+use Rattle.line_io.proofs.Steps.{replied}
 use Rattle.bench.proofs.Ends.{asks-with}
 use borrow.Author.Needs.{needs}
 use Rattle.bench.proofs.answer.Statement.{statement}

@@ -3,10 +3,10 @@ use denote.Ref.{now}
 use native.Mathlib.Omega.{arith}
 use Rattle.link.specs.Lent.{freshRecord}
 use Rattle.link.proofs.Fresh.{fresh-is}
-use Rattle.rig.specs.Bench.{benchOf}
-use Rattle.desk.specs.Text.{answerRoom}
-use Rattle.stream.specs.Program.{Ran}
-use Rattle.stream.proofs.Program.{ran-none, ran-more, ran-fits}
+use Rattle.bench_spec.specs.Bench.{benchOf}
+use Rattle.bench_answer.specs.Text.{answerRoom}
+use Rattle.line_io.specs.Program.{Ran}
+use Rattle.line_io.proofs.Program.{ran-none, ran-more, ran-fits}
 use Rattle.bench.specs.Ends.{bothEnds}
 use Rattle.bench.proofs.Ends.{both-fresh}
 use borrow.Author.Needs.{needs}

@@ -1,7 +1,7 @@
 use denote.Ref.{now}
 use native.Mathlib.Omega.{arith}
-use Rattle.rig.specs.Bench.{benchOf}
-use Rattle.stream.proofs.Steps.{step-none, step-line}
+use Rattle.bench_spec.specs.Bench.{benchOf}
+use Rattle.line_io.proofs.Steps.{step-none, step-line}
 use Rattle.bench.proofs.Ends.{cuts}
 use borrow.Author.Needs.{needs}
 use Rattle.bench.proofs.step.Statement.{statement}

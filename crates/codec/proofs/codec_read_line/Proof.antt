@@ -1,6 +1,6 @@
 use mathlib.Core.Path.{sym, _∙_}
 use denote.Ref.{now}
-use Rattle.hexline.specs.Line.{readInto}
+use Rattle.hex.specs.Line.{readInto}
 use Rattle.codec.proofs.Lines.{decoded, declined}
 use borrow.Author.Needs.{needs}
 use Rattle.codec.proofs.codec_read_line.Statement.{statement}

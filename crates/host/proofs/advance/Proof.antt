@@ -1,4 +1,4 @@
--- `host::advance` meets its contract: a walk of its MIR, by hand. The record's borrow is opened, the record is copied out of its cell, and `machine::step` is
+-- `host::advance` meets its contract: a walk of its MIR, by hand. The record's borrow is opened, the record is copied out of its cell, and `endpoint_step::step` is
 -- called with it, with the call and with the buffer, which is passed on at its own address, count and lifetime: what `step` says of its last octets is what is
 -- said at exit. The field `endpoint` of what `step` returned is stored over the whole cell, and the borrow is closed at that record. All that it knows of `step`
 -- is that it meets its contract.
@@ -43,21 +43,21 @@ use denote.Triple.Clauses.{Lasts, ensured, lasts}
 use denote.Triple.Table.{entered, cited}
 use denote.Triple.Walked.{says, Stays, stay-dropped, stay-ref, gave-slice, walkOf, AllGo, goes-dropped, goes-ref, goes-gave-slice, Walks, ends-at, walked, walk-meets}
 use denote.Exit.{yes}
-use Rattle.calls.specs.declared.Call.{Call}
-use Rattle.calls.specs.Calls.{given}
-use Rattle.calls.proofs.Call as K
-use Rattle.calls.proofs.Call.Laws as K′
+use Rattle.call_spec.specs.declared.Call.{Call}
+use Rattle.call_spec.specs.Calls.{given}
+use Rattle.call_spec.proofs.Call as K
+use Rattle.call_spec.proofs.Call.Laws as K′
 use Rattle.endpoint.specs.declared.Endpoint.{Endpoint}
 use Rattle.endpoint.proofs.Endpoint as T
 use Rattle.endpoint.proofs.Endpoint.Laws as T′
-use Rattle.machine.specs.declared.StepAnswer.{StepAnswer}
-use Rattle.machine.specs.Calls.{outcomeOf, Advances}
-use Rattle.machine.proofs.StepAnswer as D
-use Rattle.machine.proofs.StepAnswer.Laws as D′
-use Rattle.machine.proofs.step as step
-use Rattle.machine.proofs.step.Symbol as step-def
-use Rattle.machine.proofs.step.Symbol.{name as #machine·step}
-use Rattle.machine.proofs.step.Met as step-thm
+use Rattle.endpoint_step.specs.declared.StepAnswer.{StepAnswer}
+use Rattle.endpoint_step.specs.Calls.{outcomeOf, Advances}
+use Rattle.endpoint_step.proofs.StepAnswer as D
+use Rattle.endpoint_step.proofs.StepAnswer.Laws as D′
+use Rattle.endpoint_step.proofs.step as step
+use Rattle.endpoint_step.proofs.step.Symbol as step-def
+use Rattle.endpoint_step.proofs.step.Symbol.{name as #endpoint_step·step}
+use Rattle.endpoint_step.proofs.step.Met as step-thm
 use Rattle.host.proofs.Walk.{of-call, of-end, of-answer, parts, ended}
 use Rattle.host.proofs.advance.Key.{name as #host·advance}
 use Rattle.host.proofs.advance as advance
@@ -119,7 +119,7 @@ module _ {M : Type 1} (𝓤 : URA M) (H : Heap 𝓤) (A : Atoms 𝓤) (W : Given
       suffices ! _ (ends-at 𝓤 H A advance.ended stayed (advance.clauses 𝓤 H A at-mem run) W (((κ, (κ′, (κ″, tt))), (q, (q′, (q″, tt))), bounds, x, at), tt) (of-answer r) r (tt, (r .endpoint, (tt, (ys, tt)))) (tt, (tt, (tt, (l, tt))))) $ says ! (e, refl) $
       join ! $ frame ! $ nothing ! $ move ! (1 ∷ 0 ∷ []) $ fjoin ! $ nothing ! $ fjoin ! $ move ! (1 ∷ 2 ∷ []) $ feqI ! (List Val) (vptr b o ∷ []) (vptr b o ∷ []) refl $ fjoin3 ! $ fjoin ! $ nothing ! $ fjoin ! $ frame ! $ done !
 
-  module _ (C : Calls 𝓤 H) (Λ : Loops 𝓤 H) (fm : FmC 𝓤 H (W .laws) C) (known : Triple 𝓤 (C #machine·step) (Step 𝓤 H A at-mem run)) where
+  module _ (C : Calls 𝓤 H) (Λ : Loops 𝓤 H) (fm : FmC 𝓤 H (W .laws) C) (known : Triple 𝓤 (C #endpoint_step·step) (Step 𝓤 H A at-mem run)) where
     walk : Is K.the-row a (of-call a ∷ []) → Is (ShrSlice (named 1) κ′ u8) s (v ∷ []) → Is (MutSlice (named 2) κ″ u8) out (v′ ∷ []) → ent 𝓤 (onEntry 𝓤 H A advance.signature (κ, (κ′, (κ″, tt))) (q, (q′, (q″, tt))) x at) (WpFn 𝓤 H C Λ code.function (of-call a ∷ vptr b o ∷ v ∷ v′ ∷ []) Post)
     walk c p p′ =
         qed W ((‵ (flft κ q) ⊛ Tokens) ∷ ‵ (owns (K.the-row ∷ MutRef (named 0) κ T.the-row ∷ ShrSlice (named 1) κ′ u8 ∷ MutSlice (named 2) κ″ u8 ∷ []) x at) ∷ []) ∵ enter ! C Λ code.function (of-call a ∷ vptr b o ∷ v ∷ v′ ∷ []) _ $
@@ -155,7 +155,7 @@ module _ {M : Type 1} (𝓤 : URA M) (H : Heap 𝓤) (A : Atoms 𝓤) (W : Given
         move ! (10 ∷ 11 ∷ []) $ free1 ! $ move ! (8 ∷ 9 ∷ []) $ free1 ! $ move ! (6 ∷ 7 ∷ []) $ free1 ! $ free0 ! $ keep ! (2 ∷ 4 ∷ 5 ∷ 0 ∷ 1 ∷ 3 ∷ []) $ by ! (exits r (ws .1 .1 .1 .0) l e))))))))))))))))))
 
 module _ {M : Type 1} (𝓤 : URA M) (H : Heap 𝓤) (A : Atoms 𝓤) (W : Given 𝓤 H A) (at-mem : Memory → SProp 𝓤) (run : Routine → Fun 𝓤) where
-  advance-walks : (C : Calls 𝓤 H) (Λ : Loops 𝓤 H) → FmC 𝓤 H (W .laws) C → Triple 𝓤 (C #machine·step) (Step 𝓤 H A at-mem run) → Walks 𝓤 H A advance.ended stayed (WpFn 𝓤 H C Λ code.function) (advance.clauses 𝓤 H A at-mem run)
+  advance-walks : (C : Calls 𝓤 H) (Λ : Loops 𝓤 H) → FmC 𝓤 H (W .laws) C → Triple 𝓤 (C #endpoint_step·step) (Step 𝓤 H A at-mem run) → Walks 𝓤 H A advance.ended stayed (WpFn 𝓤 H C Λ code.function) (advance.clauses 𝓤 H A at-mem run)
   advance-walks C Λ fm known = walked 𝓤 H A advance.ended stayed (advance.clauses 𝓤 H A at-mem run) (WpFn 𝓤 H C Λ code.function) (λ κs. (EL.vals K.the-type K′.the-laws, (ptr-vals, (slice-vals, (slice-vals, tt)))))
       (λ κs. (EL.tells K.the-type K′.the-laws, (mut-tells (named 0) (κs .0) T.the-row, (shr-slice-tells (named 1) (κs .1 .0) u8, (mut-slice-tells (named 2) (κs .1 .1 .0) u8, tt)))))
       (λ κs qs bounds a g are. via 𝓤 _ (fst∗ 𝓤 _ (emp 𝓤)) (walk 𝓤 H A W at-mem run (κs .0) (κs .1 .0) (κs .1 .1 .0) bounds (qs .0) (qs .1 .0) (qs .1 .1 .0) (a .0) (a .1 .0 .ptr .0) (a .1 .0 .ptr .1) (a .1 .0 .name) (a .1 .0 .now) (a .1 .1 .0) (a .1 .1 .1 .0)
@@ -164,7 +164,7 @@ module _ {M : Type 1} (𝓤 : URA M) (H : Heap 𝓤) (A : Atoms 𝓤) (W : Given
   go : AllGo 𝓤 H A W 3 (advance.signature .params) (advance.ended .kept) stayed
   go = (goes-dropped 𝓤 H A W 3 (plain (λ _. K.the-row)) yes (λ κs x f. refl), (goes-ref 𝓤 H A W 3 0 tt (plain (λ _. T.the-row)), (goes-dropped 𝓤 H A W 3 (shrSliceOf (1 ∷ []) tt (plain (λ _. u8))) yes (λ κs x f. refl), (goes-gave-slice 𝓤 H A W 3 2 tt (plain (λ _. u8)), tt))))
 
-  advance-meets : (𝓣 : Tables 𝓤 H) → Triple 𝓤 (𝓣 .C #machine·step) (Step 𝓤 H A at-mem run) → Meets 𝓤 H A advance.signature (WpFn 𝓤 H (𝓣 .C) (𝓣 .Λ) code.function) (advance.spec 𝓤 H A at-mem run)
+  advance-meets : (𝓣 : Tables 𝓤 H) → Triple 𝓤 (𝓣 .C #endpoint_step·step) (Step 𝓤 H A at-mem run) → Meets 𝓤 H A advance.signature (WpFn 𝓤 H (𝓣 .C) (𝓣 .Λ) code.function) (advance.spec 𝓤 H A at-mem run)
   advance-meets 𝓣 known = walk-meets 𝓤 H A advance.ended stayed W go (advance.clauses 𝓤 H A at-mem run) (WpFn 𝓤 H (𝓣 .C) (𝓣 .Λ) code.function) (WpFn-mono 𝓤 H (W .laws) 𝓣 code.function) (advance-walks (𝓣 .C) (𝓣 .Λ) (fmOf 𝓤 H (W .laws) 𝓣) known)
 
 pub advance-spec : {M : Type 1} → stated.statement M
@@ -173,4 +173,4 @@ advance-spec 𝓤 H 𝓜 𝓖 𝓡 =
     entered 𝓤 H (tripleOf 𝓤 H (𝓖 .A) advance.signature (advance.spec 𝓤 H (𝓖 .A) (𝓜 .mem) (𝓡 .run)))
     (tables 𝓤 H 𝓜 𝓡 code.env .C) (tables 𝓤 H 𝓜 𝓡 code.env .Λ) #host·advance code.function (code.unfolded 𝓤 H 𝓜 𝓡)
     (advance-meets 𝓤 H (𝓖 .A) (givenOf 𝓤 H 𝓜 𝓖) (𝓜 .mem) (𝓡 .run) (tablesOf 𝓤 H 𝓜 (tables 𝓤 H 𝓜 𝓡 code.env))
-    (cited 𝓤 H (Step 𝓤 H (𝓖 .A) (𝓜 .mem) (𝓡 .run)) 𝓜 𝓡 code.env #machine·step step-def.routine code.calls-machine·step (step-thm.met 𝓤 H 𝓜 𝓖 𝓡)))
+    (cited 𝓤 H (Step 𝓤 H (𝓖 .A) (𝓜 .mem) (𝓡 .run)) 𝓜 𝓡 code.env #endpoint_step·step step-def.routine code.calls-endpoint_step·step (step-thm.met 𝓤 H 𝓜 𝓖 𝓡)))

@@ -44,17 +44,17 @@ use denote.Triple.Clauses.{Lasts, ensured, lasts}
 use denote.Triple.Table.{entered, cited}
 use denote.Triple.Walked.{says, Stays, stay-dropped, gave-slice, walkOf, AllGo, goes-dropped, goes-gave-slice, Walks, ends-at, walked, walk-meets}
 use denote.Exit.{yes}
-use Rattle.calls.specs.declared.Call.{Call}
-use Rattle.calls.specs.Calls.{given}
-use Rattle.calls.proofs.Call as K
-use Rattle.calls.proofs.Call.Laws as K′
+use Rattle.call_spec.specs.declared.Call.{Call}
+use Rattle.call_spec.specs.Calls.{given}
+use Rattle.call_spec.proofs.Call as K
+use Rattle.call_spec.proofs.Call.Laws as K′
 use Rattle.endpoint.specs.declared.Endpoint.{Endpoint}
 use Rattle.endpoint.proofs.Endpoint as T
 use Rattle.endpoint.proofs.Endpoint.Laws as T′
-use Rattle.machine.specs.declared.StepAnswer.{StepAnswer}
-use Rattle.machine.specs.Calls.{outcomeOf, Advances}
-use Rattle.machine.proofs.StepAnswer as D
-use Rattle.machine.proofs.StepAnswer.Laws as D′
+use Rattle.endpoint_step.specs.declared.StepAnswer.{StepAnswer}
+use Rattle.endpoint_step.specs.Calls.{outcomeOf, Advances}
+use Rattle.endpoint_step.proofs.StepAnswer as D
+use Rattle.endpoint_step.proofs.StepAnswer.Laws as D′
 use Rattle.host.proofs.Walk.{of-call, of-end, of-answer, parts, ended}
 use Rattle.host.proofs.advance as advance
 use Rattle.host.proofs.advance.Symbol as advance-def

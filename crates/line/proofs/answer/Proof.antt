@@ -1,10 +1,10 @@
 use mathlib.Core.Path.{ap, _∙_}
 use denote.Ref.{now}
 use native.Mathlib.Omega.{arith}
-use Rattle.console.specs.Text.{text, recordLeft}
-use Rattle.text.proofs.Outputs.{written-count, written-text, never-refused}
-use Rattle.console.proofs.Lines.{written-fits}
-use Rattle.stream.proofs.Steps.{replied}
+use Rattle.line_answer.specs.Text.{text, recordLeft}
+use Rattle.answer_text.proofs.Outputs.{written-count, written-text, never-refused}
+use Rattle.line_answer.proofs.Lines.{written-fits}
+use Rattle.line_io.proofs.Steps.{replied}
 use Rattle.line.proofs.Ends.{asks}
 use borrow.Author.Needs.{needs}
 use Rattle.line.proofs.answer.Statement.{statement}

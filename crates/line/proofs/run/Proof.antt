@@ -4,9 +4,9 @@ use denote.Ref.{now}
 use native.Mathlib.Omega.{arith}
 use Rattle.link.specs.Lent.{freshRecord}
 use Rattle.link.proofs.Fresh.{fresh-is}
-use Rattle.text.specs.Text.{answerRoom}
-use Rattle.stream.specs.Program.{Ran}
-use Rattle.stream.proofs.Program.{ran-none, ran-more, ran-fits}
+use Rattle.answer_text.specs.Text.{answerRoom}
+use Rattle.line_io.specs.Program.{Ran}
+use Rattle.line_io.proofs.Program.{ran-none, ran-more, ran-fits}
 use Rattle.line.specs.Ends.{oneEnd}
 use Rattle.line.proofs.run.Statement.{statement}
 use Rattle.line.proofs.run.Tie as tie

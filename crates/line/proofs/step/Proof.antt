@@ -1,6 +1,6 @@
 use denote.Ref.{now}
 use native.Mathlib.Omega.{arith}
-use Rattle.stream.proofs.Steps.{step-none, step-line}
+use Rattle.line_io.proofs.Steps.{step-none, step-line}
 use Rattle.line.proofs.Ends.{cuts}
 use borrow.Author.Needs.{needs}
 use Rattle.line.proofs.step.Statement.{statement}

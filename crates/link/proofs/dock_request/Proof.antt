@@ -1,7 +1,7 @@
 use mathlib.Core.Path.{ap, sym, _∙_}
 use denote.Ref.{now}
 use lib.ListN.{length}
-use Rattle.calls.specs.Answers.{blockPart}
+use Rattle.call_spec.specs.Answers.{blockPart}
 use Rattle.link.specs.declared.Answer.{Answer}
 use Rattle.link.specs.Lent.{answerOf}
 use Rattle.link.proofs.Answers.{none-up}

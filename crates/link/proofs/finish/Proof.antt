@@ -1,11 +1,11 @@
 use denote.Ref.{now}
 use lib.ListN.{length}
 use Rattle.octets.specs.Octets.{Octets}
-use Rattle.calls.specs.declared.Call.{Call}
-use Rattle.calls.specs.Calls.{Arguments, given}
+use Rattle.call_spec.specs.declared.Call.{Call}
+use Rattle.call_spec.specs.Calls.{Arguments, given}
 use Rattle.endpoint.specs.Record.{decode}
-use Rattle.machine.proofs.Carries.{sendable, ready-to}
-use Rattle.machine.proofs.Carries as machine
+use Rattle.endpoint_step.proofs.Carries.{sendable, ready-to}
+use Rattle.endpoint_step.proofs.Carries as machine
 use Rattle.link.proofs.Answers.{lengths-long, blocks-long, refuses, accepts}
 use native.Mathlib.Omega.{arith}
 use borrow.Author.Needs.{needs}

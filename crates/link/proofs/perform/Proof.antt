@@ -1,6 +1,6 @@
 use denote.Ref.{now}
 use lib.ListN.{length}
-use Rattle.calls.specs.Calls.{given}
+use Rattle.call_spec.specs.Calls.{given}
 use Rattle.link.proofs.Answers.{turned-down, too-short}
 use borrow.Author.Needs.{needs}
 use Rattle.link.proofs.perform.Statement.{statement}

@@ -4,10 +4,10 @@ use denote.Ref.{now}
 use lib.ListN.{length}
 use Rattle.octets.specs.Test.{Outcome}
 use Rattle.protocol.specs.Table.{Step}
-use Rattle.calls.specs.declared.Call.the-variants.{Receive}
-use Rattle.calls.specs.Calls.{Arguments, given, performed}
-use Rattle.calls.specs.Answers.{noticeOf, blockPart}
-use Rattle.plan.specs.Internal.{blockBy}
+use Rattle.call_spec.specs.declared.Call.the-variants.{Receive}
+use Rattle.call_spec.specs.Calls.{Arguments, given, performed}
+use Rattle.call_spec.specs.Answers.{noticeOf, blockPart}
+use Rattle.step_plan.specs.Internal.{blockBy}
 use Rattle.link.specs.declared.Answer.{Answer}
 use Rattle.link.specs.Record.{format}
 use Rattle.link.specs.Lent.{statusOf, answerOf}

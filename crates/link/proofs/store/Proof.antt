@@ -2,7 +2,7 @@ use mathlib.Core.Path.{_≡_, sym, _∙_}
 use denote.Ref.{now}
 use Rattle.octets.proofs.Octets.{field-one}
 use Rattle.endpoint.specs.Record.{decode, waitingAt}
-use Rattle.machine.proofs.Places.{for-lengths, for-blocks}
+use Rattle.endpoint_step.proofs.Places.{for-lengths, for-blocks}
 use Rattle.link.proofs.Carries.{carried-out}
 use native.Mathlib.Omega.{arith}
 use borrow.Author.Needs.{needs}

@@ -1,0 +1,71 @@
+// The bench asked by lines of text: a line and its answer.
+use answer_text::Output;
+use bench_call::BenchAnswer;
+use octets::refusal;
+ghost use mathlib.Core.List.{_++_};
+ghost use Prim.Native.Nat.{_+_, _≤_};
+ghost use lib.ListN.{length, take, drop};
+ghost use Rattle.octets.specs.Sizes.{longestFrame, longestBlock};
+ghost use Rattle.answer_text.specs.Text.{textOf, Begins};
+ghost use Rattle.bench_spec.specs.Bench.{benchOf, lineAsks};
+ghost use Rattle.bench_answer.specs.Text.{lead, answerRoom, BenchAnswered};
+ghost use Rattle.bench_answer.specs.Internal.{Gives};
+
+// Room for an answer: what one end's answer needs, and two characters before it.
+pub const ANSWER_ROOM: usize = answer_text::ANSWER_ROOM + 2;
+
+// The digits of 50, which stands before an answer about A.
+const DIGIT_FIVE: u8 = 53;
+
+const DIGIT_ZERO: u8 = 48;
+
+// Writes the text of an answer to the start of out: 50 or 51, then the text as at one end. The block stands in the log.
+fn tell(r: BenchAnswer, log: &[u8], frame: &[u8], out: &mut [u8]) -> usize
+    requires { ⌜ (answerRoom ≤ length (now out)) × ((r .end ≤ 1) × ((r .block ≤ longestBlock) × ((r .at + r .block ≤ length (now log)) × ((r .sent ≤ longestFrame) × (r .sent ≤ length (now frame)))))) ⌝ }
+    ensures { λ n. ⌜ Begins (lead (r .end) ++ textOf (r .status) (take (r .block) (drop (r .at) (now (log .entry)))) (take (r .sent) (now (frame .entry)))) (now (out .entry)) (now (out .exit)) n ⌝ }
+{
+    octets::store8(out, 0, DIGIT_FIVE);
+    octets::store8(out, 1, DIGIT_ZERO + r.end);
+    let told = r.status;
+    let at = r.at;
+    let stop = at + r.block;
+    let sent = r.sent;
+    let n = answer_text::write_text(told, &log[at..stop], &frame[..sent], &mut out[2..]);
+    n + 2
+}
+
+// Plays a line and writes its answer.
+fn write(
+    a: &mut [u8],
+    b: &mut [u8],
+    log: &mut [u8],
+    count: &mut usize,
+    line: &[u8],
+    out: &mut [u8],
+) -> usize
+    requires { ⌜ answerRoom ≤ length (now out) ⌝ }
+    ensures { λ r. ⌜ Gives (benchOf (now (a .entry)) (now (b .entry)) (now (log .entry)) (now (count .entry))) (lineAsks (benchOf (now (a .entry)) (now (b .entry)) (now (log .entry)) (now (count .entry))) (now (line .entry)) longestFrame) (now (out .entry)) (now (a .exit)) (now (b .exit)) (now (log .exit)) (now (count .exit)) (now (out .exit)) r ⌝ }
+{
+    let mut frame = [0u8; octets::LONGEST_FRAME];
+    let r = bench_line::perform(a, b, log, *count, line, &mut frame);
+    *count = r.count;
+    tell(r, log, &frame, out)
+}
+
+// Answers a line, which is given without its line feed, on the bench with the records a and b, the log and so many places of it in
+// use: the answer line and, if a frame is sent, its line go to the start of out, which needs room for ANSWER_ROOM characters.
+pub fn answer(
+    a: &mut [u8],
+    b: &mut [u8],
+    log: &mut [u8],
+    count: &mut usize,
+    line: &[u8],
+    out: &mut [u8],
+) -> Output
+    ensures { λ r. ⌜ BenchAnswered (benchOf (now (a .entry)) (now (b .entry)) (now (log .entry)) (now (count .entry))) (now (line .entry)) (now (out .entry)) (now (a .exit)) (now (b .exit)) (now (log .exit)) (now (count .exit)) (now (out .exit)) r ⌝ }
+{
+    if out.len() < ANSWER_ROOM {
+        return Output::Refused(refusal::SHORT_BUFFER);
+    }
+    Output::Written(write(a, b, log, count, line, out))
+}

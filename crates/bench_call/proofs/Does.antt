@@ -1,0 +1,111 @@
+-- A call at one end of the bench: what it sends is logged, and what it answers is told.
+use Prim.Native.Nat.{ℕ, _+_, _≤_, _<_}
+use mathlib.Core.Path.{_≡_, refl, sym, subst, ap, _∙_}
+use mathlib.Core.Logic.{_≢_}
+use mathlib.Core.List.{List, []}
+use native.Mathlib.Omega.{arith}
+use lib.ListN.{length, take, drop}
+use Rattle.octets.specs.Sizes.{longestFrame}
+use Rattle.octets.specs.Test.{when, ifEq, Outcome, refused, ok}
+use Rattle.octets.proofs.Test.{eq-yes, eq-no}
+use Rattle.octets.proofs.Outcomes.{of-value, after-value}
+use Rattle.frame.specs.Frame.{Frame}
+use Rattle.frame.specs.Layout.{encode}
+use Rattle.protocol.specs.Table.{Step, Sent, nothing, frame}
+use Rattle.call_spec.specs.declared.Call.the-variants.{Request}
+use Rattle.call_spec.specs.Calls.{Arguments, given, wire, performed}
+use Rattle.call_spec.specs.Answers.{sentIn, blockOf}
+use Rattle.endpoint.specs.Record.{recordSize}
+use Rattle.link.specs.declared.Answer.{Answer}
+use Rattle.link.specs.Record.{format}
+use Rattle.link.specs.Lent.{sentOf, answerOf, Called}
+use Rattle.link.proofs.Answers.{sent-fits, sent-taken, none-up}
+use Rattle.bench_log.specs.Log.{places}
+use Rattle.bench_spec.specs.Bench.{sends, logged, callOutcome, logAfter, countAfter}
+use Rattle.bench_call.specs.declared.BenchAnswer.{BenchAnswer}
+use Rattle.bench_call.specs.Answer.{blockStart, benchAnswerOf}
+use Rattle.bench_call.specs.Internal.{noted, notedCount, blockPlace, answerFrom, Does}
+use Rattle.bench_call.proofs.Moves.{has-place}
+use Rattle.bench_call.proofs.Short.{sent-short}
+
+pub some-octets : (f : Frame) → length (encode f) ≢ 0
+unfolding encode
+some-octets f z = omega arith
+
+-- one place more is in use where a frame was sent
+counts-sent : (count : ℕ) (s : Sent) → notedCount count (length (wire s)) ≡ when (sends s) (count + 1) count
+unfolding notedCount sends wire when
+counts-sent count nothing = eq-yes 0 0 count (count + 1) refl
+counts-sent count (frame f) = eq-no (length (encode f)) 0 count (count + 1) (some-octets f)
+
+counts : (count : ℕ) (o : Outcome Step) → notedCount count (sentOf o) ≡ countAfter count o
+unfolding countAfter sentOf wire sends when
+counts count (refused n) = counts-sent count nothing
+counts count (ok x) = counts-sent count (x .sent)
+
+enters-sent : (i : ℕ) (log : List ℕ) (count : ℕ) (x : Step) (s : Sent) → x .sent ≡ s → noted i log count (wire s) ≡ logAfter i log count (ok x)
+unfolding noted logAfter sends wire when
+enters-sent i log count x nothing e = rw e (eq-yes 0 0 _ _ refl)
+enters-sent i log count x (frame f) e = rw e (eq-no (length (encode f)) 0 _ _ (some-octets f))
+
+enters : (i : ℕ) (log : List ℕ) (count : ℕ) (o : Outcome Step) → noted i log count (wire (sentIn o)) ≡ logAfter i log count o
+unfolding sentIn noted logAfter wire ifEq when
+enters i log count (refused n) = refl
+enters i log count (ok x) = enters-sent i log count x (x .sent) refl
+
+-- part by part
+pub answers : (i : ℕ) (m : Answer) (n count : ℕ) {at counted : ℕ} → at ≡ blockPlace n (m .block) → counted ≡ notedCount count (m .sent)
+    → record { end = i; status = m .status; sent = m .sent; at = at; block = m .block; count = counted } ≡ answerFrom i m n count
+unfolding answerFrom
+answers i m n count e k = rw (e, k) refl
+
+tells : (i : ℕ) (rec : List ℕ) (count n : ℕ) (o : Outcome Step) → answerFrom i (answerOf rec o) n count ≡ benchAnswerOf i rec count n o
+unfolding answerFrom answerOf benchAnswerOf blockPlace
+tells i rec count n o = rw (counts count o) refl
+
+-- what holds of the outcome of a call at an end, and of each refusal, holds of its outcome with 14
+pub with-14 : (P : Outcome Step → Type 0) → ((n : ℕ) → P (refused n)) → (rec : List ℕ) (count : ℕ) (c : Arguments) → P (performed format rec c)
+    → P (callOutcome rec count c)
+unfolding callOutcome logged
+with-14 P refusals rec count c h =
+    after-value P refusals (performed format rec c) (logged count) (λ x e. of-value P refusals _ x (subst P e h))
+
+-- a request hands nothing up, so no frame is asked for its block
+pub no-block : (rec : List ℕ) (count : ℕ) (s : List ℕ) (room : ℕ) → length (blockOf (callOutcome rec count (given Request s room))) ≡ 0
+unfolding blockOf
+no-block rec count s room =
+    ap length (with-14 (λ (o : Outcome Step). blockOf o ≡ []) (λ n. refl) rec count (given Request s room) (none-up rec s room))
+
+-- the block stands in the log where the answer says
+abbrev pub Stands : ℕ → List ℕ → List ℕ → Type 0
+Stands n log b = take (length b) (drop (ifEq (length b) 0 0 (blockStart n)) log) ≡ b
+
+module _ (i : ℕ) (rec log : List ℕ) (count n : ℕ) (c : Arguments) {s out rec′ out′ : List ℕ} {m : Answer} (w : Called (callOutcome rec count c) rec s out rec′ out′ m) where
+  abbrev o : Outcome Step
+  o = callOutcome rec count c
+
+  sent-is : m .sent ≡ sentOf o
+  unfolding answerOf
+  sent-is = ap (λ (x : Answer). x .sent) (w .answer)
+
+  -- what is sent can be logged
+  pub loggable : recordSize ≤ length rec → length out′ ≡ length out → (m .sent ≤ length out′) × ((m .sent ≤ longestFrame) × (m .sent ≢ 0 → count < places))
+  loggable h l = (
+    omega (arith, sent-fits out o (w .buffer) l sent-is, l),
+    (omega (arith, sent-is, sent-short rec count c h), λ z. has-place rec count c (λ y. z (sent-is ∙ y))),
+  )
+
+  pub does : Stands n (logAfter i log count o) (blockOf o) → {log′ : List ℕ} {r : BenchAnswer} → r ≡ answerFrom i m n count
+      → log′ ≡ noted i log count (take (m .sent) out′) → Does i rec log count n o out rec′ log′ out′ r
+  unfolding benchAnswerOf
+  does h e k =
+      let a = e ∙ ap (λ (x : Answer). answerFrom i x n count) (w .answer) ∙ tells i rec count n o in
+      let l = k ∙ ap (noted i log count) (sent-taken out o (w .buffer) sent-is) ∙ enters i log count o in
+      record { answer = a; end = w .end; entered = l; buffer = w .buffer; handed = rw (a, l) h }
+
+  -- without a block it does not matter which frame is told
+  pub any-frame : length (blockOf o) ≡ 0 → {r : BenchAnswer} → r ≡ answerFrom i m 0 count → r ≡ answerFrom i m n count
+  unfolding answerFrom blockPlace answerOf
+  any-frame h e =
+      let b : m .block ≡ 0 = ap (λ (x : Answer). x .block) (w .answer) ∙ h in
+      e ∙ answers i m n count (eq-yes _ 0 _ _ b ∙ sym (eq-yes _ 0 _ _ b)) refl

@@ -1,0 +1,92 @@
+-- The block handed up stands in the log where the answer says.
+use Prim.Native.Nat.{ℕ, zero, suc, _+_, _-_, _*_, _≤_, _<_}
+use mathlib.Core.Path.{_≡_, refl, sym, ap, _∙_}
+use mathlib.Core.Logic.{_≢_, _⊎_, inl, inr, ⊎-elim}
+use mathlib.Core.List.{List, [], _∷_}
+use native.Mathlib.Omega.{arith}
+use lib.ListN.{length, take, drop}
+use lib.Seq.{drop-drop}
+use Rattle.frame.specs.Layout.{dataBlockAt}
+use Rattle.octets.specs.Sizes.{longestFrame}
+use Rattle.octets.specs.Test.{when, Outcome, refused, ok}
+use Rattle.octets.proofs.Test.{by-eq, eq-no}
+use Rattle.protocol.specs.Table.{Step, Sent, nothing, frame}
+use Rattle.call_spec.specs.declared.Call.the-variants.{Receive}
+use Rattle.call_spec.specs.Calls.{Arguments, given, wire, performed}
+use Rattle.call_spec.specs.Answers.{noticeOf, blockOf}
+use Rattle.link.specs.Record.{format}
+use Rattle.link.specs.Lent.{sentOf}
+use Rattle.link.proofs.Answers.{block-five, block-none}
+use Rattle.bench_log.specs.Log.{placeSize, places, logSize, lengthAt, frameAt, place, placeHead}
+use Rattle.bench_log.proofs.Places.{stays}
+use Rattle.bench_spec.specs.Bench.{sends, callOutcome, logAfter}
+use Rattle.bench_call.specs.Answer.{blockStart}
+use Rattle.bench_call.proofs.Does.{some-octets, with-14, Stands}
+
+-- a block is empty, or what follows octet 14 of the frame received
+abbrev pub From : List ℕ → List ℕ → Type 0
+From s b = (b ≡ []) ⊎ (b ≡ drop dataBlockAt s)
+
+pub call-from : (rec : List ℕ) (count : ℕ) (c : Arguments) → From (c .octets) (blockOf (callOutcome rec count c))
+unfolding blockOf
+call-from rec count c =
+    with-14 (λ (o : Outcome Step). From (c .octets) (blockOf o)) (λ n. inl refl) rec count c
+    (by-eq (noticeOf (performed format rec c)) 5 (λ z. inr (sym (block-five rec c z))) (λ z. inl (sym (block-none rec c z))))
+
+-- the frame received stays in its place, since what is sent goes to a later one
+keeps-sent : (i : ℕ) (log : List ℕ) (count n : ℕ) (x : Step) (s : Sent) → x .sent ≡ s → (sentOf (ok x) ≢ 0 → count < places) → n < count → logSize ≤ length log
+    → lengthAt n log ≤ longestFrame → frameAt n (logAfter i log count (ok x)) ≡ frameAt n log
+unfolding logAfter sends when sentOf wire
+keeps-sent i log count n x nothing e left below long short = rw e refl
+keeps-sent i log count n x (frame f) e left below long short =
+    let c : count < places = left (λ z. some-octets f (sym (ap (λ (s : Sent). length (wire s)) e) ∙ z)) in
+    rw e (stays n count log (place i (wire (frame f))) below (omega arith) short .octets)
+
+keeps : (i : ℕ) (log : List ℕ) (count n : ℕ) (o : Outcome Step) → (sentOf o ≢ 0 → count < places) → n < count → logSize ≤ length log → lengthAt n log ≤ longestFrame
+    → frameAt n (logAfter i log count o) ≡ frameAt n log
+unfolding logAfter
+keeps i log count n (refused k) left below long short = refl
+keeps i log count n (ok x) left below long short = keeps-sent i log count n x (x .sent) refl left below long short
+
+-- a part of a list, read again
+again : (n : ℕ) (z : List ℕ) → take (length (take n z)) z ≡ take n z
+again zero z = refl
+again (suc n) [] = refl
+again (suc n) (x ∷ z) = ap (λ (t : List ℕ). x ∷ t) (again n z)
+
+take-none : (m : ℕ) → take {A = ℕ} m [] ≡ []
+take-none zero = refl
+take-none (suc m) = refl
+
+drop-part : (k n : ℕ) (z : List ℕ) → drop k (take n z) ≡ take (n - k) (drop k z)
+drop-part zero n z = let e : n ≡ n - 0 = omega arith in ap (λ (m : ℕ). take m z) e
+drop-part (suc k) zero z = let e : 0 ≡ 0 - suc k = omega arith in ap (λ (m : ℕ). take m (drop (suc k) z)) e
+drop-part (suc k) (suc n) [] = sym (take-none (suc n - suc k))
+drop-part (suc k) (suc n) (x ∷ z) = let e : n - k ≡ suc n - suc k = omega arith in drop-part k n z ∙ ap (λ (m : ℕ). take m (drop k z)) e
+
+block-part : (n : ℕ) (log : List ℕ) → take (length (drop dataBlockAt (frameAt n log))) (drop (blockStart n) log) ≡ drop dataBlockAt (frameAt n log)
+unfolding frameAt blockStart
+block-part n log =
+    let y = drop (n * placeSize + placeHead) log in
+    let m : n * placeSize + placeHead + dataBlockAt ≡ n * placeSize + (placeHead + dataBlockAt) = omega arith in
+    let e : drop dataBlockAt y ≡ drop (n * placeSize + (placeHead + dataBlockAt)) log = drop-drop dataBlockAt (n * placeSize + placeHead) log ∙ ap (λ (k : ℕ). drop k log) m in
+    rw (drop-part dataBlockAt (lengthAt n log) y, e) (again (lengthAt n log - dataBlockAt) (drop (n * placeSize + (placeHead + dataBlockAt)) log))
+
+pub none-stands : (n : ℕ) (log b : List ℕ) → length b ≡ 0 → Stands n log b
+none-stands n log [] h = refl
+none-stands n log (x ∷ b) h = absurd (omega arith)
+
+some-stands : (n : ℕ) (log b : List ℕ) → b ≡ drop dataBlockAt (frameAt n log) → Stands n log b
+some-stands n log b e =
+    by-eq (length b) 0 (none-stands n log b)
+    (λ z. rw (eq-no (length b) 0 0 (blockStart n) z, e) (block-part n log))
+
+pub stands : (i : ℕ) (rec log : List ℕ) (count n room : ℕ) → let o = callOutcome rec count (given Receive (frameAt n log) room) in
+    (sentOf o ≢ 0 → count < places) → n < count → logSize ≤ length log → lengthAt n log ≤ longestFrame → Stands n (logAfter i log count o) (blockOf o)
+stands i rec log count n room left below long short =
+    let o = callOutcome rec count (given Receive (frameAt n log) room) in
+    let log′ = logAfter i log count o in
+    ⊎-elim
+    (λ (e : blockOf o ≡ []). none-stands n log′ (blockOf o) (ap length e))
+    (λ (e : blockOf o ≡ drop dataBlockAt (frameAt n log)). some-stands n log′ (blockOf o) (e ∙ ap (drop dataBlockAt) (sym (keeps i log count n o left below long short))))
+    (call-from rec count (given Receive (frameAt n log) room))

@@ -1,0 +1,37 @@
+use denote.Ref.{now}
+use lib.ListN.{length}
+use Rattle.call_spec.specs.declared.Call.the-variants.{Receive}
+use Rattle.call_spec.specs.Calls.{Arguments, given}
+use Rattle.bench_log.specs.Log.{frameAt}
+use Rattle.bench_call.proofs.Does.{loggable, does}
+use Rattle.bench_call.proofs.Moves.{has-place}
+use Rattle.bench_call.proofs.Handed.{stands}
+use borrow.Author.Needs.{needs}
+use Rattle.bench_call.proofs.deliver_at.Statement.{statement}
+use Rattle.bench_call.proofs.deliver_at.Tie as tie
+
+abbrev call-of : tie.Start → Arguments
+call-of c = given Receive (frameAt (c .args .n) (now (c .args .log))) (length (now (c .args .out)))
+
+finish-requires : tie.Need-finish-requires
+finish-requires c κs =
+    let s = c .before .before .before .before .before .before .before .before .before .before .before .before .before .before in (
+      s .pre .1 .0,
+      (
+        search needs,
+        loggable (s .args .end) (now (s .args .rec)) (now (s .args .log)) (s .args .count) 0 (call-of s) (rw (c .before .before .before .before .before .before .before .before .frame-of .ensures) at (c .before .before .before .before .before .before .call-end .ensures)) (s .pre .0) (search needs),
+      ),
+    )
+
+returns : tie.Need-returns
+returns c =
+    let s = c .before .before .before .before .before .before .before .before .before .before .before .before .before .before .before .before .before in
+    let a = s .args in
+    let w = rw (c .before .before .before .before .before .before .before .before .before .before .before .frame-of .ensures) at (c .before .before .before .before .before .before .before .before .before .call-end .ensures) in
+    let h = stands (a .end) (now (a .rec)) (now (a .log)) (a .count) (a .n) (length (now (a .out))) (has-place (now (a .rec)) (a .count) (call-of s)) (s .pre .1 .1 .0 .0) (s .pre .1 .0) (s .pre .1 .1 .1) in
+    does (a .end) (now (a .rec)) (now (a .log)) (a .count) (a .n) (call-of s) w h (c .before .before .finish .ensures .0) (c .before .before .finish .ensures .1)
+
+pub deliver-at-spec : {M : Type 1} → statement M
+deliver-at-spec =
+    tie.close
+    (tie.spec (λ c κs. search needs) (λ c κs. search needs) finish-requires (λ c. search needs) (λ c. search needs) (λ c. search needs) returns)

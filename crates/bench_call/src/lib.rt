@@ -1,0 +1,127 @@
+// A call at one end of the bench: question 14, the frame sent in the log, and what is told.
+use call_spec::Call;
+use call_spec::Status;
+use link::Answer;
+use octets::refusal;
+use step_plan::Reply;
+ghost use mathlib.Core.Path.{_≡_};
+ghost use Prim.Native.Nat.{ℕ, _≤_, _<_};
+ghost use mathlib.Core.Logic.{_≢_};
+ghost use lib.ListN.{length, take};
+ghost use Rattle.octets.specs.Sizes.{longestFrame};
+ghost use Rattle.endpoint.specs.Record.{recordSize};
+ghost use Rattle.call_spec.specs.declared.Call.the-variants.{Request, Receive};
+ghost use Rattle.call_spec.specs.Calls.{given};
+ghost use Rattle.link.specs.Lent.{Called};
+ghost use Rattle.bench_log.specs.Log.{places, logSize, lengthAt, frameAt};
+ghost use Rattle.bench_spec.specs.Bench.{callOutcome};
+ghost use Rattle.bench_call.specs.Internal.{hasPlace, noted, notedCount, blockPlace, answerFrom, Does};
+
+// Question 14 of a plan: what sends a frame needs a place for it in the log.
+pub fn has_place(reply: Reply, count: usize) -> bool
+    ensures { λ r. ⌜ r ≡ hasPlace reply count ⌝ }
+{
+    match reply {
+        Reply::Nothing => true,
+        Reply::Frame(_) => count < bench_log::PLACES,
+    }
+}
+
+// A call of an end, with question 14 last, of its plan.
+fn call_end(call: Call, rec: &mut [u8], s: &[u8], count: usize, out: &mut [u8]) -> Answer
+    requires { ⌜ recordSize ≤ length (now rec) ⌝ }
+    ensures { λ r. ⌜ Called (callOutcome (now (rec .entry)) count (given call (now (s .entry)) (length (now (out .entry))))) (now (rec .entry)) (now (s .entry)) (now (out .entry)) (now (rec .exit)) (now (out .exit)) r ⌝ }
+{
+    let p = link::plan_call(call, rec, s, out.len());
+    let reply = p.reply;
+    if !has_place(reply, count) {
+        return link::refuse(rec, refusal::LOG_FULL);
+    }
+    link::finish(p, rec, s, out)
+}
+
+// Enters what was sent in the next place of the log, and counts it; nothing where nothing was sent.
+fn note(end: u8, log: &mut [u8], count: usize, sent: &[u8]) -> usize
+    requires { ⌜ (logSize ≤ length (now log)) × ((length (now sent) ≤ longestFrame) × (length (now sent) ≢ 0 → count < places)) ⌝ }
+    ensures { λ r. ⌜ (r ≡ notedCount count (length (now (sent .entry)))) × (now (log .exit) ≡ noted end (now (log .entry)) count (now (sent .entry))) ⌝ }
+{
+    if sent.len() == 0 {
+        return count;
+    }
+    bench_log::enter(log, count, end, sent);
+    count + 1
+}
+
+// The block of a DATA in its place of the log.
+const BLOCK_AT: usize = bench_log::FRAME_AT + frame::DATA_BLOCK_AT;
+
+// Where the block handed up from frame n stands in the log; 0 where there is none.
+fn block_place(n: usize, block: usize) -> usize
+    requires { ⌜ n < places ⌝ }
+    ensures { λ r. ⌜ r ≡ blockPlace n block ⌝ }
+{
+    if block == 0 {
+        return 0;
+    }
+    n * bench_log::PLACE_SIZE + BLOCK_AT
+}
+
+// What a line answers. end is 0 for A and 1 for B; a block handed up stands in the log, from at on.
+pub struct BenchAnswer {
+    pub end: u8,
+    pub status: Status,
+    pub sent: usize,
+    pub at: usize,
+    pub block: usize,
+    pub count: usize,
+}
+
+// Logs what a call at an end has sent to the start of out, and tells of the call; n is the frame received.
+fn finish(end: u8, a: Answer, n: usize, log: &mut [u8], count: usize, out: &[u8]) -> BenchAnswer
+    requires { ⌜ (logSize ≤ length (now log)) × ((n < places) × ((a .sent ≤ length (now out)) × ((a .sent ≤ longestFrame) × (a .sent ≢ 0 → count < places)))) ⌝ }
+    ensures { λ r. ⌜ (r ≡ answerFrom end a n count) × (now (log .exit) ≡ noted end (now (log .entry)) count (take (a .sent) (now (out .entry)))) ⌝ }
+{
+    let sent = a.sent;
+    let counted = note(end, log, count, &out[..sent]);
+    let status = a.status;
+    BenchAnswer {
+        end,
+        status,
+        sent,
+        at: block_place(n, a.block),
+        block: a.block,
+        count: counted,
+    }
+}
+
+// A request at an end.
+pub fn request_at(
+    end: u8,
+    rec: &mut [u8],
+    s: &[u8],
+    log: &mut [u8],
+    count: usize,
+    out: &mut [u8],
+) -> BenchAnswer
+    requires { ⌜ (recordSize ≤ length (now rec)) × (logSize ≤ length (now log)) ⌝ }
+    ensures { λ r. ⌜ ((n : ℕ) → Does end (now (rec .entry)) (now (log .entry)) count n (callOutcome (now (rec .entry)) count (given Request (now (s .entry)) (length (now (out .entry))))) (now (out .entry)) (now (rec .exit)) (now (log .exit)) (now (out .exit)) r) ⌝ }
+{
+    let a = call_end(Call::Request, rec, s, count, out);
+    finish(end, a, 0, log, count, out)
+}
+
+// Frame n of the log, delivered to an end.
+pub fn deliver_at(
+    end: u8,
+    rec: &mut [u8],
+    n: usize,
+    log: &mut [u8],
+    count: usize,
+    out: &mut [u8],
+) -> BenchAnswer
+    requires { ⌜ (recordSize ≤ length (now rec)) × ((logSize ≤ length (now log)) × (((n < count) × (count ≤ places)) × (lengthAt n (now log) ≤ longestFrame))) ⌝ }
+    ensures { λ r. ⌜ Does end (now (rec .entry)) (now (log .entry)) count n (callOutcome (now (rec .entry)) count (given Receive (frameAt n (now (log .entry))) (length (now (out .entry))))) (now (out .entry)) (now (rec .exit)) (now (log .exit)) (now (out .exit)) r ⌝ }
+{
+    let a = call_end(Call::Receive, rec, bench_log::frame_of(log, n), count, out);
+    finish(end, a, n, log, count, out)
+}

@@ -1,0 +1,25 @@
+-- What a bench line answers, and every octet that it leaves.
+use Prim.Native.Nat.{ℕ}
+use mathlib.Core.List.{List}
+use lib.ListN.{length}
+use Rattle.octets.specs.Octets.{field}
+use Rattle.hex.specs.Line.{unhex}
+use Rattle.bench_spec.specs.Bench.{Bench, lineAsks}
+use Rattle.bench_call.specs.declared.BenchAnswer.{BenchAnswer}
+use Rattle.bench_order.specs.Performed.{Performed}
+
+-- A line's text: all questions up to 13, in document 01's order, give the call.
+abbrev pub LinePerformed : Bench → List ℕ → List ℕ → List ℕ → List ℕ → List ℕ → List ℕ → BenchAnswer → Type 0
+LinePerformed w line out a b log out′ r = Performed w (lineAsks w line (length out)) (field 2 1 (unhex line)) out a b log out′ r
+
+-- the answer in numbers, for programs in C
+abbrev pub answerIn : ℕ → ℕ → ℕ → ℕ → ℕ → ℕ → ℕ → ℕ → ℕ → ℕ → BenchAnswer
+answerIn number end state notice local remote sent at block count =
+    record {
+      end = end;
+      status = record { number = number; state = state; notice = notice; local = local; remote = remote };
+      sent = sent;
+      at = at;
+      block = block;
+      count = count;
+    }

@@ -1,0 +1,105 @@
+-- What an order comes to, from what its parts answer.
+use Prim.Native.Nat.{ℕ, _+_, _-_, _*_}
+use mathlib.Core.Path.{_≡_, refl, ap, _∙_}
+use mathlib.Core.Logic.{_≢_}
+use mathlib.Core.Bool.{true, false}
+use mathlib.Core.List.{List, [], _∷_}
+use native.Mathlib.Omega.{arith}
+use lib.Dec.{eqb}
+use lib.ListN.{length, drop, getD}
+use borrow.Author.Tests.{eq-eqb, ne-eqb}
+use Rattle.octets.specs.Test.{when, ifEq, first, Outcome, refused, ok, outcome, refusing, mapped, andThen}
+use Rattle.octets.specs.Octets.{field, left}
+use Rattle.octets.proofs.Test.{eq-yes, eq-no}
+use Rattle.octets.proofs.Octets.{field-more, field-one}
+use Rattle.frame.specs.Read.{kindOf}
+use Rattle.call_spec.specs.declared.Call.the-variants.{Request, Receive}
+use Rattle.call_spec.specs.Calls.{Arguments, given, recordAfter, bufferAfter}
+use Rattle.call_spec.specs.Answers.{blockOf}
+use Rattle.bench_log.specs.Log.{senderAt, frameAt, holds}
+use Rattle.bench_log.proofs.Log.{held}
+use Rattle.bench_spec.specs.Bench.{Bench, benchOf, recordAt, At, delivery, octetsAsk, callOutcome, comes, endOf, logAfter, countAfter, benchAfter}
+use Rattle.link.specs.declared.Answer.{Answer}
+use Rattle.link.specs.Lent.{answerOf}
+use Rattle.bench_call.specs.declared.BenchAnswer.{BenchAnswer}
+use Rattle.bench_call.specs.Answer.{benchAnswerOf}
+use Rattle.bench_call.specs.Internal.{Does}
+use Rattle.bench_order.specs.Performed.{Performed}
+
+-- a refusal tells of A's record
+pub told : (rec : List ℕ) (number count n : ℕ) {m : Answer} → m ≡ answerOf rec (refused number)
+    → record { end = 0; status = m .status; sent = m .sent; at = 0; block = m .block; count = count } ≡ benchAnswerOf 0 rec count n (refused number)
+unfolding benchAnswerOf answerOf countAfter blockOf ifEq when
+told rec number count n e = rw e refl
+
+module _ (a b log : List ℕ) (count : ℕ) where
+  abbrev w : Bench
+  w = benchOf a b log count
+
+  -- a refused line leaves all as it is
+  pub declines : {q : Outcome At} (n k : ℕ) (out : List ℕ) {r : BenchAnswer} → q ≡ refused k → r ≡ benchAnswerOf 0 a count n (refused k)
+      → Performed w q n out a b log out r
+  unfolding comes endOf andThen recordAt benchAfter benchAnswerOf recordAfter bufferAfter mapped left logAfter countAfter blockOf ifEq when
+  declines n k out e h =
+      rw e (record { answer = h; bench = λ i. benchOf a b log (h i .count); buffer = refl; handed = rw h refl })
+
+  -- a call at an end leaves the other as it is
+  pub at-a : {q : Outcome At} (n : ℕ) (c : Arguments) (out : List ℕ) {a′ log′ out′ : List ℕ} {r : BenchAnswer} → q ≡ ok (0, c)
+      → Does 0 a log count n (callOutcome a count c) out a′ log′ out′ r → Performed w q n out a′ b log′ out′ r
+  unfolding comes endOf andThen recordAt benchAfter benchAnswerOf ifEq when
+  at-a n c out e d =
+      rw e (record { answer = d .answer; bench = λ i. benchOf (d .end i) b (d .entered i) (d .answer i .count); buffer = d .buffer; handed = d .handed })
+
+  pub at-b : {q : Outcome At} (n : ℕ) (c : Arguments) (out : List ℕ) {b′ log′ out′ : List ℕ} {r : BenchAnswer} → q ≡ ok (1, c)
+      → Does 1 b log count n (callOutcome b count c) out b′ log′ out′ r → Performed w q n out a b′ log′ out′ r
+  unfolding comes endOf andThen recordAt benchAfter benchAnswerOf ifEq when
+  at-b n c out e d =
+      rw e (record { answer = d .answer; bench = λ i. benchOf a (d .end i) (d .entered i) (d .answer i .count); buffer = d .buffer; handed = d .handed })
+
+  -- question 13
+  pub no-frame : (n room : ℕ) → holds count n log ≡ false → delivery w n room ≡ refused 13
+  unfolding delivery first when outcome
+  no-frame n room h = rw h refl
+
+  goes : (n room : ℕ) → holds count n log ≡ true → delivery w n room ≡ ok (1 - senderAt n log, given Receive (frameAt n log) room)
+  unfolding delivery first when outcome
+  goes n room h = rw h refl
+
+  pub to-b : (n room : ℕ) → holds count n log ≡ true → senderAt n log ≡ 0 → delivery w n room ≡ ok (1, given Receive (frameAt n log) room)
+  to-b n room h z = goes n room h ∙ ap (λ (i : ℕ). ok (1 - i, given Receive (frameAt n log) room)) z
+
+  pub to-a : (n room : ℕ) → holds count n log ≡ true → senderAt n log ≢ 0 → delivery w n room ≡ ok (0, given Receive (frameAt n log) room)
+  to-a n room h z =
+      let one : senderAt n log ≡ 1 = omega (arith, held count n log h .sender, z) in
+      goes n room h ∙ ap (λ (i : ℕ). ok (1 - i, given Receive (frameAt n log) room)) one
+
+  -- what a line's octets ask, by their kind
+  module _ (s : List ℕ) (room : ℕ) where
+    pub asks-a : kindOf s ≡ 80 → octetsAsk w s room ≡ ok (0, given Request (drop 1 s) room)
+    unfolding octetsAsk
+    asks-a h = eq-yes (kindOf s) 80 _ _ h
+
+    pub asks-b : kindOf s ≢ 80 → kindOf s ≡ 81 → octetsAsk w s room ≡ ok (1, given Request (drop 1 s) room)
+    unfolding octetsAsk
+    asks-b x h = eq-no (kindOf s) 80 _ _ x ∙ eq-yes (kindOf s) 81 _ _ h
+
+    pub asks-none : kindOf s ≢ 80 → kindOf s ≢ 81 → kindOf s ≢ 82 → octetsAsk w s room ≡ refused 3
+    unfolding octetsAsk
+    asks-none x y h = eq-no (kindOf s) 80 _ _ x ∙ eq-no (kindOf s) 81 _ _ y ∙ eq-no (kindOf s) 82 _ _ h
+
+    fetches : kindOf s ≡ 82 → octetsAsk w s room ≡ refusing (first ((4, eqb (length s) 3) ∷ [])) (delivery w (field 2 1 s) room)
+    unfolding octetsAsk
+    fetches h =
+        eq-no (kindOf s) 80 _ _ (λ z. omega (arith, h, z)) ∙ eq-no (kindOf s) 81 _ _ (λ z. omega (arith, h, z)) ∙ eq-yes (kindOf s) 82 _ _ h
+
+    pub asks-short : kindOf s ≡ 82 → length s ≢ 3 → octetsAsk w s room ≡ refused 4
+    unfolding first when refusing
+    asks-short h x = fetches h ∙ rw (ne-eqb (length s) 3 x) refl
+
+    pub asks-frame : kindOf s ≡ 82 → length s ≡ 3 → {n : ℕ} → n ≡ field 2 1 s → octetsAsk w s room ≡ delivery w n room
+    unfolding first when refusing
+    asks-frame h x e = rw e (fetches h ∙ rw (eq-eqb (length s) 3 x) refl)
+
+-- the number of 2 octets
+pub number-of : (s : List ℕ) → length s ≡ 3 → field 2 1 s ≡ getD s 1 0 * 256 + getD s 2 0
+number-of s h = field-more 1 1 s (omega arith) ∙ ap (λ (x : ℕ). x * 256 + getD s 2 0) (field-one 1 s (omega arith))

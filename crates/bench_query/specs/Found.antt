@@ -1,0 +1,51 @@
+-- What the question answers (document 01, "Bench": name some frame in the book whose delivery now would be accepted and change the
+-- receiver's record; "none" exactly when no frame would).
+use Prim.Native.Nat.{ℕ, _<_}
+use mathlib.Core.Path.{_≡_}
+use mathlib.Core.Logic.{_≢_}
+use mathlib.Core.List.{List, []}
+use Rattle.octets.specs.Sizes.{longestFrame}
+use Rattle.octets.specs.Test.{Question, first, Outcome, numberOf}
+use Rattle.protocol.specs.Table.{Step}
+use Rattle.call_spec.specs.Calls.{recordAfter}
+use Rattle.link.specs.Record.{format}
+use Rattle.bench_log.specs.Log.{places}
+use Rattle.bench_spec.specs.Bench.{Bench, recordAt, sizeQuestions, soundQuestions, delivery, comes, endOf}
+use Rattle.bench_query.specs.declared.Found.{Found}
+use Rattle.bench_query.specs.declared.Found.the-variants.{Frame, Nothing, Refused}
+
+-- A call with this outcome is accepted and changes the record.
+pub record Changes (rec : List ℕ) (o : Outcome Step) : Type 0 where
+  pub accepted : numberOf o ≡ 0
+  pub changed : recordAfter format rec o ≢ rec
+
+-- The delivery of frame n now is such a call. One that 14 refuses is not, since then nothing would be delivered.
+abbrev pub WouldChange : Bench → ℕ → Type 0
+WouldChange w n = Changes (recordAt (endOf (delivery w n longestFrame)) w) (comes w (delivery w n longestFrame))
+
+-- 11 and 12, as for a line; no buffer for a frame is lent.
+abbrev pub questions : Bench → List Question
+questions w = sizeQuestions w (soundQuestions w [])
+
+-- Which of the frames that matter is named is left open.
+abbrev pub Answers : Bench → Found → Type 0
+Answers w (Frame n) = (first (questions w) ≡ 0) × ((n < w .count) × WouldChange w n)
+Answers w Nothing = (first (questions w) ≡ 0) × ((n : ℕ) → WouldChange w n → ⊥)
+Answers w (Refused k) = (first (questions w) ≡ k) × (k ≢ 0)
+
+-- For C: the number, and the frame's number, which is below 512 where there is one.
+unfoldable pub numberIn : Found → ℕ
+numberIn (Frame n) = 0
+numberIn Nothing = 0
+numberIn (Refused k) = k
+
+unfoldable pub frameIn : Found → ℕ
+frameIn (Frame n) = n
+frameIn Nothing = places
+frameIn (Refused k) = places
+
+pub record FrameNamed (w : Bench) (number frame : ℕ) : Type 0 where
+  pub found : Found
+  pub answers : Answers w found
+  pub is-number : number ≡ numberIn found
+  pub is-frame : frame ≡ frameIn found

@@ -1,0 +1,17 @@
+-- Parts of the question, for the code. No public call's contract needs this.
+use mathlib.Core.Bool.{Bool, true, false, _&&_}
+use lib.Dec.{eqb}
+use Rattle.step_rules.specs.declared.Numbers.{Numbers}
+
+-- a test that tells whether P holds
+abbrev pub Says : Bool → Type 0 → Type 0
+Says true P = P
+Says false P = P → ⊥
+
+unfoldable pub sameNumbers : Numbers → Numbers → Bool
+sameNumbers n m =
+    eqb (n .state) (m .state)
+    && (eqb (n .local) (m .local)
+    && (eqb (n .remote) (m .remote)
+    && (eqb (n .accepted) (m .accepted)
+    && (eqb (n .delivered) (m .delivered) && eqb (n .waiting) (m .waiting)))))

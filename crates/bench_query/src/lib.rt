@@ -1,0 +1,115 @@
+// The question of the bench: some frame in the log whose delivery now would be accepted and change the receiver's record.
+use step_rules::Numbers;
+ghost use mathlib.Core.Path.{_≡_};
+ghost use mathlib.Core.Bool.{true};
+ghost use Prim.Native.Nat.{_≤_};
+ghost use lib.ListN.{length};
+ghost use Rattle.octets.specs.Test.{first};
+ghost use Rattle.endpoint.specs.Record.{recordSize};
+ghost use Rattle.octets.specs.Sizes.{longestFrame};
+ghost use Rattle.call_spec.specs.declared.Call.the-variants.{Receive};
+ghost use Rattle.call_spec.specs.Calls.{given};
+ghost use Rattle.link.specs.Record.{format};
+ghost use Rattle.bench_spec.specs.Bench.{benchOf, callOutcome};
+ghost use Rattle.bench_query.specs.Found.{Changes, WouldChange, questions, Answers, FrameNamed};
+ghost use Rattle.bench_query.specs.Internal.{sameNumbers, Says};
+
+// What the question answers: a frame's number, none, or the number of a refusal.
+pub enum Found {
+    Frame(usize),
+    Nothing,
+    Refused(u8),
+}
+
+// All six are compared without a branch between them.
+fn same(n: Numbers, m: Numbers) -> bool
+    ensures { λ r. ⌜ r ≡ sameNumbers n m ⌝ }
+{
+    (n.state == m.state)
+        & ((n.local == m.local)
+            & ((n.remote == m.remote)
+                & ((n.accepted == m.accepted)
+                    & ((n.delivered == m.delivered) & (n.waiting == m.waiting)))))
+}
+
+// Whether receiving s would be accepted, by 14 too, and change the record. The plan for it tells: the waiting blocks change only
+// with their count, so that the numbers are all that is compared, and nothing is copied.
+fn changes(rec: &[u8], s: &[u8], count: usize) -> bool
+    requires { ⌜ (recordSize ≤ length (now rec)) × (format .sound (now rec) ≡ true) ⌝ }
+    ensures { λ r. ⌜ Says r (Changes (now (rec .entry)) (callOutcome (now (rec .entry)) count (given Receive (now (s .entry)) longestFrame))) ⌝ }
+{
+    let n = endpoint::load_numbers(rec);
+    let p = step_receive::receive(n, s);
+    if p.number != step_plan::ACCEPTED {
+        return false;
+    }
+    let reply = p.reply;
+    if !bench_call::has_place(reply, count) {
+        return false;
+    }
+    let m = p.numbers;
+    !same(m, n)
+}
+
+// Whether the delivery of frame n would. It goes to the end that did not send it.
+fn would_change(a: &[u8], b: &[u8], log: &[u8], count: usize, n: usize) -> bool
+    requires { ⌜ first (questions (benchOf (now a) (now b) (now log) count)) ≡ 0 ⌝ }
+    ensures { λ r. ⌜ Says r (WouldChange (benchOf (now (a .entry)) (now (b .entry)) (now (log .entry)) count) n) ⌝ }
+{
+    if !bench_log::holds(log, count, n) {
+        return false;
+    }
+    let s = bench_log::frame_of(log, n);
+    if bench_log::sender_of(log, n) == 0 {
+        return changes(b, s, count);
+    }
+    changes(a, s, count)
+}
+
+// Asks 11 and 12 of the records, the log and the count, then frame by frame.
+pub fn some_frame(a: &[u8], b: &[u8], log: &[u8], count: usize) -> Found
+    ensures { λ r. ⌜ Answers (benchOf (now (a .entry)) (now (b .entry)) (now (log .entry)) count) r ⌝ }
+{
+    let refusal = bench_checks::ready(a, b, log, count, octets::LONGEST_FRAME);
+    if refusal != 0 {
+        return Found::Refused(refusal);
+    }
+    let mut i: usize = 0;
+    loop {
+        if i >= count {
+            break Found::Nothing;
+        }
+        if would_change(a, b, log, count, i) {
+            break Found::Frame(i);
+        }
+        i += 1;
+    }
+}
+
+// The same for programs in C: answers the number; the frame's goes to the last, 512 where there is none.
+#[no_mangle]
+pub extern "C" fn dock_some_frame(
+    a: &[u8],
+    b: &[u8],
+    log: &[u8],
+    count: usize,
+    frame: &mut usize,
+) -> u8
+    ensures { λ r. ⌜ FrameNamed (benchOf (now (a .entry)) (now (b .entry)) (now (log .entry)) count) r (now (frame .exit)) ⌝ }
+{
+    let found = some_frame(a, b, log, count);
+    match found {
+        Found::Frame(n) => {
+            *frame = n;
+            0
+        }
+        Found::Nothing => {
+            *frame = bench_log::PLACES;
+            0
+        }
+        Found::Refused(number) => {
+            *frame = bench_log::PLACES;
+            number
+        }
+    }
+}

@@ -1,0 +1,189 @@
+-- A bench run is a list of calls whose deliveries are due, it leaves the records that the list leaves, and demand 3 holds of it.
+--
+use Prim.Native.Nat.{ℕ, zero, suc, _≤_}
+use mathlib.Core.Path.{_≡_, refl, sym, ap, ap₂, _∙_}
+use mathlib.Core.Bool.{true}
+use mathlib.Core.List.{List, [], _∷_}
+use native.Mathlib.Omega.{arith}
+use lib.Dec.{ltb}
+use lib.ListN.{length}
+use Rattle.octets.specs.Sizes.{longestFrame}
+use Rattle.octets.specs.Test.{when, ifEq, Outcome, refused, ok, mapped, andThen}
+use Rattle.octets.specs.Octets as octets
+use Rattle.octets.proofs.Test.{if-eq, accepted, all-yes, then-of}
+use Rattle.frame.specs.Frame.{Frame}
+use Rattle.frame.specs.Layout.{encode}
+use Rattle.protocol.specs.Table.{frame, Step}
+use Rattle.protocol.specs.World.{End, Entry, atA, atB, Two, called, run, DueAt, AllDue, BothNew}
+use Rattle.protocol.specs.World as world
+use Rattle.protocol.specs.Limits.{Sized}
+use Rattle.protocol.proofs.World.{Simulates, turned, entry-at, new-held, run-append, due-append}
+use Rattle.protocol.proofs.World as law
+use Rattle.protocol.proofs.Theorem.{Roomy, roomy, limited}
+use Rattle.call_spec.specs.Calls.{Arguments, performed, recordAfter}
+use Rattle.call_spec.proofs.Lift.{Lies, lies}
+use Rattle.link.specs.Record.{format, ends}
+use Rattle.link.proofs.Demand.{lawful, no-end-alone}
+use Rattle.bench_log.specs.Log.{places, logSize}
+use Rattle.bench_spec.specs.Bench.{Bench, At, recordAt, lineAsks, sends, logged, callOutcome, comes, endOf, logAfter, countAfter, benchAfter}
+use Rattle.bench_spec.specs.Run.{Line, lineAfter, linesAfter, entry, entriesOf, callsOf, newEnds, newBench, Holds}
+use Rattle.bench_spec.proofs.Sends.{grows, has-sent, encode-short}
+use Rattle.bench_spec.proofs.Logged.{Among, Logged, Grows, still, logs}
+use Rattle.bench_spec.proofs.Fair.{asked-fair}
+
+-- the ends of the list of calls
+abbrev Held : End (List ℕ) → End (List ℕ) → Type 0
+Held = law.Held ends Roomy (Lies format)
+
+abbrev does : Simulates ends Roomy Sized (Lies format)
+does = lies format lawful
+
+-- the bench beside them
+record Beside (w : Bench) (e : Two ends) : Type 0 where
+  pub a : w .a ≡ e .a .rec
+  pub b : w .b ≡ e .b .rec
+  pub log : Logged e (w .count) (w .log)
+  pub held : Held (e .a) (e .b)
+
+-- a refusal leaves the bench
+refusal : {w : Bench} {e : Two ends} → Beside w e → (i n : ℕ) → Beside (benchAfter i w (refused n)) e
+unfolding benchAfter recordAfter mapped octets.left logAfter countAfter
+refusal {w} {e} h i n =
+    record {
+      a = if-eq (λ (x : List ℕ). x ≡ e .a .rec) i 0 (λ _. h .a) (λ _. h .a);
+      b = if-eq (λ (x : List ℕ). x ≡ e .b .rec) i 0 (λ _. h .b) (λ _. h .b);
+      log = h .log;
+      held = h .held;
+    }
+
+-- what an accepted call came to: its own outcome, and a place left if it sends
+came : (rec : List ℕ) (count : ℕ) (c : Arguments) {y : Step} → callOutcome rec count c ≡ ok y
+    → (performed format rec c ≡ ok y) × (when (sends (y .sent)) (ltb count places) true ≡ true)
+unfolding callOutcome logged
+came rec count c h =
+    let r = then-of (performed format rec c) (logged count) h in
+    let a = accepted _ _ (r .2) in
+    (r .1 ∙ ap ok (a .1), rw (a .1) at (all-yes 14 _ _ (a .0) tt .0))
+
+-- what an accepted call at an end adds to it
+record Adds (x : End (List ℕ)) (rec : List ℕ) (count : ℕ) (c : Arguments) (y : Step) : Type 0 where
+  pub leaves : recordAfter format rec (ok y) ≡ called ends c x .rec
+  pub place-left : when (sends (y .sent)) (ltb count places) true ≡ true
+  pub grown : Grows (x .history) (called ends c x .history)
+  pub short : (f : Frame) → y .sent ≡ frame f → length (encode f) ≤ longestFrame
+  pub among : (f : Frame) → y .sent ≡ frame f → Among (encode f) (called ends c x .history)
+
+adds : (x other : End (List ℕ)) {rec : List ℕ} (count : ℕ) (c : Arguments) {y : Step} → rec ≡ x .rec → Held (called ends c x) other
+    → callOutcome rec count c ≡ ok y → Adds x rec count c y
+unfolding called
+adds x other {rec} count c {y} e held m =
+    let r = came rec count c m in
+    let k : performed format (x .rec) c ≡ ok y = rw e at (r .0) in
+    record {
+      leaves = ap₂ (recordAfter format) e (sym k);
+      place-left = r .1;
+      grown = grows c x k;
+      short = λ f t. encode-short (limited (held .both) .fits f (has-sent c x k f t .0));
+      among = λ f t. has-sent c x k f t .1;
+    }
+
+-- an accepted call at A, and at B
+at-a : {w : Bench} {e : Two ends} → Beside w e → (c : Arguments) → DueAt ends (atA c) e → logSize ≤ length (w .log)
+    → {y : Step} → callOutcome (w .a) (w .count) c ≡ ok y → Beside (benchAfter 0 w (ok y)) (world.made ends (atA c) e)
+unfolding benchAfter ifEq when logAfter countAfter
+at-a {w} {e} h c d room {y} m =
+    let held = entry-at ends roomy does (atA c) e (h .held) d in
+    let x = adds (e .a) (e .b) (w .count) c (h .a) held m in
+    record {
+      a = x .leaves;
+      b = h .b;
+      log =
+          logs (world.made ends (atA c) e) (w .count) _ (w .log) (y .sent) (still (x .grown) (λ s z. z) (w .count) (w .log) (h .log)) room (x .place-left)
+          (λ f t. record { short = x .short f t; by-a = λ _. x .among f t; by-b = λ j. absurd (omega arith) });
+      held = held;
+    }
+
+at-b : {w : Bench} {e : Two ends} → Beside w e → (c : Arguments) → DueAt ends (atB c) e → logSize ≤ length (w .log)
+    → {y : Step} → callOutcome (w .b) (w .count) c ≡ ok y → Beside (benchAfter 1 w (ok y)) (world.made ends (atB c) e)
+unfolding benchAfter ifEq when logAfter countAfter
+at-b {w} {e} h c d room {y} m =
+    let held = entry-at ends roomy does (atB c) e (h .held) d in
+    let x = adds (e .b) (e .a) (w .count) c (h .b) (turned ends roomy does held) m in
+    record {
+      a = h .a;
+      b = x .leaves;
+      log =
+          logs (world.made ends (atB c) e) (w .count) _ (w .log) (y .sent) (still (λ s z. z) (x .grown) (w .count) (w .log) (h .log)) room (x .place-left)
+          (λ f t. record { short = x .short f t; by-a = λ j. absurd (omega arith); by-b = λ _. x .among f t });
+      held = held;
+    }
+
+-- at either
+accepts : {w : Bench} {e : Two ends} → Beside w e → (i : ℕ) (c : Arguments) → i ≤ 1 → DueAt ends (entry (i, c)) e → logSize ≤ length (w .log)
+    → {y : Step} → callOutcome (recordAt i w) (w .count) c ≡ ok y → Beside (benchAfter i w (ok y)) (world.made ends (entry (i, c)) e)
+unfolding entry recordAt ifEq when
+accepts h zero c l d room m = at-a h c d room m
+accepts h (suc zero) c l d room m = at-b h c d room m
+accepts h (suc (suc i)) c l d room m = absurd (omega arith)
+
+-- one line
+record Goes (w : Bench) (e : Two ends) (x : Outcome At) (o : Outcome Step) : Type 0 where
+  pub left : Beside (benchAfter (endOf x) w o) (run ends e (entriesOf x o))
+  pub due : AllDue ends e (entriesOf x o)
+
+goes : {w : Bench} {e : Two ends} → Beside w e → (l : Line) (x : Outcome At) (o : Outcome Step)
+    → lineAsks w (l .0) (l .1) ≡ x → comes w x ≡ o → Goes w e x o
+unfolding entriesOf comes andThen endOf
+goes h l (refused n) (refused m) j k = record { left = refusal h 0 m; due = tt }
+goes h l (refused n) (ok y) j k = absurd (let z : _≡_ {A = ℕ} 0 1 = cc in omega arith)
+goes h l (ok x) (refused m) j k = record { left = refusal h (x .0) m; due = tt }
+goes {w} {e} h l (ok x) (ok y) j k =
+    let f = asked-fair w e (h .log) (l .0) (l .1) x j in
+    record { left = accepts h (x .0) (x .1) (f .0 .0) (f .0 .1) (f .1) k; due = (f .0 .1, tt) }
+
+-- all lines
+record GoesAll (w : Bench) (e : Two ends) (ls : List Line) : Type 0 where
+  pub left : Beside (linesAfter w ls) (run ends e (callsOf w ls))
+  pub due : AllDue ends e (callsOf w ls)
+
+-- what a line asks, and the calls that it makes
+module _ (w : Bench) (l : Line) where
+  abbrev asks : Outcome At
+  asks = lineAsks w (l .0) (l .1)
+
+  abbrev calls-callOutcome : List (Entry Arguments)
+  calls-callOutcome = entriesOf asks (comes w asks)
+
+line-goes : {w : Bench} {e : Two ends} → Beside w e → (l : Line) → Goes w e (asks w l) (comes w (asks w l))
+line-goes {w} h l = goes h l (asks w l) (comes w (asks w l)) refl refl
+
+one-more : {w : Bench} {e : Two ends} (l : Line) (ls : List Line) → Goes w e (asks w l) (comes w (asks w l))
+    → GoesAll (lineAfter w l) (run ends e (calls-callOutcome w l)) ls → GoesAll w e (l ∷ ls)
+unfolding linesAfter callsOf
+one-more {w} {e} l ls g r =
+    let ds = callsOf (lineAfter w l) ls in
+    record { left = rw (run-append ends e (calls-callOutcome w l) ds) (r .left); due = due-append ends e (calls-callOutcome w l) ds (g .due) (r .due) }
+
+goes-all : {w : Bench} {e : Two ends} → Beside w e → (ls : List Line) → GoesAll w e ls
+unfolding lineAfter linesAfter callsOf
+goes-all h [] = record { left = h; due = tt }
+goes-all h (l ∷ ls) = let g = line-goes h l in one-more l ls g (goes-all (g .left) ls)
+
+-- at the start
+fresh-ends : (p q : List ℕ) → BothNew ends (newEnds p q)
+fresh-ends p q = (((p, refl), refl), ((q, refl), refl))
+
+new : (p q log : List ℕ) → Beside (newBench p q log) (newEnds p q)
+unfolding newBench
+new p q log =
+    record { a = refl; b = refl; log = λ k l. absurd (omega arith); held = new-held ends roomy does (newEnds p q) (fresh-ends p q) }
+
+pub bench-run : (p q log : List ℕ) (lines : List Line) → Holds p q log lines
+bench-run p q log lines =
+    let g = goes-all (new p q log) lines in
+    record {
+      due = g .due;
+      end-a = g .left .a;
+      end-b = g .left .b;
+      demand = no-end-alone (newEnds p q) (fresh-ends p q) (callsOf (newBench p q log) lines) (g .due);
+    }

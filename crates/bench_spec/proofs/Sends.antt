@@ -1,0 +1,53 @@
+-- What an accepted call adds to what its end has sent, and how long a frame is.
+use Prim.Native.Nat.{ℕ, _≤_}
+use mathlib.Core.Path.{_≡_, refl}
+use mathlib.Core.List.{List, map, List·Memᴰ, List·Memᴰ·head, List·Memᴰ·tail}
+use native.Mathlib.Omega.{arith}
+use lib.ListN.{length, length-append}
+use Rattle.octets.specs.Sizes.{longestFrame}
+use Rattle.octets.specs.Test.{ok}
+use Rattle.octets.proofs.Test.{passing, then-of}
+use Rattle.octets.proofs.Octets.{length-octets}
+use Rattle.frame.specs.Frame.{Frame}
+use Rattle.frame.specs.Fits.{Fits, control-fits, data-fits, ack-fits}
+use Rattle.frame.specs.Layout.{encode}
+use Rattle.frame.proofs.Writing.{head-length, encode-control, encode-ack, encode-data}
+use Rattle.protocol.specs.Table.{Sent, nothing, frame, Step}
+use Rattle.protocol.specs.Network.{also, sent, recorded}
+use Rattle.protocol.specs.Network as protocol
+use Rattle.protocol.specs.World.{End, called}
+use Rattle.call_spec.specs.Calls.{Arguments, said, does, asked, performed}
+use Rattle.link.specs.Record.{format, ends}
+
+-- only a call whose octets say one is accepted
+says : (rec : List ℕ) (c : Arguments) {y : Step} → performed format rec c ≡ ok y → (x : protocol.Call) × (said c ≡ ok x)
+unfolding performed asked does
+says rec c h =
+    let r = then-of (said c) _ (passing _ (passing _ h .1) .1) in
+    (r .0, r .1)
+
+-- what the end has sent after it
+gains : (c : Arguments) (e : End (List ℕ)) {y : Step} → performed format (e .rec) c ≡ ok y
+    → sent (called ends c e .history) ≡ also (y .sent) (sent (e .history))
+unfolding called recorded sent
+gains c e h = rw (says (e .rec) c h .1, h) refl
+
+-- so it has sent what it had, and the frame of this call
+also-keeps : (t : Sent) (fs : List Frame) (s : List ℕ) → List·Memᴰ s (map encode fs) → List·Memᴰ s (map encode (also t fs))
+also-keeps nothing fs s m = m
+also-keeps (frame f) fs s m = List·Memᴰ·tail m
+
+pub grows : (c : Arguments) (e : End (List ℕ)) {y : Step} → performed format (e .rec) c ≡ ok y
+    → (s : List ℕ) → List·Memᴰ s (map encode (sent (e .history))) → List·Memᴰ s (map encode (sent (called ends c e .history)))
+grows c e {y} h s m = rw (gains c e h) (also-keeps (y .sent) (sent (e .history)) s m)
+
+pub has-sent : (c : Arguments) (e : End (List ℕ)) {y : Step} → performed format (e .rec) c ≡ ok y
+    → (f : Frame) → y .sent ≡ frame f → List·Memᴰ f (sent (called ends c e .history)) × List·Memᴰ (encode f) (map encode (sent (called ends c e .history)))
+has-sent c e {y} h f t = rw (gains c e h, t) (List·Memᴰ·head refl, List·Memᴰ·head refl)
+
+-- a frame has at most 78 octets
+pub encode-short : {f : Frame} → Fits f → length (encode f) ≤ longestFrame
+encode-short (control-fits k {s} {r} h g _ _ _ _) = rw (encode-control k s r h g) (omega (arith, head-length k s r))
+encode-short (data-fits {s} {r} {n} {b} _ _ _ _ _ _ h) =
+    rw (encode-data s r n b h, length-append, length-append, length-append) (omega (arith, head-length 8 s r, length-octets 4 n))
+encode-short (ack-fits {s} {r} {n} _ _ _ _ _) = rw (encode-ack s r n, length-append) (omega (arith, head-length 9 s r, length-octets 4 n))

@@ -1,0 +1,39 @@
+-- What an outcome answers: its notice, the frame sent, the endpoint left, the block handed up.
+use Prim.Native.Nat.{ℕ}
+use mathlib.Core.List.{List, []}
+use lib.ListN.{take, drop}
+use Rattle.octets.specs.Test.{Outcome, refused, ok}
+use Rattle.frame.specs.Frame.{Block}
+use Rattle.frame.specs.Layout.{dataBlockAt}
+use Rattle.protocol.specs.Endpoint.{Endpoint}
+use Rattle.protocol.specs.Table.{Sent, nothing, Step, noticeNumber, Notice, none, connected, rejected, closedByPartner, closeFinished, handedUp}
+
+-- a refusal has no notice, sends nothing and leaves the endpoint
+unfoldable pub noticeOf : Outcome Step → ℕ
+noticeOf (refused n) = 0
+noticeOf (ok x) = noticeNumber (x .notice)
+
+unfoldable pub sentIn : Outcome Step → Sent
+sentIn (refused n) = nothing
+sentIn (ok x) = x .sent
+
+unfoldable pub endpointAfter : Endpoint → Outcome Step → Endpoint
+endpointAfter e (refused n) = e
+endpointAfter e (ok x) = x .endpoint
+
+-- the block handed up
+unfoldable pub blockIn : Notice → Block
+blockIn none = []
+blockIn connected = []
+blockIn rejected = []
+blockIn closedByPartner = []
+blockIn closeFinished = []
+blockIn (handedUp b) = b
+
+unfoldable pub blockOf : Outcome Step → Block
+blockOf (refused n) = []
+blockOf (ok x) = blockIn (x .notice)
+
+-- "A part of the caller's own received frame": the n octets of s from 14 on, where the block of a DATA stands.
+unfoldable pub blockPart : List ℕ → ℕ → Block
+blockPart s n = take n (drop dataBlockAt s)

@@ -1,0 +1,91 @@
+-- What the calls keep: an accepted call of a sound struct leaves a sound struct, which holds the endpoint that the step table
+-- gives.
+use Prim.Native.Nat.{ℕ, _+_, _≤_}
+use mathlib.Core.Path.{_≡_, refl, subst}
+use mathlib.Core.Bool.{Bool, true}
+use mathlib.Core.List.{List}
+use native.Mathlib.Omega.{arith}
+use lib.ListN.{length}
+use Rattle.octets.specs.Sizes.{queueSize, lastNumber}
+use Rattle.octets.specs.Test.{first, Outcome, refused, ok, mapped, andThen}
+use Rattle.octets.specs.Octets.{field, Octets}
+use Rattle.octets.proofs.Octets.{field-one, field-more}
+use Rattle.octets.proofs.Test.{all-yes, passing}
+use Rattle.frame.specs.Read.{readFrame, readRequest}
+use Rattle.frame.proofs.Fits.{read-fits}
+use Rattle.protocol.specs.Table.{Step}
+use Rattle.protocol.specs.Network.{ask, deliver, perform}
+use Rattle.protocol.specs.Network as protocol
+use Rattle.protocol.specs.Endpoint as abstract
+use Rattle.protocol.specs.Limits.{Bounded, Readable, LeavesSound, LeavesBounded}
+use Rattle.protocol.proofs.Limits.{call-sound, call-bounded}
+use Rattle.endpoint.specs.declared.Endpoint.{Endpoint}
+use Rattle.endpoint.specs.View.{placesSize, pack, view}
+use Rattle.endpoint.specs.Sound.{sound}
+use Rattle.call_spec.specs.declared.Call.{Call}
+use Rattle.call_spec.specs.declared.Call.the-variants as call
+use Rattle.call_spec.specs.Calls.{Arguments, reads, does, ownQuestions, asked}
+use Rattle.call_spec.proofs.Lift.{read-sized}
+use Rattle.endpoint.proofs.Sounds.{view-sound}
+use Rattle.endpoint.proofs.Held.{held, pack-sound}
+use Rattle.endpoint_step.specs.Calls.{outcomeOf}
+
+-- four octets make a number of 32 bits
+pub field-32 : (at : ℕ) (s : List ℕ) → Octets s → at + 4 ≤ length s → field 4 at s ≤ lastNumber
+unfolding Octets
+field-32 at s o h =
+    omega (arith, field-one at s (omega arith), field-more 1 at s (omega arith), field-more 2 at s (omega arith), field-more 3 at s (omega arith), o at, o (at + 1), o (at + 2), o (at + 3))
+
+-- the parts of an accepted call
+mapped-ok : {A B : Type 0} (f : A → B) (o : Outcome A) (next : B → Outcome Step) {y : Step} → andThen (mapped f o) next ≡ ok y
+    → (x : A) × (o ≡ ok x) × (next (f x) ≡ ok y)
+unfolding andThen mapped
+mapped-ok f (refused n) next h = absurd (let z : _≡_ {A = ℕ} 0 1 = cc in omega arith)
+mapped-ok f (ok x) next h = (x, refl, h)
+
+-- an accepted call of a sound endpoint performs what its octets say, which was read
+pub record Accepted (fine : Bool) (a : abstract.Endpoint) (x : Step) : Type 0 where
+  pub is-sound : fine ≡ true
+  pub call : protocol.Call
+  pub readable : Readable call
+  pub performs : perform call a ≡ ok x
+
+-- what a call is given: the octets of a frame are octets
+abbrev pub InOctets : Call → List ℕ → Type 0
+InOctets call.Request s = Unit {0}
+InOctets call.Receive s = Octets s
+
+-- what an accepted call performs was read
+performs : (c : Call) (s : List ℕ) (a : abstract.Endpoint) → InOctets c s → {x : Step} → does c s a ≡ ok x
+    → (q : protocol.Call) × Readable q × (perform q a ≡ ok x)
+unfolding does reads
+performs call.Request s a o h = let q = mapped-ok ask (readRequest s) _ h in (ask (q .0), read-sized s (q .0) (q .1), q .2)
+performs call.Receive s a o h = let f = mapped-ok deliver (readFrame s) _ h in (deliver (f .0), read-fits s (f .1) o, f .2)
+
+pub accepts : (fine : Bool) (a : abstract.Endpoint) (c : Arguments) → InOctets (c .call) (c .octets) → {x : Step} → asked fine a c ≡ ok x → Accepted fine a x
+unfolding asked
+accepts fine a c o h =
+    let r = passing (first (ownQuestions fine (c .room))) h in
+    let q = performs (c .call) (c .octets) a o (r .1) in
+    record { is-sound = all-yes 12 fine _ (all-yes 11 _ _ (r .0) tt .1) tt .0; call = q .0; readable = q .1; performs = q .2 }
+
+-- What an accepted call leaves: a sound endpoint, whose struct is sound and holds it, and where the numbers had 32 bits they have.
+pub record Leaves (a : abstract.Endpoint) (x : Step) : Type 0 where
+  pub is-sound : abstract.sound (x .endpoint) ≡ true
+  pub record-sound : sound (pack (x .endpoint)) ≡ true
+  pub holds : view (pack (x .endpoint)) ≡ x .endpoint
+  pub bounded : Bounded a → Bounded (x .endpoint)
+
+pub leaves : (e : Endpoint) → length (e .lengths) ≡ queueSize → length (e .blocks) ≡ placesSize → (c : Arguments) → InOctets (c .call) (c .octets) → {x : Step}
+    → outcomeOf e c ≡ ok x → Leaves (view e) x
+unfolding outcomeOf
+leaves e l8 l512 c o h =
+    let a = accepts (sound e) (view e) c o h in
+    let v = view-sound e (a .is-sound) l8 l512 in
+    let s = subst LeavesSound (a .performs) (call-sound (a .call) (view e) v (a .readable)) in
+    record {
+      is-sound = s;
+      record-sound = pack-sound _ s;
+      holds = held _ s;
+      bounded = λ b. subst LeavesBounded (a .performs) (call-bounded (a .call) (view e) v b (a .readable));
+    }

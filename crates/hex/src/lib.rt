@@ -1,0 +1,107 @@
+// A line of text and the octets that it stands for.
+use octets::refusal;
+ghost use mathlib.Core.Path.{_≡_};
+ghost use mathlib.Core.Bool.{true};
+ghost use Prim.Native.Nat.{_*_, _/_, _%_, _≤_, _<_};
+ghost use lib.ListN.{length};
+ghost use Rattle.octets.specs.Octets.{put, left};
+ghost use Rattle.hex.specs.Line.{digit, isDigit, value, hex, unhex, all, lengthOk, readInto, lineOf};
+
+// What a line is read as: so many octets at the start of the buffer, or document 01's number of the refusal.
+pub enum Line {
+    Decoded(usize),
+    Refused(u8),
+}
+
+// What a letter's character is more than its number: a stands for ten.
+const LETTERS: u8 = b'a' - 10;
+
+// The digit of a number below 16.
+fn to_digit(n: u8) -> u8
+    requires { ⌜ n < 16 ⌝ }
+    ensures { λ r. ⌜ r ≡ digit n ⌝ }
+{
+    if n < 10 {
+        return b'0' + n;
+    }
+    LETTERS + n
+}
+
+// Writes the digits of s to the start of out.
+pub fn write(s: &[u8], out: &mut [u8])
+    requires { ⌜ 2 * length (now s) ≤ length (now out) ⌝ }
+    ensures { λ _. ⌜ now (out .exit) ≡ put (now (out .entry)) 0 (hex (now (s .entry))) ⌝ }
+{
+    let mut i = 0;
+    while i < s.len() {
+        out[2 * i] = to_digit(s[i] / 16);
+        out[2 * i + 1] = to_digit(s[i] % 16);
+        i += 1;
+    }
+}
+
+fn is_digit(c: u8) -> bool
+    ensures { λ r. ⌜ r ≡ isDigit c ⌝ }
+{
+    ((b'0' <= c) & (c <= b'9')) | ((b'a' <= c) & (c <= b'f'))
+}
+
+fn all_digits(line: &[u8]) -> bool
+    ensures { λ r. ⌜ r ≡ all isDigit (now (line .entry)) ⌝ }
+{
+    let mut yes = true;
+    let mut i = 0;
+    while i < line.len() {
+        yes = yes & is_digit(line[i]);
+        i += 1;
+    }
+    yes
+}
+
+// The number that a digit stands for.
+fn to_value(c: u8) -> u8
+    requires { ⌜ isDigit c ≡ true ⌝ }
+    ensures { λ r. ⌜ (r ≡ value c) × (r < 16) ⌝ }
+{
+    if c < b'a' {
+        return c - b'0';
+    }
+    c - LETTERS
+}
+
+// Writes the octets that the digits of line stand for to the start of out.
+fn decode(line: &[u8], out: &mut [u8])
+    requires { ⌜ (all isDigit (now line) ≡ true) × ((length (now line) % 2 ≡ 0) × (length (now line) / 2 ≤ length (now out))) ⌝ }
+    ensures { λ _. ⌜ now (out .exit) ≡ put (now (out .entry)) 0 (unhex (now (line .entry))) ⌝ }
+{
+    let n = line.len() / 2;
+    let mut i = 0;
+    while i < n {
+        out[i] = to_value(line[2 * i]) * 16 + to_value(line[2 * i + 1]);
+        i += 1;
+    }
+}
+
+// Question 1.
+fn length_ok(n: usize) -> bool
+    ensures { λ r. ⌜ r ≡ lengthOk n ⌝ }
+{
+    (2 <= n) & (n <= 2 * octets::LONGEST_FRAME) & (n % 2 == 0)
+}
+
+// Reads a line into out, which has room for the longest frame. A refusal leaves every octet of out.
+pub fn read(line: &[u8], out: &mut [u8]) -> Line
+    ensures { λ r. ⌜ (r ≡ lineOf (readInto (now (line .entry)) (now (out .entry)))) × (now (out .exit) ≡ left (readInto (now (line .entry)) (now (out .entry))) (now (out .entry))) ⌝ }
+{
+    if out.len() < octets::LONGEST_FRAME {
+        return Line::Refused(refusal::SHORT_BUFFER);
+    }
+    if !length_ok(line.len()) {
+        return Line::Refused(refusal::BAD_LENGTH);
+    }
+    if !all_digits(line) {
+        return Line::Refused(refusal::BAD_DIGIT);
+    }
+    decode(line, out);
+    Line::Decoded(line.len() / 2)
+}

@@ -1,0 +1,34 @@
+-- From what a call on a lent record answers to the text of its outcome.
+use Prim.Native.Nat.{ℕ}
+use mathlib.Core.Path.{_≡_, refl, ap}
+use mathlib.Core.List.{List, []}
+use lib.ListN.{take, replicate}
+use Rattle.octets.specs.Sizes.{longestFrame}
+use Rattle.octets.specs.Test.{Outcome, refused, mapped}
+use Rattle.octets.specs.Octets.{left}
+use Rattle.frame.specs.Frame.{Block}
+use Rattle.protocol.specs.Table.{Step}
+use Rattle.call_spec.specs.Calls.{wire, recordAfter}
+use Rattle.call_spec.specs.Answers.{sentIn, blockOf}
+use Rattle.link.specs.declared.Answer.{Answer}
+use Rattle.link.specs.Lent.{answerOf, Called}
+use Rattle.link.proofs.Answers.{sent-taken}
+use Rattle.answer_text.specs.Text.{textOf, Begins}
+use Rattle.line_answer.specs.Text.{text}
+use Rattle.line_answer.specs.Internal.{Gives}
+
+-- the buffer for a frame out
+abbrev pub room : List ℕ
+room = replicate longestFrame 0
+
+pub gives : (o : Outcome Step) (rec s out : List ℕ) {rec′ frame out′ : List ℕ} {a : Answer} {r : ℕ} {b : Block}
+    → Called o rec s room rec′ frame a → b ≡ blockOf o → Begins (textOf (a .status) b (take (a .sent) frame)) out out′ r → Gives o rec out rec′ out′ r
+unfolding text answerOf
+gives o rec s out l h w =
+    let e = l .answer in
+    record { begins = rw (ap (λ (x : Answer). x .status) e, h, sent-taken room o (l .buffer) (ap (λ (x : Answer). x .sent) e)) at w; end = l .end }
+
+pub refuses : {o : Outcome Step} {n : ℕ} → o ≡ refused n → (rec out : List ℕ) {out′ : List ℕ} {a : Answer} {r : ℕ} → a ≡ answerOf rec (refused n)
+    → Begins (textOf (a .status) [] []) out out′ r → Gives o rec out rec out′ r
+unfolding text answerOf blockOf sentIn wire recordAfter mapped left
+refuses e rec out h w = rw e (record { begins = rw (ap (λ (x : Answer). x .status) h) at w; end = refl })

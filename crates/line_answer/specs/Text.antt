@@ -1,0 +1,34 @@
+-- The text of an answer at one end.
+use Prim.Native.Nat.{ℕ}
+use mathlib.Core.Path.{_≡_}
+use mathlib.Core.List.{List, [], _∷_}
+use lib.Dec.{leb}
+use lib.ListN.{length}
+use Rattle.octets.specs.Test.{first, Outcome, refused, ok, outcome, mapped}
+use Rattle.octets.specs.Octets.{left}
+use Rattle.protocol.specs.Table.{Step}
+use Rattle.call_spec.specs.Calls.{wire, recordAfter}
+use Rattle.call_spec.specs.Answers.{sentIn, blockOf}
+use Rattle.link.specs.Record.{format}
+use Rattle.link.specs.Lent.{statusOf}
+use Rattle.answer_text.specs.declared.Output.{Output}
+use Rattle.answer_text.specs.Text.{textOf, outputOf, answerRoom}
+use Rattle.line_answer.specs.Line.{lineOutcome}
+
+-- the text of a call's outcome
+unfoldable pub text : List ℕ → Outcome Step → List ℕ
+text rec o = textOf (statusOf rec o) (blockOf o) (wire (sentIn o))
+
+-- A line's answer into a buffer: without room for it, nothing is asked of the end.
+unfoldable pub answered : List ℕ → List ℕ → List ℕ → Outcome (Outcome Step)
+answered rec line out = outcome (first ((11, leb answerRoom (length out)) ∷ [])) (lineOutcome rec line)
+
+unfoldable pub recordLeft : List ℕ → Outcome (Outcome Step) → List ℕ
+recordLeft rec (refused n) = rec
+recordLeft rec (ok o) = recordAfter format rec o
+
+-- What the answer to a line is, and every octet that it leaves.
+pub record LineAnswered (rec line out rec′ out′ : List ℕ) (r : Output) : Type 0 where
+  pub answer : r ≡ outputOf (mapped (text rec) (answered rec line out))
+  pub buffer : out′ ≡ left (mapped (text rec) (answered rec line out)) out
+  pub end : rec′ ≡ recordLeft rec (answered rec line out)

@@ -1,0 +1,80 @@
+// One end asked by lines of text: a line and its answer.
+use answer_text::Output;
+use call_spec::Call;
+use frame::Class;
+use hex::Line;
+use octets::refusal;
+ghost use mathlib.Core.Path.{_≡_};
+ghost use Prim.Native.Nat.{_≤_};
+ghost use lib.ListN.{length};
+ghost use Rattle.octets.specs.Sizes.{longestFrame};
+ghost use Rattle.octets.specs.Test.{numberOf};
+ghost use Rattle.call_spec.specs.Calls.{performed};
+ghost use Rattle.link.specs.Record.{format};
+ghost use Rattle.answer_text.specs.Text.{answerRoom};
+ghost use Rattle.line_answer.specs.Line.{callIn, lineCall};
+ghost use Rattle.line_answer.specs.Text.{LineAnswered};
+ghost use Rattle.line_answer.specs.Internal.{refusedLine, Gives};
+
+// The call that the octets of a line make.
+fn call_in(s: &[u8]) -> Call
+    ensures { λ r. ⌜ r ≡ callIn (now (s .entry)) ⌝ }
+{
+    let class = frame_read::class_of(s);
+    match class {
+        Class::Frame => Call::Receive,
+        Class::Request => Call::Request,
+        Class::Unknown => Call::Receive,
+    }
+}
+
+// What the octets of a line ask.
+fn ask(rec: &mut [u8], s: &[u8], out: &mut [u8]) -> usize
+    requires { ⌜ (length (now s) ≤ longestFrame) × (answerRoom ≤ length (now out)) ⌝ }
+    ensures { λ r. ⌜ Gives (performed format (now (rec .entry)) (lineCall (now (s .entry)))) (now (rec .entry)) (now (out .entry)) (now (rec .exit)) (now (out .exit)) r ⌝ }
+{
+    let mut frame = [0u8; octets::LONGEST_FRAME];
+    let call = call_in(s);
+    let a = link::perform(call, rec, s, &mut frame);
+    let told = a.status;
+    let sent = a.sent;
+    let block = step_plan::handed_up(told.notice, s);
+    answer_text::write_text(told, block, &frame[..sent], out)
+}
+
+// The number of a line that question 1 or 2 refuses: 11 and 12 of the record come first.
+fn refusal_of(rec: &[u8], refusal: u8) -> u8
+    ensures { λ r. ⌜ r ≡ numberOf (refusedLine (now (rec .entry)) refusal) ⌝ }
+{
+    let asked = link::ready(rec);
+    if asked != 0 {
+        return asked;
+    }
+    refusal
+}
+
+fn refuse(rec: &[u8], refusal: u8, out: &mut [u8]) -> usize
+    requires { ⌜ answerRoom ≤ length (now out) ⌝ }
+    ensures { λ r. ⌜ Gives (refusedLine (now (rec .entry)) refusal) (now (rec .entry)) (now (out .entry)) (now (rec .entry)) (now (out .exit)) r ⌝ }
+{
+    let number = refusal_of(rec, refusal);
+    let a = link::refuse(rec, number);
+    let told = a.status;
+    answer_text::write_text(told, &rec[..0], &rec[..0], out)
+}
+
+// Answers a line, which is given without its line feed, at the end with the record rec: the answer line and, if a frame is sent,
+// its line go to the start of out, which needs room for answer_text::ANSWER_ROOM characters.
+pub fn answer(rec: &mut [u8], line: &[u8], out: &mut [u8]) -> Output
+    ensures { λ r. ⌜ LineAnswered (now (rec .entry)) (now (line .entry)) (now (out .entry)) (now (rec .exit)) (now (out .exit)) r ⌝ }
+{
+    if out.len() < answer_text::ANSWER_ROOM {
+        return Output::Refused(refusal::SHORT_BUFFER);
+    }
+    let mut s = [0u8; octets::LONGEST_FRAME];
+    let read = hex::read(line, &mut s);
+    match read {
+        Line::Decoded(n) => Output::Written(ask(rec, &s[..n], out)),
+        Line::Refused(refusal) => Output::Written(refuse(rec, refusal, out)),
+    }
+}

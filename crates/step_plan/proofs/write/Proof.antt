@@ -1,0 +1,23 @@
+use mathlib.Core.Path.{refl}
+use denote.Ref.{now}
+use Rattle.octets.proofs.Octets.{put-none}
+use Rattle.call_spec.specs.Calls.{wire}
+use Rattle.step_plan.specs.Internal.{sentBy}
+use borrow.Author.Needs.{needs}
+use Rattle.step_plan.proofs.write.Statement.{statement}
+use Rattle.step_plan.proofs.write.Tie as tie
+
+enum-told : tie.Need-enum-told
+enum-told c = search needs
+
+returns : tie.Need-returns
+unfolding sentBy wire
+returns c = rw (c .enum-told .given .1) (record { count = refl; octets = put-none (now (c .before .before .before .before .args .out)) 0 })
+
+returns-2 : tie.Need-returns-2
+unfolding sentBy wire
+returns-2 c = let w = c .before .before .write .ensures in rw (c .before .before .before .before .before .reply .given .1) (record { count = w .count; octets = w .octets })
+
+pub write-spec : {M : Type 1} → statement M
+write-spec =
+    tie.close (tie.spec enum-told (λ c. search needs) (λ c κs. search needs) returns (λ c. search needs) returns-2)

@@ -1,0 +1,95 @@
+-- What the requests answer, a question at a time.
+use Prim.Native.Nat.{ℕ, _-_, _≤_, _<_}
+use mathlib.Core.Path.{_≡_, refl, sym, ap, _∙_}
+use mathlib.Core.Logic.{_≢_}
+use mathlib.Core.Bool.{Bool}
+use mathlib.Core.List.{List, [], _∷_}
+use native.Mathlib.Omega.{arith}
+use borrow.Author.Tests.{eq-eqb, ne-eqb, lt-ltb, le-ltb, ltb-true}
+use lib.Dec.{ltb, eqb}
+use lib.ListN.{length}
+use Rattle.octets.specs.Sizes.{lastNumber, queueSize}
+use Rattle.octets.specs.Test.{first, refused, ok, outcome}
+use Rattle.octets.proofs.Test.{picks, no, yes, done, all-yes, refused-of, no-before, all-before}
+use Rattle.frame.specs.Frame.{Block, Frame, Request, dataFrame, endListening, close, timer, send}
+use Rattle.protocol.specs.Endpoint.{listening, established, Endpoint, waiting}
+use Rattle.protocol.specs.Table.{none, Sent, nothing, frame, quiet, says}
+use Rattle.protocol.specs.Requests.{placeLeft, questions, refusal, accept, request, oldest, resent}
+use Rattle.step_plan.specs.Internal.{Oldest}
+
+-- where a number is left
+pub left : (b : Bool) (n : ℕ) → first ((8, b) ∷ (9, ltb n lastNumber) ∷ []) ≡ 0 → n < lastNumber
+left b n h = ltb-true n lastNumber (all-yes 9 _ _ (all-yes 8 _ _ h tt .1) tt .0)
+
+module _ (a : Endpoint) where
+  -- a request whose questions are answered
+  pub refused-by : (r : Request) {n : ℕ} → n ≡ refusal r a → n ≢ 0 → request r a ≡ refused n
+  unfolding request
+  refused-by r {n} e h = ap (λ (m : ℕ). outcome m (accept r a)) (sym e) ∙ refused-of (accept r a) n h
+
+  pub allowed : (r : Request) → refusal r a ≡ 0 → request r a ≡ ok (accept r a)
+  unfolding request outcome
+  allowed r e = rw e refl
+
+  pub end-listening-8 : a .state ≢ listening → request endListening a ≡ refused 8
+  unfolding request refusal questions
+  end-listening-8 h = no (accept endListening a) 7 (eqb (a .state) listening) _ (ne-eqb (a .state) listening h)
+
+  pub end-listening-0 : a .state ≡ listening → request endListening a ≡ ok (accept endListening a)
+  unfolding request refusal questions
+  end-listening-0 h = yes (accept endListening a) 8 (eqb (a .state) listening) _ (eq-eqb (a .state) listening h) ∙ done (accept endListening a)
+
+  pub close-8 : a .state ≢ established → request close a ≡ refused 8
+  unfolding request refusal questions
+  close-8 h = no (accept close a) 7 (eqb (a .state) established) _ (ne-eqb (a .state) established h)
+
+  pub close-0 : a .state ≡ established → request close a ≡ ok (accept close a)
+  unfolding request refusal questions
+  close-0 h = yes (accept close a) 8 (eqb (a .state) established) _ (eq-eqb (a .state) established h) ∙ done (accept close a)
+
+  pub timer-0 : request timer a ≡ ok (accept timer a)
+  unfolding request refusal questions
+  timer-0 = done (accept timer a)
+
+  pub timer-says : (f : Frame) → resent a ≡ frame f → request timer a ≡ ok (says a none f)
+  unfolding accept
+  timer-says f h = timer-0 ∙ ap (λ (x : Sent). ok (record { endpoint = a; notice = none; sent = x })) h
+
+  pub timer-quiet : resent a ≡ nothing → request timer a ≡ ok (quiet a none)
+  unfolding accept
+  timer-quiet h = timer-0 ∙ ap (λ (x : Sent). ok (record { endpoint = a; notice = none; sent = x })) h
+
+  pub resent-oldest : a .state ≡ established → resent a ≡ oldest a (a .queue)
+  unfolding resent
+  resent-oldest h =
+      let two : a .state ≢ 2 = λ z. omega arith in
+      let three : a .state ≢ 3 = λ z. omega arith in
+      search picks
+
+  module _ (b : Block) where
+    pub send-refused : {n : ℕ} → n ≡ first ((8, eqb (a .state) established) ∷ (9, ltb (a .accepted) lastNumber) ∷ []) → n ≢ 0 → request (send b) a ≡ refused n
+    unfolding request refusal questions
+    send-refused e h = no-before (accept (send b) a) ((8, eqb (a .state) established) ∷ (9, ltb (a .accepted) lastNumber) ∷ []) _ e h
+
+    module _ (h : first ((8, eqb (a .state) established) ∷ (9, ltb (a .accepted) lastNumber) ∷ []) ≡ 0) where
+      tenth : request (send b) a ≡ outcome (first (placeLeft a ∷ [])) (accept (send b) a)
+      unfolding request refusal questions
+      tenth = ap (λ (n : ℕ). outcome n (accept (send b) a)) (all-before ((8, eqb (a .state) established) ∷ (9, ltb (a .accepted) lastNumber) ∷ []) _ (tt, (tt, tt)) h)
+
+      pub send-10 : queueSize ≤ waiting a → request (send b) a ≡ refused 10
+      send-10 m = tenth ∙ no (accept (send b) a) 9 (ltb (waiting a) queueSize) _ (le-ltb (waiting a) queueSize m)
+
+      pub send-0 : waiting a < queueSize → request (send b) a ≡ ok (accept (send b) a)
+      send-0 m = tenth ∙ yes (accept (send b) a) 10 (ltb (waiting a) queueSize) _ (lt-ltb (waiting a) queueSize m) ∙ done (accept (send b) a)
+
+-- the DATA of the oldest waiting block
+module _ (a : Endpoint) where
+  pub oldest-is : (q : List Block) (old : Block) → Oldest q old → 1 ≤ length q → oldest a q ≡ frame (dataFrame (a .local) (a .remote) (a .accepted - waiting a) old)
+  unfolding oldest
+  oldest-is [] old o h = absurd (omega arith)
+  oldest-is (b ∷ q) old o h = rw o refl
+
+  pub oldest-none : (q : List Block) → length q ≡ 0 → oldest a q ≡ nothing
+  unfolding oldest
+  oldest-none [] h = refl
+  oldest-none (b ∷ q) h = absurd (omega arith)

@@ -1,0 +1,24 @@
+use Rattle.frame.specs.declared.Header.the-variants.{Dr}
+use Rattle.frame.specs.Answer.{frameOf}
+use Rattle.protocol.specs.Table.{none, noticeNumber}
+use Rattle.protocol.specs.Requests.{accept}
+use Rattle.step_rules.specs.Internal.{holding}
+use Rattle.step_plan.specs.declared.Reply.the-variants.{Frame}
+use Rattle.step_plan.specs.Internal.{sentBy}
+use Rattle.step_plan.proofs.Comes.{refuses, turns}
+use Rattle.step_request.proofs.Requests.{close-8, close-0}
+use borrow.Author.Needs.{needs}
+use Rattle.step_request.proofs.close.Statement.{statement}
+use Rattle.step_request.proofs.close.Tie as tie
+
+returns : tie.Need-returns
+returns c = λ b q old w _. let a = c .before .before .before .args in refuses (a .n) q b old w 8 (close-8 (holding (a .n) q) (c .before .if1 .taken)) (c .refuse .ensures)
+
+returns-2 : tie.Need-returns-2
+unfolding accept noticeNumber sentBy frameOf
+returns-2 c = λ b q old w _.
+    let a = c .before .before .before .args in
+    turns (a .n) q b old w 5 (a .n .remote) none (Frame (Dr (a .n .local) (a .n .remote))) (close-0 (holding (a .n) q) (c .before .if1 .left)) (c .turn .ensures)
+
+pub close-spec : {M : Type 1} → statement M
+close-spec = tie.close (tie.spec (λ c κs. search needs) returns (λ c κs. search needs) returns-2)

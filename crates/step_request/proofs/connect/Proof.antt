@@ -1,0 +1,31 @@
+use Prim.Native.Nat.{_+_, _<_}
+use mathlib.Core.Path.{sym, _∙_}
+use Rattle.octets.specs.Sizes.{lastNumber}
+use Rattle.frame.specs.Frame.{connect}
+use Rattle.frame.specs.declared.Header.the-variants.{Crao}
+use Rattle.frame.specs.Answer.{frameOf}
+use Rattle.step_plan.specs.declared.Reply.the-variants.{Frame}
+use Rattle.protocol.specs.Endpoint.{activeOpening}
+use Rattle.protocol.specs.Requests.{questions, refusal, accept}
+use Rattle.step_rules.specs.Internal.{holding}
+use Rattle.step_plan.specs.Internal.{sentBy}
+use Rattle.step_plan.proofs.Comes.{refuses, begins}
+use Rattle.step_request.proofs.Requests.{refused-by, allowed, left}
+use native.Mathlib.Omega.{arith}
+use borrow.Author.Needs.{needs}
+use Rattle.step_request.proofs.connect.Statement.{statement}
+use Rattle.step_request.proofs.connect.Tie as tie
+
+room : (c : tie.Else1) → c .before .before .args .n .local < lastNumber
+room c = left _ (c .before .before .args .n .local) (sym (c .before .refusal-of .ensures) ∙ c .if1 .left)
+
+pub connect-spec : {M : Type 1} → statement M
+unfolding refusal questions accept sentBy frameOf
+connect-spec =
+    tie.close
+    (tie.spec (λ c κs. search needs) (λ c κs. search needs)
+    (λ c b q old w _. let n = c .before .before .before .args .n in refuses n q b old w _ (refused-by (holding n q) connect (c .before .before .refusal-of .ensures) (c .before .if1 .taken)) (c .refuse .ensures))
+    (λ c. omega (arith, room (c .before))) (λ c κs. room (c .before))
+    (λ c b q old w _.
+    let n = c .before .before .before .before .args .n in
+    begins n q b old w activeOpening (Frame (Crao (n .local + 1) 0)) (allowed (holding n q) connect (sym (c .before .before .before .refusal-of .ensures) ∙ c .before .before .if1 .left)) (c .begin .ensures)))

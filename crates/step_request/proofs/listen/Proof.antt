@@ -1,0 +1,28 @@
+use Prim.Native.Nat.{_<_}
+use mathlib.Core.Path.{sym, _∙_}
+use Rattle.octets.specs.Sizes.{lastNumber}
+use Rattle.frame.specs.Frame.{listen}
+use Rattle.protocol.specs.Endpoint.{listening}
+use Rattle.protocol.specs.Requests.{questions, refusal, accept}
+use Rattle.step_rules.specs.Internal.{holding}
+use Rattle.step_plan.specs.declared.Reply.the-variants.{Nothing}
+use Rattle.step_plan.specs.Internal.{sentBy}
+use Rattle.step_plan.proofs.Comes.{refuses, begins}
+use Rattle.step_request.proofs.Requests.{refused-by, allowed, left}
+use borrow.Author.Needs.{needs}
+use Rattle.step_request.proofs.listen.Statement.{statement}
+use Rattle.step_request.proofs.listen.Tie as tie
+
+room : (c : tie.Else1) → c .before .before .args .n .local < lastNumber
+room c = left _ (c .before .before .args .n .local) (sym (c .before .refusal-of .ensures) ∙ c .if1 .left)
+
+pub listen-spec : {M : Type 1} → statement M
+unfolding refusal questions accept sentBy
+listen-spec =
+    tie.close
+    (tie.spec (λ c κs. search needs) (λ c κs. search needs)
+    (λ c b q old w _. let n = c .before .before .before .args .n in refuses n q b old w _ (refused-by (holding n q) listen (c .before .before .refusal-of .ensures) (c .before .if1 .taken)) (c .refuse .ensures))
+    (λ c κs. room c)
+    (λ c b q old w _.
+    let n = c .before .before .before .args .n in
+    begins n q b old w listening Nothing (allowed (holding n q) listen (sym (c .before .before .refusal-of .ensures) ∙ c .before .if1 .left)) (c .begin .ensures)))

@@ -1,0 +1,212 @@
+// Requests and the timer call, planned from the numbers of a record.
+use frame::Header;
+use frame::RequestKind;
+use frame::RequestRead;
+use octets::LAST_NUMBER;
+use octets::refusal;
+use step_plan::ACCEPTED;
+use step_plan::NONE;
+use step_plan::Plan;
+use step_plan::Queue;
+use step_plan::Reply;
+use step_rules::ACTIVE_OPENING;
+use step_rules::CLOSED;
+use step_rules::CLOSING;
+use step_rules::ESTABLISHED;
+use step_rules::LISTENING;
+use step_rules::Numbers;
+use step_rules::PASSIVE_OPENING;
+ghost use mathlib.Core.Path.{_≡_};
+ghost use Prim.Native.Nat.{_≤_, _<_};
+ghost use mathlib.Core.List.{[], _∷_};
+ghost use lib.Dec.{ltb, eqb};
+ghost use lib.ListN.{length, drop};
+ghost use Rattle.octets.specs.Sizes.{longestBlock, lastNumber};
+ghost use Rattle.octets.specs.Test.{first};
+ghost use Rattle.frame.specs.Frame.{Block, connect, listen, endListening, close, timer, send};
+ghost use Rattle.frame.specs.Layout.{sendBlockAt};
+ghost use Rattle.frame.specs.Answer.{requestOf};
+ghost use Rattle.protocol.specs.Requests.{request};
+ghost use Rattle.protocol.specs.Network.{ask};
+ghost use Rattle.protocol.specs.Limits.{Readable};
+ghost use Rattle.call_spec.specs.declared.Call.the-variants.{Request};
+ghost use Rattle.call_spec.specs.Calls.{does};
+ghost use Rattle.step_plan.specs.Internal.{Planned};
+ghost use Rattle.step_plan.specs.Internal.{beginning};
+
+// The most blocks that wait.
+const QUEUE_SIZE: u8 = octets::QUEUE_SIZE as u8;
+
+// Questions 8 and 9 of a request that one state allows and that takes the next of some numbers; 0 where both are answered yes.
+fn refusal_of(n: Numbers, allowed: u8, number: u32) -> u8
+    ensures { λ r. ⌜ r ≡ first ((8, eqb (n .state) allowed) ∷ (9, ltb number lastNumber) ∷ []) ⌝ }
+{
+    if n.state != allowed {
+        return refusal::WRONG_STATE;
+    }
+    if number >= LAST_NUMBER {
+        return refusal::NO_NUMBER_LEFT;
+    }
+    0
+}
+
+// The next incarnation in this state, with no partner known.
+fn begin(n: Numbers, state: u8, reply: Reply) -> Plan
+    requires { ⌜ n .local < lastNumber ⌝ }
+    ensures { λ r. ⌜ r ≡ beginning n state reply ⌝ }
+{
+    Plan {
+        number: ACCEPTED,
+        numbers: Numbers {
+            state,
+            local: n.local + 1,
+            remote: 0,
+            accepted: 0,
+            delivered: 0,
+            waiting: 0,
+        },
+        queue: Queue::Release(n.waiting as usize),
+        notice: NONE,
+        reply,
+    }
+}
+
+fn connect(n: Numbers) -> Plan
+    ensures { λ r. ⌜ ((b : Block) → Planned n b (request connect) r) ⌝ }
+{
+    let refusal = refusal_of(n, CLOSED, n.local);
+    if refusal != 0 {
+        return step_plan::refuse(n, refusal);
+    }
+    begin(
+        n,
+        ACTIVE_OPENING,
+        Reply::Frame(Header::Crao {
+            sender: n.local + 1,
+            quoted: 0,
+        }),
+    )
+}
+
+fn listen(n: Numbers) -> Plan
+    ensures { λ r. ⌜ ((b : Block) → Planned n b (request listen) r) ⌝ }
+{
+    let refusal = refusal_of(n, CLOSED, n.local);
+    if refusal != 0 {
+        return step_plan::refuse(n, refusal);
+    }
+    begin(n, LISTENING, Reply::Nothing)
+}
+
+fn end_listening(n: Numbers) -> Plan
+    ensures { λ r. ⌜ ((b : Block) → Planned n b (request endListening) r) ⌝ }
+{
+    if n.state != LISTENING {
+        return step_plan::refuse(n, refusal::WRONG_STATE);
+    }
+    step_plan::turn(n, CLOSED, 0, NONE, Reply::Nothing)
+}
+
+fn close(n: Numbers) -> Plan
+    ensures { λ r. ⌜ ((b : Block) → Planned n b (request close) r) ⌝ }
+{
+    if n.state != ESTABLISHED {
+        return step_plan::refuse(n, refusal::WRONG_STATE);
+    }
+    let sender = n.local;
+    let quoted = n.remote;
+    let reply = Reply::Frame(Header::Dr { sender, quoted });
+    step_plan::turn(n, CLOSING, quoted, NONE, reply)
+}
+
+// The block joins the waiting ones as number t; then t + 1.
+fn send(n: Numbers) -> Plan
+    ensures { λ r. ⌜ ((b : Block) → 1 ≤ length b → length b ≤ longestBlock → Planned n b (request (send b)) r) ⌝ }
+{
+    let refusal = refusal_of(n, ESTABLISHED, n.accepted);
+    if refusal != 0 {
+        return step_plan::refuse(n, refusal);
+    }
+    if n.waiting >= QUEUE_SIZE {
+        return step_plan::refuse(n, refusal::QUEUE_FULL);
+    }
+    Plan {
+        number: ACCEPTED,
+        numbers: Numbers {
+            state: n.state,
+            local: n.local,
+            remote: n.remote,
+            accepted: n.accepted + 1,
+            delivered: n.delivered,
+            waiting: n.waiting + 1,
+        },
+        queue: Queue::Join,
+        notice: NONE,
+        reply: Reply::Frame(Header::Data {
+            sender: n.local,
+            quoted: n.remote,
+            number: n.accepted,
+        }),
+    }
+}
+
+// The timer call: sends again what the partner may not have heard. The oldest waiting block has number t - w.
+fn timer(n: Numbers) -> Plan
+    requires { ⌜ n .waiting ≤ n .accepted ⌝ }
+    ensures { λ r. ⌜ ((b : Block) → Planned n b (request timer) r) ⌝ }
+{
+    let sender = n.local;
+    let quoted = n.remote;
+    if n.state == ACTIVE_OPENING {
+        return step_plan::keep(n, NONE, Reply::Frame(Header::Crao { sender, quoted }));
+    }
+    if n.state == PASSIVE_OPENING {
+        return step_plan::keep(n, NONE, Reply::Frame(Header::Crpo { sender, quoted }));
+    }
+    if n.state == ESTABLISHED {
+        if n.waiting == 0 {
+            return step_plan::keep(n, NONE, Reply::Nothing);
+        }
+        let number = n.accepted - (n.waiting as u32);
+        return step_plan::keep(
+            n,
+            NONE,
+            Reply::Frame(Header::Data {
+                sender,
+                quoted,
+                number,
+            }),
+        );
+    }
+    if n.state == CLOSING {
+        return step_plan::keep(n, NONE, Reply::Frame(Header::Dr { sender, quoted }));
+    }
+    step_plan::keep(n, NONE, Reply::Nothing)
+}
+
+// A request that questions 3 to 6 have passed.
+fn ask(kind: RequestKind, n: Numbers) -> Plan
+    requires { ⌜ n .waiting ≤ n .accepted ⌝ }
+    ensures { λ r. ⌜ ((b : Block) → Readable (ask (requestOf kind b)) → Planned n b (request (requestOf kind b)) r) ⌝ }
+{
+    match kind {
+        RequestKind::Connect => connect(n),
+        RequestKind::Listen => listen(n),
+        RequestKind::EndListening => end_listening(n),
+        RequestKind::Close => close(n),
+        RequestKind::Send => send(n),
+        RequestKind::Timer => timer(n),
+    }
+}
+
+// A request of the endpoint's user, or the timer call: s has the request's octets.
+pub fn request(n: Numbers, s: &[u8]) -> Plan
+    requires { ⌜ n .waiting ≤ n .accepted ⌝ }
+    ensures { λ r. ⌜ Planned n (drop sendBlockAt (now (s .entry))) (does Request (now (s .entry))) r ⌝ }
+{
+    let read = frame_read::read_request(s);
+    match read {
+        RequestRead::Request(kind) => ask(kind, n),
+        RequestRead::Refused(number) => step_plan::refuse(n, number),
+    }
+}
