@@ -6,7 +6,8 @@ use lib.Seq.{length-take-le}
 use Rattle.answer_text.specs.Text.{asLine, answerOctets, longestAnswer}
 use Rattle.answer_text.specs.Text.{Begins}
 use Rattle.octets.proofs.Buffers.{taken}
-use Rattle.answer_text.proofs.Text.{length-line, length-rest, told-short, told-room, text-none, text-some}
+use Rattle.octets.proofs.Buffers.{length-rest}
+use Rattle.answer_text.proofs.Text.{length-line, told-short, told-room, text-none, text-some}
 use native.Mathlib.Omega.{arith}
 use borrow.Author.Needs.{needs}
 use Rattle.answer_text.proofs.write_text.Statement.{statement}

@@ -51,7 +51,7 @@ loop-less c = search needs
 loop-again : tie.Need-loop-again Inv-loop μ-loop
 loop-again c =
     let l = c .before .before .before .loop .inv in
-    (l .0, (search needs, below-more _ _ (l .1 .1) (rw (c .if3 .left) at (c .before .would_change .ensures))))
+    (l .0, (search needs, below-more _ _ (l .1 .1) (rw (c .if3 .left) at (c .before .would-change .ensures))))
 
 returns-2 : tie.Need-returns-2 Inv-loop μ-loop
 returns-2 c =
@@ -59,7 +59,7 @@ returns-2 c =
 
 returns-3 : tie.Need-returns-3 Inv-loop μ-loop
 returns-3 c =
-    (passed (c .before .before .before .before), (omega (arith, c .before .before .if2 .left), rw (c .if3 .taken) at (c .before .would_change .ensures)))
+    (passed (c .before .before .before .before), (omega (arith, c .before .before .if2 .left), rw (c .if3 .taken) at (c .before .would-change .ensures)))
 
 pub some-frame-spec : {M : Type 1} → statement M
 some-frame-spec =
