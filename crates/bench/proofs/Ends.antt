@@ -9,20 +9,20 @@ use Rattle.octets.specs.Test.{when, first, Outcome, ok, outcome}
 use Rattle.octets.specs.Sizes.{longestFrame}
 use Rattle.hex.specs.Line.{unhex}
 use Rattle.link.specs.Lent.{freshRecord}
-use Rattle.bench_spec.specs.Bench.{Bench, benchOf, sizeQuestions, soundQuestions, At, octetsAsk, lineAsks, comes, endOf, benchAfter}
+use Rattle.bench_spec.specs.Bench.{Bench, benchOf, bufferQuestions, soundQuestions, At, octetsAsk, lineAsks, comes, endOf, benchAfter}
 use Rattle.bench_answer.specs.Text.{answerRoom, benchText, askedWith}
 use Rattle.line_split.specs.Split.{cut}
 use Rattle.line_split.proofs.Long.{asks-cut}
 use Rattle.line_io.specs.declared.Place.{Place}
-use Rattle.line_io.specs.Answering.{Cuts, textOf}
-use Rattle.line_io.specs.Program.{Ran, Over, joined}
+use Rattle.line_io.specs.Answering.{Cuts, inputText}
+use Rattle.line_io.specs.Program.{Ran, Over, concat}
 use Rattle.line_io.proofs.Steps.{free, free-room}
 use Rattle.line_io.proofs.Program.{program-run}
 use Rattle.bench.specs.Ends.{bothEnds, freshBench}
 
 same : (w : Bench) (l : List ℕ) → lineAsks w (cut l) longestFrame ≡ lineAsks w l longestFrame
 unfolding lineAsks
-same w l = asks-cut (sizeQuestions w ((11, leb longestFrame longestFrame) ∷ soundQuestions w [])) tt (λ (x : List ℕ). octetsAsk w (unhex x) longestFrame) l
+same w l = asks-cut (bufferQuestions w ((11, leb longestFrame longestFrame) ∷ soundQuestions w [])) tt (λ (x : List ℕ). octetsAsk w (unhex x) longestFrame) l
 
 pub cuts : Cuts bothEnds
 cuts =
@@ -40,8 +40,8 @@ asks-with w line out filled h = rw (le-leb answerRoom (length (free out filled))
 pub both-fresh : {a b log : List ℕ} {count : ℕ} → a ≡ freshRecord → b ≡ freshRecord → benchOf a b log count ≡ benchOf freshRecord freshRecord log count
 both-fresh e f = rw (e, f) refl
 
--- THE theorem, of the program: from fresh ends and an empty book to its end after the end of the input, however the input came in pieces, all that was
+-- THE theorem, of the program: from fresh ends and an empty log to its end after the end of the input, however the input came in pieces, all that was
 -- handed to be written is the text of the input.
 pub whole : {w : Bench} {buf line out : List ℕ} {p : Place} (r : Ran bothEnds answerRoom freshBench w buf line out p) → p .steps ≡ 0 → Over (r .pieces)
-    → joined (r .texts) ≡ textOf bothEnds freshBench (joined (r .pieces))
+    → concat (r .texts) ≡ inputText bothEnds freshBench (concat (r .pieces))
 whole r z o = program-run cuts (r .run) z o

@@ -16,6 +16,6 @@ bothEnds =
       says = λ w line. benchText w (lineAsks w line longestFrame);
     }
 
--- what it begins with: fresh ends and an empty book
+-- what it begins with: fresh ends and an empty log
 abbrev pub freshBench : Bench
 freshBench = benchOf freshRecord freshRecord (replicate logSize 0) 0

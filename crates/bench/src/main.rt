@@ -7,7 +7,7 @@ ghost use lib.ListN.{length};
 ghost use Rattle.link.specs.Lent.{freshRecord};
 ghost use Rattle.bench_spec.specs.Bench.{benchOf};
 ghost use Rattle.bench_answer.specs.Text.{answerRoom};
-ghost use Rattle.line_io.specs.Place.{Fits};
+ghost use Rattle.line_io.specs.Place.{PlaceFits};
 ghost use Rattle.line_io.specs.Step.{Replied, Stepped};
 ghost use Rattle.line_io.specs.Program.{Ran};
 ghost use Rattle.bench.specs.Ends.{bothEnds};
@@ -43,7 +43,7 @@ fn step(
     out: &mut [u8; line_io::BUFFER_SIZE],
     p: Place,
 ) -> Place
-    requires { ⌜ (Fits p) × (0 < p .steps) ⌝ }
+    requires { ⌜ (PlaceFits p) × (0 < p .steps) ⌝ }
     ensures { λ r. ⌜ Stepped bothEnds answerRoom (benchOf (now (a .entry)) (now (b .entry)) (now (log .entry)) (now (count .entry))) (now (buf .entry)) (now (line .entry)) (now (out .entry)) p (benchOf (now (a .exit)) (now (b .exit)) (now (log .exit)) (now (count .exit))) (now (buf .exit)) (now (line .exit)) (now (out .exit)) r ⌝ }
 {
     let q = line_io::next(buf, line, out, bench_answer::ANSWER_ROOM, p);

@@ -7,6 +7,7 @@ use mathlib.Core.List.{List, [], _∷_, _++_}
 use native.Mathlib.Omega.{arith}
 use borrow.Author.Tests.{le-leb, lt-leb}
 use lib.ListN.{length, take, drop, replicate, length-take, length-drop}
+use Rattle.frame.specs.Layout.{dataBlockAt}
 use Rattle.octets.specs.Sizes.{longestFrame, longestBlock}
 use Rattle.octets.specs.Test.{when, first, Outcome, refused, ok, outcome, mapped, andThen}
 use Rattle.octets.specs.Octets.{field, left}
@@ -19,20 +20,20 @@ use Rattle.call_spec.specs.Calls.{Arguments, given}
 use Rattle.call_spec.specs.Answers.{blockOf}
 use Rattle.link.specs.Lent.{statusOf, sentOf}
 use Rattle.link.proofs.Answers.{sent-fits, sent-taken}
-use Rattle.bench_log.specs.Log.{placeSize, senderAt, lengthAt, frameAt, holds}
+use Rattle.bench_log.specs.Log.{placeSize, senderAt, lengthAt, frameLogged, holds}
 use Rattle.bench_log.proofs.Log.{held}
 use Rattle.answer_text.specs.declared.Output.{Output}
 use Rattle.answer_text.specs.declared.Output.the-variants as output
 use Rattle.answer_text.specs.Text.{textOf, outputOf, Begins}
 use Rattle.answer_text.proofs.Outputs.{output-fits}
-use Rattle.bench_spec.specs.Bench.{Bench, benchOf, recordAt, At, delivery, octetsAsk, lineAsks, callOutcome, comes, endOf}
+use Rattle.bench_spec.specs.Bench.{Bench, benchOf, recordAt, At, delivery, octetsAsk, lineAsks, callOutcome, comes, endOf, requestOfA, requestOfB, deliver}
 use Rattle.bench_call.specs.declared.BenchAnswer.{BenchAnswer}
 use Rattle.bench_call.specs.Answer.{benchAnswerOf}
 use Rattle.bench_call.proofs.Does.{no-block}
 use Rattle.bench_call.proofs.Handed.{call-from}
 use Rattle.bench_order.specs.Performed.{Performed}
 use Rattle.bench_answer.specs.Text.{lead, benchText, answerRoom, askedWith, benchIn, BenchAnswered}
-use Rattle.bench_answer.specs.Internal.{Gives}
+use Rattle.bench_answer.specs.Internal.{BenchGives}
 
 -- what fits the text: an answer is about end 0 or 1, and a block has at most 64 octets
 module _ (w : Bench) where
@@ -54,10 +55,10 @@ module _ (w : Bench) where
 
   received : (i : ℕ) (s : List ℕ) (room : ℕ) → length s ≤ longestFrame → length (blockOf (callOutcome (recordAt i w) (w .count) (given Receive s room))) ≤ longestBlock
   received i s room h =
-      ⊎-elim (λ e. omega (arith, ap length e)) (λ e. omega (arith, ap length e, length-drop 14 s)) (call-from (recordAt i w) (w .count) (given Receive s room))
+      ⊎-elim (λ e. omega (arith, ap length e)) (λ e. omega (arith, ap length e, length-drop dataBlockAt s)) (call-from (recordAt i w) (w .count) (given Receive s room))
 
-  frame-short : (n : ℕ) → lengthAt n (w .log) ≤ longestFrame → length (frameAt n (w .log)) ≤ longestFrame
-  unfolding frameAt
+  frame-short : (n : ℕ) → lengthAt n (w .log) ≤ longestFrame → length (frameLogged n (w .log)) ≤ longestFrame
+  unfolding frameLogged
   frame-short n h = omega (arith, length-take (lengthAt n (w .log)) (drop (n * placeSize + 2) (w .log)))
 
   fine-outcome : (b : Bool) (x : At) → (b ≡ true → Fine (ok x)) → Fine (outcome (first ((13, b) ∷ [])) x)
@@ -69,14 +70,14 @@ module _ (w : Bench) where
   unfolding delivery
   fine-delivery n room =
       fine-outcome (holds (w .count) n (w .log)) _ (λ z.
-      fine-call (1 - senderAt n (w .log)) _ (omega arith) (received (1 - senderAt n (w .log)) (frameAt n (w .log)) room (frame-short n (held (w .count) n (w .log) z .short))))
+      fine-call (1 - senderAt n (w .log)) _ (omega arith) (received (1 - senderAt n (w .log)) (frameLogged n (w .log)) room (frame-short n (held (w .count) n (w .log) z .short))))
 
   fine-octets : (s : List ℕ) (room : ℕ) → Fine (octetsAsk w s room)
   unfolding octetsAsk
   fine-octets s room =
-      if-eq Fine (kindOf s) 80 (λ _. fine-request 0 (drop 1 s) room (omega arith)) (λ _.
-      if-eq Fine (kindOf s) 81 (λ _. fine-request 1 (drop 1 s) room (omega arith)) (λ _.
-      if-eq Fine (kindOf s) 82 (λ _. after-question Fine fine-refused _ _ (fine-delivery (field 2 1 s) room)) (λ _. fine-refused 3)))
+      if-eq Fine (kindOf s) requestOfA (λ _. fine-request 0 (drop 1 s) room (omega arith)) (λ _.
+      if-eq Fine (kindOf s) requestOfB (λ _. fine-request 1 (drop 1 s) room (omega arith)) (λ _.
+      if-eq Fine (kindOf s) deliver (λ _. after-question Fine fine-refused _ _ (fine-delivery (field 2 1 s) room)) (λ _. fine-refused 3)))
 
   pub fine : (line : List ℕ) (room : ℕ) → Fine (lineAsks w line room)
   unfolding lineAsks
@@ -119,7 +120,7 @@ module _ {w : Bench} {q : Outcome At} {n : ℕ} {a b log frame : List ℕ} {r : 
   told-is = ap (λ (x : BenchAnswer). x .status) (p .answer)
 
   pub gives : {out out′ : List ℕ} {k : ℕ} → Begins (lead (r .end) ++ textOf (r .status) (take (r .block) (drop (r .at) log)) (take (r .sent) frame)) out out′ k
-      → Gives w q out a b log (r .count) out′ k
+      → BenchGives w q out a b log (r .count) out′ k
   unfolding benchText
   gives g = record { begins = rw (end-is, told-is, p .handed, sent-taken frames (comes w q) (p .buffer) sent-is) at g; bench = p .bench }
 
@@ -133,7 +134,7 @@ module _ (w : Bench) (line out : List ℕ) where
   unfolding askedWith first when outcome mapped outputOf left benchIn
   no-room h = gives-answer (refused 11) (rw (lt-leb answerRoom (length out) h) refl) refl refl refl
 
-  pub with-text : answerRoom ≤ length out → {a b log out′ : List ℕ} {count r : ℕ} → Gives w (lineAsks w line longestFrame) out a b log count out′ r
+  pub with-text : answerRoom ≤ length out → {a b log out′ : List ℕ} {count r : ℕ} → BenchGives w (lineAsks w line longestFrame) out a b log count out′ r
       → BenchAnswered w line out a b log count out′ (output.Written r)
   unfolding askedWith first when outcome mapped outputOf left benchIn
   with-text h g =

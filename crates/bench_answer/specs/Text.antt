@@ -14,11 +14,11 @@ use Rattle.link.specs.Lent.{statusOf}
 use Rattle.answer_text.specs.declared.Output.{Output}
 use Rattle.answer_text.specs.Text.{textOf, outputOf}
 use Rattle.answer_text.specs.Text as oneEnd
-use Rattle.bench_spec.specs.Bench.{Bench, benchOf, At, recordAt, lineAsks, comes, endOf, benchAfter}
+use Rattle.bench_spec.specs.Bench.{Bench, benchOf, At, recordAt, lineAsks, comes, endOf, benchAfter, requestOfA}
 
 -- 50 for A, 51 for B (hexadecimal)
 unfoldable pub lead : ℕ → List ℕ
-lead i = hex ((80 + i) ∷ [])
+lead i = hex ((requestOfA + i) ∷ [])
 
 -- The answer is about one end; its state and numbers are that end's.
 unfoldable pub benchText : Bench → Outcome At → List ℕ

@@ -9,7 +9,7 @@ ghost use Rattle.octets.specs.Sizes.{longestFrame, longestBlock};
 ghost use Rattle.answer_text.specs.Text.{textOf, Begins};
 ghost use Rattle.bench_spec.specs.Bench.{benchOf, lineAsks};
 ghost use Rattle.bench_answer.specs.Text.{lead, answerRoom, BenchAnswered};
-ghost use Rattle.bench_answer.specs.Internal.{Gives};
+ghost use Rattle.bench_answer.specs.Internal.{BenchGives};
 
 // Room for an answer: what one end's answer needs, and two characters before it.
 pub const ANSWER_ROOM: usize = answer_text::ANSWER_ROOM + 2;
@@ -44,7 +44,7 @@ fn write(
     out: &mut [u8],
 ) -> usize
     requires { ⌜ answerRoom ≤ length (now out) ⌝ }
-    ensures { λ r. ⌜ Gives (benchOf (now (a .entry)) (now (b .entry)) (now (log .entry)) (now (count .entry))) (lineAsks (benchOf (now (a .entry)) (now (b .entry)) (now (log .entry)) (now (count .entry))) (now (line .entry)) longestFrame) (now (out .entry)) (now (a .exit)) (now (b .exit)) (now (log .exit)) (now (count .exit)) (now (out .exit)) r ⌝ }
+    ensures { λ r. ⌜ BenchGives (benchOf (now (a .entry)) (now (b .entry)) (now (log .entry)) (now (count .entry))) (lineAsks (benchOf (now (a .entry)) (now (b .entry)) (now (log .entry)) (now (count .entry))) (now (line .entry)) longestFrame) (now (out .entry)) (now (a .exit)) (now (b .exit)) (now (log .exit)) (now (count .exit)) (now (out .exit)) r ⌝ }
 {
     let mut frame = [0u8; octets::LONGEST_FRAME];
     let r = bench_line::perform(a, b, log, *count, line, &mut frame);

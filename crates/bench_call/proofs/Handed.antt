@@ -17,7 +17,7 @@ use Rattle.call_spec.specs.Answers.{noticeOf, blockOf}
 use Rattle.link.specs.Record.{format}
 use Rattle.link.specs.Lent.{sentOf}
 use Rattle.link.proofs.Answers.{block-five, block-none}
-use Rattle.bench_log.specs.Log.{placeSize, places, logSize, lengthAt, frameAt, place, placeHead}
+use Rattle.bench_log.specs.Log.{placeSize, places, logSize, lengthAt, frameLogged, place, placeHead}
 use Rattle.bench_log.proofs.Places.{stays}
 use Rattle.bench_spec.specs.Bench.{sends, callOutcome, logAfter}
 use Rattle.bench_call.specs.Answer.{blockStart}
@@ -35,7 +35,7 @@ call-from rec count c =
 
 -- the frame received stays in its place, since what is sent goes to a later one
 keeps-sent : (i : ℕ) (log : List ℕ) (count n : ℕ) (x : Step) (s : Sent) → x .sent ≡ s → (sentOf (ok x) ≢ 0 → count < places) → n < count → logSize ≤ length log
-    → lengthAt n log ≤ longestFrame → frameAt n (logAfter i log count (ok x)) ≡ frameAt n log
+    → lengthAt n log ≤ longestFrame → frameLogged n (logAfter i log count (ok x)) ≡ frameLogged n log
 unfolding logAfter sends when sentOf wire
 keeps-sent i log count n x nothing e left below long short = rw e refl
 keeps-sent i log count n x (frame f) e left below long short =
@@ -43,7 +43,7 @@ keeps-sent i log count n x (frame f) e left below long short =
     rw e (stays n count log (place i (wire (frame f))) below (omega arith) short .octets)
 
 keeps : (i : ℕ) (log : List ℕ) (count n : ℕ) (o : Outcome Step) → (sentOf o ≢ 0 → count < places) → n < count → logSize ≤ length log → lengthAt n log ≤ longestFrame
-    → frameAt n (logAfter i log count o) ≡ frameAt n log
+    → frameLogged n (logAfter i log count o) ≡ frameLogged n log
 unfolding logAfter
 keeps i log count n (refused k) left below long short = refl
 keeps i log count n (ok x) left below long short = keeps-sent i log count n x (x .sent) refl left below long short
@@ -64,8 +64,8 @@ drop-part (suc k) zero z = let e : 0 ≡ 0 - suc k = omega arith in ap (λ (m : 
 drop-part (suc k) (suc n) [] = sym (take-none (suc n - suc k))
 drop-part (suc k) (suc n) (x ∷ z) = let e : n - k ≡ suc n - suc k = omega arith in drop-part k n z ∙ ap (λ (m : ℕ). take m (drop k z)) e
 
-block-part : (n : ℕ) (log : List ℕ) → take (length (drop dataBlockAt (frameAt n log))) (drop (blockStart n) log) ≡ drop dataBlockAt (frameAt n log)
-unfolding frameAt blockStart
+block-part : (n : ℕ) (log : List ℕ) → take (length (drop dataBlockAt (frameLogged n log))) (drop (blockStart n) log) ≡ drop dataBlockAt (frameLogged n log)
+unfolding frameLogged blockStart
 block-part n log =
     let y = drop (n * placeSize + placeHead) log in
     let m : n * placeSize + placeHead + dataBlockAt ≡ n * placeSize + (placeHead + dataBlockAt) = omega arith in
@@ -76,17 +76,17 @@ pub none-stands : (n : ℕ) (log b : List ℕ) → length b ≡ 0 → Stands n l
 none-stands n log [] h = refl
 none-stands n log (x ∷ b) h = absurd (omega arith)
 
-some-stands : (n : ℕ) (log b : List ℕ) → b ≡ drop dataBlockAt (frameAt n log) → Stands n log b
+some-stands : (n : ℕ) (log b : List ℕ) → b ≡ drop dataBlockAt (frameLogged n log) → Stands n log b
 some-stands n log b e =
     by-eq (length b) 0 (none-stands n log b)
     (λ z. rw (eq-no (length b) 0 0 (blockStart n) z, e) (block-part n log))
 
-pub stands : (i : ℕ) (rec log : List ℕ) (count n room : ℕ) → let o = callOutcome rec count (given Receive (frameAt n log) room) in
+pub stands : (i : ℕ) (rec log : List ℕ) (count n room : ℕ) → let o = callOutcome rec count (given Receive (frameLogged n log) room) in
     (sentOf o ≢ 0 → count < places) → n < count → logSize ≤ length log → lengthAt n log ≤ longestFrame → Stands n (logAfter i log count o) (blockOf o)
 stands i rec log count n room left below long short =
-    let o = callOutcome rec count (given Receive (frameAt n log) room) in
+    let o = callOutcome rec count (given Receive (frameLogged n log) room) in
     let log′ = logAfter i log count o in
     ⊎-elim
     (λ (e : blockOf o ≡ []). none-stands n log′ (blockOf o) (ap length e))
-    (λ (e : blockOf o ≡ drop dataBlockAt (frameAt n log)). some-stands n log′ (blockOf o) (e ∙ ap (drop dataBlockAt) (sym (keeps i log count n o left below long short))))
-    (call-from rec count (given Receive (frameAt n log) room))
+    (λ (e : blockOf o ≡ drop dataBlockAt (frameLogged n log)). some-stands n log′ (blockOf o) (e ∙ ap (drop dataBlockAt) (sym (keeps i log count n o left below long short))))
+    (call-from rec count (given Receive (frameLogged n log) room))

@@ -24,7 +24,7 @@ use Rattle.protocol.specs.Endpoint.{Endpoint, sized, sound}
 use Rattle.protocol.specs.Table.{Sent, frame, Step, rule, apply, step}
 use Rattle.protocol.specs.Requests.{oldest, resent, refusal, accept}
 use Rattle.protocol.specs.Requests as protocol
-use Rattle.protocol.specs.Network.{ask, deliver, Call, perform}
+use Rattle.protocol.specs.History.{ask, deliver, Call, perform}
 use Rattle.protocol.specs.Claim.{blockSent}
 use Rattle.protocol.proofs.Sound.{sized-at, sound-so}
 use Rattle.call_spec.specs.declared.Call as calls

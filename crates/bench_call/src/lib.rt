@@ -13,7 +13,7 @@ ghost use Rattle.endpoint.specs.Record.{recordSize};
 ghost use Rattle.call_spec.specs.declared.Call.the-variants.{Request, Receive};
 ghost use Rattle.call_spec.specs.Calls.{given};
 ghost use Rattle.link.specs.Lent.{Called};
-ghost use Rattle.bench_log.specs.Log.{places, logSize, lengthAt, frameAt};
+ghost use Rattle.bench_log.specs.Log.{places, logSize, lengthAt, frameLogged};
 ghost use Rattle.bench_spec.specs.Bench.{callOutcome};
 ghost use Rattle.bench_call.specs.Internal.{hasPlace, noted, notedCount, blockPlace, answerFrom, Does};
 
@@ -120,7 +120,7 @@ pub fn deliver_at(
     out: &mut [u8],
 ) -> BenchAnswer
     requires { ⌜ (recordSize ≤ length (now rec)) × ((logSize ≤ length (now log)) × (((n < count) × (count ≤ places)) × (lengthAt n (now log) ≤ longestFrame))) ⌝ }
-    ensures { λ r. ⌜ Does end (now (rec .entry)) (now (log .entry)) count n (callOutcome (now (rec .entry)) count (given Receive (frameAt n (now (log .entry))) (length (now (out .entry))))) (now (out .entry)) (now (rec .exit)) (now (log .exit)) (now (out .exit)) r ⌝ }
+    ensures { λ r. ⌜ Does end (now (rec .entry)) (now (log .entry)) count n (callOutcome (now (rec .entry)) count (given Receive (frameLogged n (now (log .entry))) (length (now (out .entry))))) (now (out .entry)) (now (rec .exit)) (now (log .exit)) (now (out .exit)) r ⌝ }
 {
     let a = call_end(Call::Receive, rec, bench_log::frame_of(log, n), count, out);
     finish(end, a, n, log, count, out)

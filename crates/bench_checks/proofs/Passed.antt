@@ -1,4 +1,4 @@
--- What holds where questions 11 and 12 are passed. Assumes nothing.
+-- What holds where questions 11 and 12 are passed.
 use Prim.Native.Nat.{ℕ, _≤_}
 use mathlib.Core.Path.{_≡_}
 use mathlib.Core.Bool.{true}

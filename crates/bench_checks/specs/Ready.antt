@@ -4,8 +4,8 @@ use mathlib.Core.List.{List, [], _∷_}
 use lib.Dec.{leb}
 use Rattle.octets.specs.Sizes.{longestFrame}
 use Rattle.octets.specs.Test.{Question}
-use Rattle.bench_spec.specs.Bench.{Bench, sizeQuestions, soundQuestions}
+use Rattle.bench_spec.specs.Bench.{Bench, bufferQuestions, soundQuestions}
 
 -- with a buffer of so many octets for a frame
 abbrev pub readyQuestions : Bench → ℕ → List Question
-readyQuestions w room = sizeQuestions w ((11, leb longestFrame room) ∷ soundQuestions w [])
+readyQuestions w room = bufferQuestions w ((11, leb longestFrame room) ∷ soundQuestions w [])

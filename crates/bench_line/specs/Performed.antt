@@ -13,8 +13,8 @@ abbrev pub LinePerformed : Bench → List ℕ → List ℕ → List ℕ → List
 LinePerformed w line out a b log out′ r = Performed w (lineAsks w line (length out)) (field 2 1 (unhex line)) out a b log out′ r
 
 -- the answer in numbers, for programs in C
-abbrev pub answerIn : ℕ → ℕ → ℕ → ℕ → ℕ → ℕ → ℕ → ℕ → ℕ → ℕ → BenchAnswer
-answerIn number end state notice local remote sent at block count =
+abbrev pub benchAnswerIn : ℕ → ℕ → ℕ → ℕ → ℕ → ℕ → ℕ → ℕ → ℕ → ℕ → BenchAnswer
+benchAnswerIn number end state notice local remote sent at block count =
     record {
       end = end;
       status = record { number = number; state = state; notice = notice; local = local; remote = remote };

@@ -2,7 +2,7 @@
 use bench_call::BenchAnswer;
 use hex::Line;
 ghost use Rattle.bench_spec.specs.Bench.{benchOf};
-ghost use Rattle.bench_line.specs.Performed.{LinePerformed, answerIn};
+ghost use Rattle.bench_line.specs.Performed.{LinePerformed, benchAnswerIn};
 
 // Plays a line, which is given without its line feed, on the bench with the records a and b, the log and so many places of it in
 // use. A frame that is sent goes to the start of out and to the next place of the log.
@@ -47,7 +47,7 @@ pub extern "C" fn dock_bench(
     at: &mut usize,
     block: &mut usize,
 ) -> u8
-    ensures { λ r. ⌜ LinePerformed (benchOf (now (a .entry)) (now (b .entry)) (now (log .entry)) (now (count .entry))) (now (line .entry)) (now (out .entry)) (now (a .exit)) (now (b .exit)) (now (log .exit)) (now (out .exit)) (answerIn r (now (end .exit)) (now (state .exit)) (now (notice .exit)) (now (local .exit)) (now (remote .exit)) (now (sent .exit)) (now (at .exit)) (now (block .exit)) (now (count .exit))) ⌝ }
+    ensures { λ r. ⌜ LinePerformed (benchOf (now (a .entry)) (now (b .entry)) (now (log .entry)) (now (count .entry))) (now (line .entry)) (now (out .entry)) (now (a .exit)) (now (b .exit)) (now (log .exit)) (now (out .exit)) (benchAnswerIn r (now (end .exit)) (now (state .exit)) (now (notice .exit)) (now (local .exit)) (now (remote .exit)) (now (sent .exit)) (now (at .exit)) (now (block .exit)) (now (count .exit))) ⌝ }
 {
     let r = perform(a, b, log, *count, line, out);
     *count = r.count;

@@ -1,4 +1,4 @@
--- A place that was entered reads back, and the places before it stay. Assumes nothing.
+-- A place that was entered reads back, and the places before it stay.
 use Prim.Native.Nat.{ℕ, _+_, _-_, _*_, _≤_, _<_}
 use mathlib.Core.Path.{_≡_, sym, ap, _∙_}
 use mathlib.Core.List.{List, _∷_, _++_, append-assoc}
@@ -8,13 +8,13 @@ use lib.ListN.{length, take, drop, getD, replicate, length-drop, take-append-dro
 use lib.Seq.{length-take-le, take-append-le, drop-append-le, take-append-seam, drop-append-add, getD-append-add}
 use Rattle.octets.specs.Sizes.{longestFrame}
 use Rattle.octets.specs.Octets.{put, padded}
-use Rattle.bench_log.specs.Log.{senderAt, lengthAt, frameAt, place, placeSize}
+use Rattle.bench_log.specs.Log.{senderAt, lengthAt, frameLogged, place, placeSize}
 
 -- what place k reads as
 pub record Reads (log : List ℕ) (k i n : ℕ) (s : List ℕ) : Type 0 where
   pub sender : senderAt k log ≡ i
   pub count : lengthAt k log ≡ n
-  pub octets : frameAt k log ≡ s
+  pub octets : frameLogged k log ≡ s
 
 -- a part of a list that ends before what follows
 part-front : (m n : ℕ) (p t : List ℕ) → m + n ≤ length p → take n (drop m (p ++ t)) ≡ take n (drop m p)
@@ -23,8 +23,8 @@ part-front m n p t h =
 
 -- places that two lists share
 shared : (k : ℕ) (p t u : List ℕ) → k * placeSize + placeSize ≤ length p → lengthAt k (p ++ u) ≤ longestFrame
-    → Reads (p ++ t) k (senderAt k (p ++ u)) (lengthAt k (p ++ u)) (frameAt k (p ++ u))
-unfolding senderAt lengthAt frameAt
+    → Reads (p ++ t) k (senderAt k (p ++ u)) (lengthAt k (p ++ u)) (frameLogged k (p ++ u))
+unfolding senderAt lengthAt frameLogged
 shared k p t u h short =
     let at : (j : ℕ) → j < length p → getD (p ++ t) j 0 ≡ getD (p ++ u) j 0 = λ j l. List·getD-append p t 0 j l ∙ sym (List·getD-append p u 0 j l) in
     let n : lengthAt k (p ++ t) ≡ lengthAt k (p ++ u) = at (k * placeSize + 1) (omega arith) in
@@ -37,7 +37,7 @@ shared k p t u h short =
 
 -- a place before the one that is entered
 pub stays : (k n : ℕ) (log s : List ℕ) → k < n → n * placeSize + placeSize ≤ length log → lengthAt k log ≤ longestFrame
-    → Reads (put log (n * placeSize) s) k (senderAt k log) (lengthAt k log) (frameAt k log)
+    → Reads (put log (n * placeSize) s) k (senderAt k log) (lengthAt k log) (frameLogged k log)
 unfolding put
 stays k n log s h room short =
     let e = take-append-drop (n * placeSize) log in
@@ -45,7 +45,7 @@ stays k n log s h room short =
 
 -- the place that is entered
 after-front : (p r s : List ℕ) (k i : ℕ) → length p ≡ k * placeSize → Reads (p ++ (i ∷ length s ∷ (s ++ r))) k i (length s) s
-unfolding senderAt lengthAt frameAt
+unfolding senderAt lengthAt frameLogged
 after-front p r s k i e =
     let y = i ∷ length s ∷ (s ++ r) in
     let n : lengthAt k (p ++ y) ≡ length s = rw e at (getD-append-add p y 1 0) in

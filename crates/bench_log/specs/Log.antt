@@ -28,8 +28,8 @@ senderAt n log = getD log (n * placeSize) 0
 unfoldable pub lengthAt : ℕ → List ℕ → ℕ
 lengthAt n log = getD log (n * placeSize + 1) 0
 
-unfoldable pub frameAt : ℕ → List ℕ → List ℕ
-frameAt n log = take (lengthAt n log) (drop (n * placeSize + placeHead) log)
+unfoldable pub frameLogged : ℕ → List ℕ → List ℕ
+frameLogged n log = take (lengthAt n log) (drop (n * placeSize + placeHead) log)
 
 -- Question 13: does the log hold that frame, with a sender octet 0 or 1 and a length of 9 to 78?
 unfoldable pub holds : ℕ → ℕ → List ℕ → Bool

@@ -4,7 +4,7 @@ ghost use Prim.Native.Nat.{_*_, _≤_, _<_};
 ghost use lib.ListN.{length};
 ghost use Rattle.octets.specs.Sizes.{longestFrame};
 ghost use Rattle.octets.specs.Octets.{put};
-ghost use Rattle.bench_log.specs.Log.{placeSize, places, logSize, senderAt, lengthAt, frameAt, holds, place};
+ghost use Rattle.bench_log.specs.Log.{placeSize, places, logSize, senderAt, lengthAt, frameLogged, holds, place};
 
 // The octets of a place, the places, and the octets of all.
 pub const PLACE_SIZE: usize = FRAME_AT + octets::LONGEST_FRAME;
@@ -41,7 +41,7 @@ pub fn sender_of(log: &[u8], n: usize) -> u8
 
 pub fn frame_of(log: &[u8], n: usize) -> &[u8]
     requires { ⌜ (logSize ≤ length (now log)) × ((n < places) × (lengthAt n (now log) ≤ longestFrame)) ⌝ }
-    ensures { λ r. ⌜ now r ≡ frameAt n (now (log .entry)) ⌝ }
+    ensures { λ r. ⌜ now r ≡ frameLogged n (now (log .entry)) ⌝ }
 {
     let at = n * PLACE_SIZE + FRAME_AT;
     let end = at + octets::wide(log[n * PLACE_SIZE + 1]);

@@ -16,9 +16,9 @@ use Rattle.frame.specs.Read.{kindOf}
 use Rattle.call_spec.specs.declared.Call.the-variants.{Request, Receive}
 use Rattle.call_spec.specs.Calls.{Arguments, given, recordAfter, bufferAfter}
 use Rattle.call_spec.specs.Answers.{blockOf}
-use Rattle.bench_log.specs.Log.{senderAt, frameAt, holds}
+use Rattle.bench_log.specs.Log.{senderAt, frameLogged, holds}
 use Rattle.bench_log.proofs.Log.{held}
-use Rattle.bench_spec.specs.Bench.{Bench, benchOf, recordAt, At, delivery, octetsAsk, callOutcome, comes, endOf, logAfter, countAfter, benchAfter}
+use Rattle.bench_spec.specs.Bench.{Bench, benchOf, recordAt, At, delivery, octetsAsk, callOutcome, comes, endOf, logAfter, countAfter, benchAfter, requestOfA, requestOfB, deliver}
 use Rattle.link.specs.declared.Answer.{Answer}
 use Rattle.link.specs.Lent.{answerOf}
 use Rattle.bench_call.specs.declared.BenchAnswer.{BenchAnswer}
@@ -61,42 +61,42 @@ module _ (a b log : List ℕ) (count : ℕ) where
   unfolding delivery first when outcome
   no-frame n room h = rw h refl
 
-  goes : (n room : ℕ) → holds count n log ≡ true → delivery w n room ≡ ok (1 - senderAt n log, given Receive (frameAt n log) room)
+  goes : (n room : ℕ) → holds count n log ≡ true → delivery w n room ≡ ok (1 - senderAt n log, given Receive (frameLogged n log) room)
   unfolding delivery first when outcome
   goes n room h = rw h refl
 
-  pub to-b : (n room : ℕ) → holds count n log ≡ true → senderAt n log ≡ 0 → delivery w n room ≡ ok (1, given Receive (frameAt n log) room)
-  to-b n room h z = goes n room h ∙ ap (λ (i : ℕ). ok (1 - i, given Receive (frameAt n log) room)) z
+  pub to-b : (n room : ℕ) → holds count n log ≡ true → senderAt n log ≡ 0 → delivery w n room ≡ ok (1, given Receive (frameLogged n log) room)
+  to-b n room h z = goes n room h ∙ ap (λ (i : ℕ). ok (1 - i, given Receive (frameLogged n log) room)) z
 
-  pub to-a : (n room : ℕ) → holds count n log ≡ true → senderAt n log ≢ 0 → delivery w n room ≡ ok (0, given Receive (frameAt n log) room)
+  pub to-a : (n room : ℕ) → holds count n log ≡ true → senderAt n log ≢ 0 → delivery w n room ≡ ok (0, given Receive (frameLogged n log) room)
   to-a n room h z =
       let one : senderAt n log ≡ 1 = omega (arith, held count n log h .sender, z) in
-      goes n room h ∙ ap (λ (i : ℕ). ok (1 - i, given Receive (frameAt n log) room)) one
+      goes n room h ∙ ap (λ (i : ℕ). ok (1 - i, given Receive (frameLogged n log) room)) one
 
   -- what a line's octets ask, by their kind
   module _ (s : List ℕ) (room : ℕ) where
-    pub asks-a : kindOf s ≡ 80 → octetsAsk w s room ≡ ok (0, given Request (drop 1 s) room)
+    pub asks-a : kindOf s ≡ requestOfA → octetsAsk w s room ≡ ok (0, given Request (drop 1 s) room)
     unfolding octetsAsk
-    asks-a h = eq-yes (kindOf s) 80 _ _ h
+    asks-a h = eq-yes (kindOf s) requestOfA _ _ h
 
-    pub asks-b : kindOf s ≢ 80 → kindOf s ≡ 81 → octetsAsk w s room ≡ ok (1, given Request (drop 1 s) room)
+    pub asks-b : kindOf s ≢ requestOfA → kindOf s ≡ requestOfB → octetsAsk w s room ≡ ok (1, given Request (drop 1 s) room)
     unfolding octetsAsk
-    asks-b x h = eq-no (kindOf s) 80 _ _ x ∙ eq-yes (kindOf s) 81 _ _ h
+    asks-b x h = eq-no (kindOf s) requestOfA _ _ x ∙ eq-yes (kindOf s) requestOfB _ _ h
 
-    pub asks-none : kindOf s ≢ 80 → kindOf s ≢ 81 → kindOf s ≢ 82 → octetsAsk w s room ≡ refused 3
+    pub asks-none : kindOf s ≢ requestOfA → kindOf s ≢ requestOfB → kindOf s ≢ deliver → octetsAsk w s room ≡ refused 3
     unfolding octetsAsk
-    asks-none x y h = eq-no (kindOf s) 80 _ _ x ∙ eq-no (kindOf s) 81 _ _ y ∙ eq-no (kindOf s) 82 _ _ h
+    asks-none x y h = eq-no (kindOf s) requestOfA _ _ x ∙ eq-no (kindOf s) requestOfB _ _ y ∙ eq-no (kindOf s) deliver _ _ h
 
-    fetches : kindOf s ≡ 82 → octetsAsk w s room ≡ refusing (first ((4, eqb (length s) 3) ∷ [])) (delivery w (field 2 1 s) room)
+    fetches : kindOf s ≡ deliver → octetsAsk w s room ≡ refusing (first ((4, eqb (length s) 3) ∷ [])) (delivery w (field 2 1 s) room)
     unfolding octetsAsk
     fetches h =
-        eq-no (kindOf s) 80 _ _ (λ z. omega (arith, h, z)) ∙ eq-no (kindOf s) 81 _ _ (λ z. omega (arith, h, z)) ∙ eq-yes (kindOf s) 82 _ _ h
+        eq-no (kindOf s) requestOfA _ _ (λ z. omega (arith, h, z)) ∙ eq-no (kindOf s) requestOfB _ _ (λ z. omega (arith, h, z)) ∙ eq-yes (kindOf s) deliver _ _ h
 
-    pub asks-short : kindOf s ≡ 82 → length s ≢ 3 → octetsAsk w s room ≡ refused 4
+    pub asks-short : kindOf s ≡ deliver → length s ≢ 3 → octetsAsk w s room ≡ refused 4
     unfolding first when refusing
     asks-short h x = fetches h ∙ rw (ne-eqb (length s) 3 x) refl
 
-    pub asks-frame : kindOf s ≡ 82 → length s ≡ 3 → {n : ℕ} → n ≡ field 2 1 s → octetsAsk w s room ≡ delivery w n room
+    pub asks-frame : kindOf s ≡ deliver → length s ≡ 3 → {n : ℕ} → n ≡ field 2 1 s → octetsAsk w s room ≡ delivery w n room
     unfolding first when refusing
     asks-frame h x e = rw e (fetches h ∙ rw (eq-eqb (length s) 3 x) refl)
 

@@ -10,7 +10,7 @@ use Rattle.octets.specs.Test.{when, ifEq, first, Outcome, ok, outcome, andThen,
 use Rattle.call_spec.specs.declared.Call.the-variants.{Receive}
 use Rattle.call_spec.specs.Calls.{given}
 use Rattle.endpoint.proofs.Sounds.{by-lt}
-use Rattle.bench_log.specs.Log.{senderAt, frameAt, holds}
+use Rattle.bench_log.specs.Log.{senderAt, frameLogged, holds}
 use Rattle.bench_log.proofs.Log.{too-high, held}
 use Rattle.bench_spec.specs.Bench.{Bench, At, recordAt, delivery, callOutcome, comes, endOf}
 use Rattle.bench_checks.proofs.Passed.{Passed, passed}
@@ -32,13 +32,13 @@ module _ (w : Bench) (n : ℕ) where
   beyond h = not-held (sym (too-high (w .count) n (w .log) h))
 
   module _ (h : holds (w .count) n (w .log) ≡ true) where
-    goes : {j : ℕ} → 1 - senderAt n (w .log) ≡ j → delivery w n longestFrame ≡ ok (j, given Receive (frameAt n (w .log)) longestFrame)
+    goes : {j : ℕ} → 1 - senderAt n (w .log) ≡ j → delivery w n longestFrame ≡ ok (j, given Receive (frameLogged n (w .log)) longestFrame)
     unfolding delivery outcome first when
     goes e = rw (h, e) refl
 
     -- the call at an end
     abbrev Changed : List ℕ → Type 0
-    Changed rec = Changes rec (callOutcome rec (w .count) (given Receive (frameAt n (w .log)) longestFrame))
+    Changed rec = Changes rec (callOutcome rec (w .count) (given Receive (frameLogged n (w .log)) longestFrame))
 
     abbrev Goes : Bool → Outcome At → Type 0
     Goes r d = Says r (Changes (recordAt (endOf d) w) (comes w d))

@@ -10,7 +10,7 @@ use Rattle.protocol.specs.Table.{Step}
 use Rattle.call_spec.specs.Calls.{recordAfter}
 use Rattle.link.specs.Record.{format}
 use Rattle.bench_log.specs.Log.{places}
-use Rattle.bench_spec.specs.Bench.{Bench, recordAt, sizeQuestions, soundQuestions, delivery, comes, endOf}
+use Rattle.bench_spec.specs.Bench.{Bench, recordAt, bufferQuestions, soundQuestions, delivery, comes, endOf}
 use Rattle.bench_query.specs.declared.Found.{Found}
 use Rattle.bench_query.specs.declared.Found.the-variants.{Frame, Nothing, Refused}
 
@@ -25,7 +25,7 @@ WouldChange w n = Changes (recordAt (endOf (delivery w n longestFrame)) w) (come
 
 -- 11 and 12, as for a line; no buffer for a frame is lent.
 abbrev pub questions : Bench → List Question
-questions w = sizeQuestions w (soundQuestions w [])
+questions w = bufferQuestions w (soundQuestions w [])
 
 -- Which of the frames that matter is named is left open.
 abbrev pub Answers : Bench → Found → Type 0

@@ -17,7 +17,7 @@ use Rattle.call_spec.specs.Calls.{Arguments, given}
 use Rattle.link.specs.Record.{ends}
 use Rattle.bench_log.specs.Log.{logSize}
 use Rattle.bench_log.proofs.Log.{held}
-use Rattle.bench_spec.specs.Bench.{Bench, At, delivery, octetsAsk, lineAsks}
+use Rattle.bench_spec.specs.Bench.{Bench, At, delivery, octetsAsk, lineAsks, requestOfA, requestOfB, deliver}
 use Rattle.bench_spec.specs.Run.{entry}
 use Rattle.bench_spec.proofs.Logged.{SentBy, Logged}
 
@@ -55,9 +55,9 @@ module _ (w : Bench) (e : Two ends) (h : Logged e (w .count) (w .log)) where
   asks-so : (s : List ℕ) (room : ℕ) → IfOk (octetsAsk w s room)
   unfolding octetsAsk
   asks-so s room =
-      if-eq IfOk (kindOf s) 80 (λ _. is-ok _ (asks-fair e 0 (drop 1 s) room (omega arith)))
-      (λ _. if-eq IfOk (kindOf s) 81 (λ _. is-ok _ (asks-fair e 1 (drop 1 s) room (omega arith)))
-      (λ _. if-eq IfOk (kindOf s) 82 (λ _ x k. delivery-fair (field 2 1 s) room x (passing _ k .1))
+      if-eq IfOk (kindOf s) requestOfA (λ _. is-ok _ (asks-fair e 0 (drop 1 s) room (omega arith)))
+      (λ _. if-eq IfOk (kindOf s) requestOfB (λ _. is-ok _ (asks-fair e 1 (drop 1 s) room (omega arith)))
+      (λ _. if-eq IfOk (kindOf s) deliver (λ _ x k. delivery-fair (field 2 1 s) room x (passing _ k .1))
       (λ _. not-ok 3)))
 
   pub asked-fair : (line : List ℕ) (room : ℕ) (x : At) → lineAsks w line room ≡ ok x → Fair e x × (logSize ≤ length (w .log))

@@ -14,11 +14,11 @@ use Rattle.octets.proofs.Test.{by-eq}
 use Rattle.frame.specs.Frame.{Frame}
 use Rattle.frame.specs.Layout.{encode}
 use Rattle.protocol.specs.Table.{Sent, nothing, frame}
-use Rattle.protocol.specs.Network.{History, sent}
+use Rattle.protocol.specs.History.{History, sent}
 use Rattle.protocol.specs.World.{Two}
 use Rattle.call_spec.specs.Calls.{wire}
 use Rattle.link.specs.Record.{ends}
-use Rattle.bench_log.specs.Log.{placeSize, places, logSize, senderAt, lengthAt, frameAt, place}
+use Rattle.bench_log.specs.Log.{placeSize, places, logSize, senderAt, lengthAt, frameLogged, place}
 use Rattle.bench_log.proofs.Places.{Reads, stays, enters}
 use Rattle.bench_spec.specs.Bench.{sends}
 
@@ -33,7 +33,7 @@ pub record SentBy (e : Two ends) (i n : ℕ) (s : List ℕ) : Type 0 where
   pub by-b : i ≡ 1 → Among s (e .b .history)
 
 abbrev InPlace : Two ends → List ℕ → ℕ → Type 0
-InPlace e log k = SentBy e (senderAt k log) (lengthAt k log) (frameAt k log)
+InPlace e log k = SentBy e (senderAt k log) (lengthAt k log) (frameLogged k log)
 
 -- each place in use
 abbrev pub Logged : Two ends → ℕ → List ℕ → Type 0

@@ -26,7 +26,7 @@ use Rattle.link.specs.Record.{format, ends}
 use Rattle.link.proofs.Demand.{lawful, no-end-alone}
 use Rattle.bench_log.specs.Log.{places, logSize}
 use Rattle.bench_spec.specs.Bench.{Bench, At, recordAt, lineAsks, sends, logged, callOutcome, comes, endOf, logAfter, countAfter, benchAfter}
-use Rattle.bench_spec.specs.Run.{Line, lineAfter, linesAfter, entry, entriesOf, callsOf, newEnds, newBench, Holds}
+use Rattle.bench_spec.specs.Run.{LentLine, lineAfter, linesAfter, entry, entriesOf, callsOf, newEnds, newBench, Holds}
 use Rattle.bench_spec.proofs.Sends.{grows, has-sent, encode-short}
 use Rattle.bench_spec.proofs.Logged.{Among, Logged, Grows, still, logs}
 use Rattle.bench_spec.proofs.Fair.{asked-fair}
@@ -131,7 +131,7 @@ record Goes (w : Bench) (e : Two ends) (x : Outcome At) (o : Outcome Step) : Typ
   pub left : Beside (benchAfter (endOf x) w o) (run ends e (entriesOf x o))
   pub due : AllDue ends e (entriesOf x o)
 
-goes : {w : Bench} {e : Two ends} → Beside w e → (l : Line) (x : Outcome At) (o : Outcome Step)
+goes : {w : Bench} {e : Two ends} → Beside w e → (l : LentLine) (x : Outcome At) (o : Outcome Step)
     → lineAsks w (l .0) (l .1) ≡ x → comes w x ≡ o → Goes w e x o
 unfolding entriesOf comes andThen endOf
 goes h l (refused n) (refused m) j k = record { left = refusal h 0 m; due = tt }
@@ -142,29 +142,29 @@ goes {w} {e} h l (ok x) (ok y) j k =
     record { left = accepts h (x .0) (x .1) (f .0 .0) (f .0 .1) (f .1) k; due = (f .0 .1, tt) }
 
 -- all lines
-record GoesAll (w : Bench) (e : Two ends) (ls : List Line) : Type 0 where
+record GoesAll (w : Bench) (e : Two ends) (ls : List LentLine) : Type 0 where
   pub left : Beside (linesAfter w ls) (run ends e (callsOf w ls))
   pub due : AllDue ends e (callsOf w ls)
 
 -- what a line asks, and the calls that it makes
-module _ (w : Bench) (l : Line) where
+module _ (w : Bench) (l : LentLine) where
   abbrev asks : Outcome At
   asks = lineAsks w (l .0) (l .1)
 
   abbrev calls-callOutcome : List (Entry Arguments)
   calls-callOutcome = entriesOf asks (comes w asks)
 
-line-goes : {w : Bench} {e : Two ends} → Beside w e → (l : Line) → Goes w e (asks w l) (comes w (asks w l))
+line-goes : {w : Bench} {e : Two ends} → Beside w e → (l : LentLine) → Goes w e (asks w l) (comes w (asks w l))
 line-goes {w} h l = goes h l (asks w l) (comes w (asks w l)) refl refl
 
-one-more : {w : Bench} {e : Two ends} (l : Line) (ls : List Line) → Goes w e (asks w l) (comes w (asks w l))
+one-more : {w : Bench} {e : Two ends} (l : LentLine) (ls : List LentLine) → Goes w e (asks w l) (comes w (asks w l))
     → GoesAll (lineAfter w l) (run ends e (calls-callOutcome w l)) ls → GoesAll w e (l ∷ ls)
 unfolding linesAfter callsOf
 one-more {w} {e} l ls g r =
     let ds = callsOf (lineAfter w l) ls in
     record { left = rw (run-append ends e (calls-callOutcome w l) ds) (r .left); due = due-append ends e (calls-callOutcome w l) ds (g .due) (r .due) }
 
-goes-all : {w : Bench} {e : Two ends} → Beside w e → (ls : List Line) → GoesAll w e ls
+goes-all : {w : Bench} {e : Two ends} → Beside w e → (ls : List LentLine) → GoesAll w e ls
 unfolding lineAfter linesAfter callsOf
 goes-all h [] = record { left = h; due = tt }
 goes-all h (l ∷ ls) = let g = line-goes h l in one-more l ls g (goes-all (g .left) ls)
@@ -178,7 +178,7 @@ unfolding newBench
 new p q log =
     record { a = refl; b = refl; log = λ k l. absurd (omega arith); held = new-held ends roomy does (newEnds p q) (fresh-ends p q) }
 
-pub bench-run : (p q log : List ℕ) (lines : List Line) → Holds p q log lines
+pub bench-run : (p q log : List ℕ) (lines : List LentLine) → Holds p q log lines
 bench-run p q log lines =
     let g = goes-all (new p q log) lines in
     record {

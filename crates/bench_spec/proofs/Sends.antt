@@ -13,8 +13,8 @@ use Rattle.frame.specs.Fits.{Fits, control-fits, data-fits, ack-fits}
 use Rattle.frame.specs.Layout.{encode}
 use Rattle.frame.proofs.Writing.{head-length, encode-control, encode-ack, encode-data}
 use Rattle.protocol.specs.Table.{Sent, nothing, frame, Step}
-use Rattle.protocol.specs.Network.{also, sent, recorded}
-use Rattle.protocol.specs.Network as protocol
+use Rattle.protocol.specs.History.{also, sent, recorded}
+use Rattle.protocol.specs.History as protocol
 use Rattle.protocol.specs.World.{End, called}
 use Rattle.call_spec.specs.Calls.{Arguments, said, does, asked, performed}
 use Rattle.link.specs.Record.{format, ends}

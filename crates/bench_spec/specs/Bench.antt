@@ -13,7 +13,7 @@ use Rattle.protocol.specs.Table.{Sent, nothing, frame, Step}
 use Rattle.call_spec.specs.declared.Call.the-variants.{Request, Receive}
 use Rattle.call_spec.specs.Calls.{Arguments, given, wire, performed, recordAfter}
 use Rattle.link.specs.Record.{format}
-use Rattle.bench_log.specs.Log.{placeSize, places, logSize, senderAt, frameAt, holds, place}
+use Rattle.bench_log.specs.Log.{placeSize, places, logSize, senderAt, frameLogged, holds, place}
 
 -- two records, the log, and how many places of it are in use
 pub record Bench : Type 0 where
@@ -30,8 +30,8 @@ unfoldable pub recordAt : ℕ → Bench → List ℕ
 recordAt i w = ifEq i 0 (w .a) (w .b)
 
 -- 11 of the records and the log, 12 of the records and of the count: what both the line and the question ask first
-abbrev pub sizeQuestions : Bench → List Question → List Question
-sizeQuestions w rest =
+abbrev pub bufferQuestions : Bench → List Question → List Question
+bufferQuestions w rest =
     (11, leb (format .size) (length (w .a)))
     ∷ (11, leb (format .size) (length (w .b)))
     ∷ (11, leb logSize (length (w .log)))
@@ -50,21 +50,31 @@ At = ℕ × Arguments
 
 -- Frame n of the log, delivered to the end that did not send it, if the log holds it (13). room is the length of the buffer for a frame.
 unfoldable pub delivery : Bench → ℕ → ℕ → Outcome At
-delivery w n room = outcome (first ((13, holds (w .count) n (w .log)) ∷ [])) (1 - senderAt n (w .log), given Receive (frameAt n (w .log)) room)
+delivery w n room = outcome (first ((13, holds (w .count) n (w .log)) ∷ [])) (1 - senderAt n (w .log), given Receive (frameLogged n (w .log)) room)
 
--- Line 50 or 51 and a request: end A or B. Line 52 and a number of 2 octets: deliver that frame. (80, 81, 82 are not hexadecimal.)
+-- the kinds of a bench line: 50, 51 and 52 in hexadecimal
+abbrev pub requestOfA : ℕ
+requestOfA = 80
+
+abbrev pub requestOfB : ℕ
+requestOfB = 81
+
+abbrev pub deliver : ℕ
+deliver = 82
+
+-- Line 50 or 51 and a request: end A or B. Line 52 and a number of 2 octets: deliver that frame.
 unfoldable pub octetsAsk : Bench → List ℕ → ℕ → Outcome At
 octetsAsk w s room =
-    ifEq (kindOf s) 80 (ok (0, given Request (drop 1 s) room))
-    (ifEq (kindOf s) 81 (ok (1, given Request (drop 1 s) room))
-    (ifEq (kindOf s) 82 (refusing (first ((4, eqb (length s) 3) ∷ [])) (delivery w (field 2 1 s) room))
+    ifEq (kindOf s) requestOfA (ok (0, given Request (drop 1 s) room))
+    (ifEq (kindOf s) requestOfB (ok (1, given Request (drop 1 s) room))
+    (ifEq (kindOf s) deliver (refusing (first ((4, eqb (length s) 3) ∷ [])) (delivery w (field 2 1 s) room))
     (refused 3)))
 
 -- What a line asks, by all questions up to 13.
 unfoldable pub lineAsks : Bench → List ℕ → ℕ → Outcome At
 lineAsks w line room =
     refusing
-    (first (sizeQuestions w ((11, leb longestFrame room) ∷ soundQuestions w (lineQuestions line))))
+    (first (bufferQuestions w ((11, leb longestFrame room) ∷ soundQuestions w (lineQuestions line))))
     (octetsAsk w (unhex line) room)
 
 -- does the step send a frame?

@@ -12,14 +12,14 @@ use Rattle.link.specs.Record.{format, ends}
 use Rattle.bench_spec.specs.Bench.{Bench, At, lineAsks, comes, endOf, benchAfter}
 
 -- a line's text, and the length of the buffer for a frame that is lent with it
-abbrev pub Line : Type 0
-Line = List ℕ × ℕ
+abbrev pub LentLine : Type 0
+LentLine = List ℕ × ℕ
 
 -- the bench after one line, and after all
-unfoldable pub lineAfter : Bench → Line → Bench
+unfoldable pub lineAfter : Bench → LentLine → Bench
 lineAfter w l = let q = lineAsks w (l .0) (l .1) in benchAfter (endOf q) w (comes w q)
 
-unfoldable pub linesAfter : Bench → List Line → Bench
+unfoldable pub linesAfter : Bench → List LentLine → Bench
 linesAfter w [] = w
 linesAfter w (l ∷ ls) = linesAfter (lineAfter w l) ls
 
@@ -34,7 +34,7 @@ entriesOf (ok x) (refused n) = []
 entriesOf (ok x) (ok y) = entry x ∷ []
 
 -- the calls that the lines of a run make
-unfoldable pub callsOf : Bench → List Line → List (Entry Arguments)
+unfoldable pub callsOf : Bench → List LentLine → List (Entry Arguments)
 callsOf w [] = []
 callsOf w (l ∷ ls) = let q = lineAsks w (l .0) (l .1) in entriesOf q (comes w q) ++ callsOf (lineAfter w l) ls
 
@@ -47,7 +47,7 @@ unfoldable pub newBench : List ℕ → List ℕ → List ℕ → Bench
 newBench p q log = record { a = newEnds p q .a .rec; b = newEnds p q .b .rec; log = log; count = 0 }
 
 -- A run is such a list of calls, it leaves the records that the list leaves, and demand 3 holds of it.
-pub record Holds (p q log : List ℕ) (lines : List Line) : Type 0 where
+pub record Holds (p q log : List ℕ) (lines : List LentLine) : Type 0 where
   pub due : AllDue ends (newEnds p q) (callsOf (newBench p q log) lines)
   pub end-a : linesAfter (newBench p q log) lines .a ≡ run ends (newEnds p q) (callsOf (newBench p q log) lines) .a .rec
   pub end-b : linesAfter (newBench p q log) lines .b ≡ run ends (newEnds p q) (callsOf (newBench p q log) lines) .b .rec

@@ -18,8 +18,8 @@ use Rattle.frame.proofs.RoundTrip.{written-reads}
 use Rattle.frame.proofs.Blocks.{send-sized}
 use Rattle.protocol.specs.Endpoint.{Endpoint, sized}
 use Rattle.protocol.specs.Table.{Step}
-use Rattle.protocol.specs.Network.{History, now, sent}
-use Rattle.protocol.specs.Network as protocol
+use Rattle.protocol.specs.History.{History, now, sent}
+use Rattle.protocol.specs.History as protocol
 use Rattle.protocol.specs.Claim.{blockSent, NoEndAlone}
 use Rattle.protocol.specs.Limits.{Sized}
 use Rattle.protocol.proofs.World.{Simulates, no-end-alone}

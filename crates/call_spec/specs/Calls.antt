@@ -11,7 +11,7 @@ use Rattle.frame.specs.Layout.{encode}
 use Rattle.frame.specs.Read.{readFrame, readRequest}
 use Rattle.protocol.specs.Endpoint.{Endpoint}
 use Rattle.protocol.specs.Table.{Sent, nothing, frame, Step}
-use Rattle.protocol.specs.Network as protocol
+use Rattle.protocol.specs.History as protocol
 use Rattle.call_spec.specs.declared.Call.{Call}
 use Rattle.call_spec.specs.declared.Call.the-variants.{Request, Receive}
 

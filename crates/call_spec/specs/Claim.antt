@@ -6,7 +6,7 @@ use mathlib.Core.List.{List, _++_, map, List·Memᴰ}
 use lib.ListN.{length}
 use Rattle.frame.specs.Layout.{encode}
 use Rattle.protocol.specs.Endpoint.{Endpoint, fresh, sound}
-use Rattle.protocol.specs.Network.{History, sent}
+use Rattle.protocol.specs.History.{History, sent}
 use Rattle.protocol.specs.World.{Ends}
 use Rattle.protocol.specs.Limits.{Bounded}
 use Rattle.call_spec.specs.declared.Call.{Call}

@@ -14,11 +14,11 @@ use Rattle.frame.specs.declared.Header.{Header}
 use Rattle.frame.specs.declared.Header.the-variants.{Crao, Crpo, Crack, Rej, Reset, Dr, Drack, Data, Ack}
 use Rattle.frame.specs.declared.RequestKind.{RequestKind}
 use Rattle.frame.specs.declared.RequestKind.the-variants.{Connect, Listen, EndListening, Close, Send, Timer}
-use Rattle.codec.specs.Calls.{counted, blockIn, BlockTold}
+use Rattle.codec.specs.Calls.{countTold, blockRead, BlockTold}
 use Rattle.codec.specs.Internal.{blockAfter}
 
-pub frame-block : (h : Header) (s : List ℕ) → blockIn (frame (frameOf h (drop dataBlockAt s))) ≡ blockAfter (frameOf h (drop dataBlockAt s) .kind) s
-unfolding blockIn frameOf blockAfter ifEq when
+pub frame-block : (h : Header) (s : List ℕ) → blockRead (frame (frameOf h (drop dataBlockAt s))) ≡ blockAfter (frameOf h (drop dataBlockAt s) .kind) s
+unfolding blockRead frameOf blockAfter ifEq when
 frame-block (Crao s r) l = refl
 frame-block (Crpo s r) l = refl
 frame-block (Crack s r) l = refl
@@ -29,8 +29,8 @@ frame-block (Drack s r) l = refl
 frame-block (Data s r n) l = refl
 frame-block (Ack s r n) l = refl
 
-pub request-block : (q : RequestKind) (s : List ℕ) → blockIn (request (requestOf q (drop sendBlockAt s))) ≡ blockAfter (requestNumber (requestOf q (drop sendBlockAt s))) s
-unfolding blockIn requestOf requestNumber blockAfter ifEq when
+pub request-block : (q : RequestKind) (s : List ℕ) → blockRead (request (requestOf q (drop sendBlockAt s))) ≡ blockAfter (requestNumber (requestOf q (drop sendBlockAt s))) s
+unfolding blockRead requestOf requestNumber blockAfter ifEq when
 request-block Connect l = refl
 request-block Listen l = refl
 request-block EndListening l = refl
@@ -57,8 +57,8 @@ after-end k s =
     none-at-end s = drop-of-length-le s {i = length s - 0} (omega arith)
 
 -- what was read as i has its block at the end
-pub tells : (s : List ℕ) {o : Outcome Input} {i : Input} (k c : ℕ) {n : ℕ} → o ≡ ok i → blockIn i ≡ blockAfter k s → n ≡ length (blockAfter k s) → BlockTold o s c n
-unfolding counted mapped
+pub tells : (s : List ℕ) {o : Outcome Input} {i : Input} (k c : ℕ) {n : ℕ} → o ≡ ok i → blockRead i ≡ blockAfter k s → n ≡ length (blockAfter k s) → BlockTold o s c n
+unfolding countTold mapped
 tells s k c {n} e b h =
     rw e
     (record {
@@ -67,5 +67,5 @@ tells s k c {n} e b h =
     })
 
 pub tells-nothing : (s : List ℕ) {o : Outcome Input} {n : ℕ} (c : ℕ) → o ≡ refused n → BlockTold o s c c
-unfolding counted mapped
+unfolding countTold mapped
 tells-nothing s c e = rw e (record { count = refl; block = refl })

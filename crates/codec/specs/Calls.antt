@@ -16,15 +16,15 @@ use Rattle.frame.specs.Answer.{valuesOf, frameWith, requestNumber}
 use Rattle.frame.specs.declared.Values.{Values}
 
 -- how many octets a success has; a refusal leaves the number lent
-unfoldable pub counted : Outcome (List ℕ) → ℕ → ℕ
-counted (refused n) c = c
-counted (ok s) c = length s
+unfoldable pub countTold : Outcome (List ℕ) → ℕ → ℕ
+countTold (refused n) c = c
+countTold (ok s) c = length s
 
 -- a call that writes octets into a buffer, with their count
 pub record Filled (o : Outcome (List ℕ)) (out out′ : List ℕ) (c c′ number : ℕ) : Type 0 where
   pub answer : number ≡ numberOf o
   pub buffer : out′ ≡ left o out
-  pub count : c′ ≡ counted o c
+  pub count : c′ ≡ countTold o c
 
 -- a line of the octets s; 11 where the buffer has no room for it
 unfoldable pub writeLine : List ℕ → List ℕ → Outcome (List ℕ)
@@ -45,19 +45,19 @@ shown (ok (frame f)) v = valuesOf f
 shown (ok (request q)) v = record { kind = requestNumber q; sender = 0; quoted = 0; number = 0 }
 
 -- the block read: that of a DATA or a send
-unfoldable pub blockIn : Input → Block
-blockIn (frame f) = f .block
-blockIn (request connect) = []
-blockIn (request listen) = []
-blockIn (request endListening) = []
-blockIn (request close) = []
-blockIn (request (send b)) = b
-blockIn (request timer) = []
+unfoldable pub blockRead : Input → Block
+blockRead (frame f) = f .block
+blockRead (request connect) = []
+blockRead (request listen) = []
+blockRead (request endListening) = []
+blockRead (request close) = []
+blockRead (request (send b)) = b
+blockRead (request timer) = []
 
 -- its length is told, and it is the end of the octets s that were read
 pub record BlockTold (o : Outcome Input) (s : List ℕ) (c c′ : ℕ) : Type 0 where
-  pub count : c′ ≡ counted (mapped blockIn o) c
-  pub block : mapped (λ (i : Input). drop (length s - c′) s) o ≡ mapped blockIn o
+  pub count : c′ ≡ countTold (mapped blockRead o) c
+  pub block : mapped (λ (i : Input). drop (length s - c′) s) o ≡ mapped blockRead o
 
 -- writing it asks for the buffer, for a frame's kind, and for the count of a DATA's block
 unfoldable pub writeFrame : Values → Block → List ℕ → Outcome (List ℕ)

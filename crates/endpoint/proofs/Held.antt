@@ -17,8 +17,8 @@ use Rattle.frame.specs.Frame.{Block}
 use Rattle.protocol.specs.Endpoint as abstract
 use Rattle.protocol.specs.Endpoint.{sized}
 use Rattle.protocol.proofs.Sound.{sized-at, sound-so}
-use Rattle.endpoint.specs.View.{placesSize, places, lengthsOf, pack, view}
-use Rattle.endpoint.specs.Sound.{zeros, lengthOk, lengthsOk, unusedAt, unusedOk, sound}
+use Rattle.endpoint.specs.View.{placesSize, placesOf, lengthsOf, pack, view}
+use Rattle.endpoint.specs.Sound.{zeros, placeLengthOk, lengthsOk, unusedAt, unusedOk, sound}
 use Rattle.endpoint.proofs.Tests.{all-hold, zeros-of}
 use Rattle.endpoint.proofs.Packs.{Small, view-pack, length-lengths, length-places, drop-places, getD-lengths}
 use Rattle.endpoint.proofs.Sounds.{Numbers, by-lt}
@@ -50,8 +50,8 @@ module _ (q : List Block) (s : sized q ≡ true) where
   length-out : (i : ℕ) → length q ≤ i → getD (padded queueSize (lengthsOf q)) i 0 ≡ 0
   length-out i h = past queueSize (lengthsOf q) i (omega (arith, length-lengths q))
 
-  lengths-fine : (i : ℕ) → lengthOk (length q) i (getD (padded queueSize (lengthsOf q)) i 0) ≡ true
-  unfolding lengthOk when
+  lengths-fine : (i : ℕ) → placeLengthOk (length q) i (getD (padded queueSize (lengthsOf q)) i 0) ≡ true
+  unfolding placeLengthOk when
   lengths-fine i =
       let x = getD (padded queueSize (lengthsOf q)) i 0 in
       by-lt i (length q)
@@ -59,32 +59,32 @@ module _ (q : List Block) (s : sized q ≡ true) where
       (λ h. rw (le-ltb i (length q) h) (eq-eqb x 0 (length-out i h)))
 
   -- an octet of place i after its block
-  after : (i j : ℕ) → j < longestBlock → getD (padded queueSize (lengthsOf q)) i 0 ≤ j → getD (padded placesSize (places q)) (i * longestBlock + j) 0 ≡ 0
-  unfolding places
+  after : (i j : ℕ) → j < longestBlock → getD (padded queueSize (lengthsOf q)) i 0 ≤ j → getD (padded placesSize (placesOf q)) (i * longestBlock + j) 0 ≡ 0
+  unfolding placesOf
   after i j k m =
-      let lp : length (places q) ≡ length q * longestBlock = length-places q (small-of q s) in
+      let lp : length (placesOf q) ≡ length q * longestBlock = length-places q (small-of q s) in
       by-lt i (length q)
       (λ h.
       let b : Block = getD q i [] in
       let z = sized-at i q s h in
       let m′ : length b ≤ j = rw (length-in i h) at m in
-      inside placesSize (places q) (i * longestBlock + j) (omega arith)
-      ∙ sym (getD-drop (i * longestBlock) (places q) j 0)
-      ∙ ap (λ (l : List ℕ). getD l j 0) (drop-places i q (small-of q s) ∙ ap places (drop-cons q i [] h))
-      ∙ List·getD-append (padded longestBlock b) (places (drop (suc i) q)) 0 j (rw (length-padded longestBlock b (z .1)) k)
+      inside placesSize (placesOf q) (i * longestBlock + j) (omega arith)
+      ∙ sym (getD-drop (i * longestBlock) (placesOf q) j 0)
+      ∙ ap (λ (l : List ℕ). getD l j 0) (drop-places i q (small-of q s) ∙ ap placesOf (drop-cons q i [] h))
+      ∙ List·getD-append (padded longestBlock b) (placesOf (drop (suc i) q)) 0 j (rw (length-padded longestBlock b (z .1)) k)
       ∙ past longestBlock b j m′)
-      (λ h. past placesSize (places q) (i * longestBlock + j) (omega arith))
+      (λ h. past placesSize (placesOf q) (i * longestBlock + j) (omega arith))
 
-  unused-fine : (i : ℕ) → zeros (unusedAt (padded queueSize (lengthsOf q)) (padded placesSize (places q)) i) ≡ true
+  unused-fine : (i : ℕ) → zeros (unusedAt (padded queueSize (lengthsOf q)) (padded placesSize (placesOf q)) i) ≡ true
   unfolding unusedAt
   unused-fine i =
       let n = getD (padded queueSize (lengthsOf q)) i 0 in
-      let d : List ℕ = drop (i * longestBlock + n) (padded placesSize (places q)) in
+      let d : List ℕ = drop (i * longestBlock + n) (padded placesSize (placesOf q)) in
       zeros-of (take (longestBlock - n) d)
       (λ j h.
       let h′ : j < longestBlock - n = omega (arith, length-take (longestBlock - n) d, min-le-left (longestBlock - n) (length d)) in
       let at : i * longestBlock + (n + j) ≡ i * longestBlock + n + j = omega arith in
-      getD-take (longestBlock - n) d j 0 h′ ∙ getD-drop (i * longestBlock + n) (padded placesSize (places q)) j 0 ∙ rw at at (after i (n + j) (omega arith) (omega arith)))
+      getD-take (longestBlock - n) d j 0 h′ ∙ getD-drop (i * longestBlock + n) (padded placesSize (placesOf q)) j 0 ∙ rw at at (after i (n + j) (omega arith) (omega arith)))
 
 module _ (a : abstract.Endpoint) (s : abstract.sound a ≡ true) where
   is-sized : sized (a .queue) ≡ true
@@ -99,5 +99,5 @@ module _ (a : abstract.Endpoint) (s : abstract.sound a ≡ true) where
       let q = a .queue in
       joined (both (Numbers (pack a)) (sized q) s .0)
       (joined
-      (all-hold (λ i. lengthOk (length q) i (getD (padded queueSize (lengthsOf q)) i 0)) queueSize (λ i _. lengths-fine q is-sized i))
-      (all-hold (λ i. zeros (unusedAt (padded queueSize (lengthsOf q)) (padded placesSize (places q)) i)) queueSize (λ i _. unused-fine q is-sized i)))
+      (all-hold (λ i. placeLengthOk (length q) i (getD (padded queueSize (lengthsOf q)) i 0)) queueSize (λ i _. lengths-fine q is-sized i))
+      (all-hold (λ i. zeros (unusedAt (padded queueSize (lengthsOf q)) (padded placesSize (placesOf q)) i)) queueSize (λ i _. unused-fine q is-sized i)))

@@ -11,7 +11,7 @@ use Rattle.octets.specs.Octets.{put, padded}
 use Rattle.frame.specs.Frame.{Block}
 use Rattle.protocol.specs.Endpoint as abstract
 use Rattle.endpoint.specs.declared.Endpoint.{Endpoint}
-use Rattle.endpoint.specs.View.{placesSize, places, lengthsOf, pack, tab, placeBlock, view}
+use Rattle.endpoint.specs.View.{placesSize, placesOf, lengthsOf, pack, tab, placeBlock, view}
 use Rattle.endpoint.proofs.Pad.{put-padded, padded-padded, drop-padded, padded-is}
 
 -- every block has at most 64 bytes
@@ -28,8 +28,8 @@ unfolding lengthsOf
 length-lengths [] = refl
 length-lengths (b ∷ q) = ap suc (length-lengths q)
 
-pub length-places : (q : List Block) → Small q → length (places q) ≡ length q * longestBlock
-unfolding places
+pub length-places : (q : List Block) → Small q → length (placesOf q) ≡ length q * longestBlock
+unfolding placesOf
 length-places [] h = refl
 length-places (b ∷ q) h = rw (length-append, length-padded longestBlock b (h .0), length-places q (h .1)) (omega arith)
 
@@ -38,10 +38,10 @@ unfolding lengthsOf
 lengths-append [] r = refl
 lengths-append (b ∷ q) r = ap (λ (l : List ℕ). length b ∷ l) (lengths-append q r)
 
-places-append : (q r : List Block) → places (q ++ r) ≡ places q ++ places r
-unfolding places
+places-append : (q r : List Block) → placesOf (q ++ r) ≡ placesOf q ++ placesOf r
+unfolding placesOf
 places-append [] r = refl
-places-append (b ∷ q) r = rw (places-append q r) (sym (append-assoc (padded longestBlock b) (places q) (places r)))
+places-append (b ∷ q) r = rw (places-append q r) (sym (append-assoc (padded longestBlock b) (placesOf q) (placesOf r)))
 
 drop-lengths : (k : ℕ) (q : List Block) → drop k (lengthsOf q) ≡ lengthsOf (drop k q)
 unfolding lengthsOf
@@ -49,13 +49,13 @@ drop-lengths zero q = refl
 drop-lengths (suc k) [] = refl
 drop-lengths (suc k) (b ∷ q) = drop-lengths k q
 
-pub drop-places : (k : ℕ) (q : List Block) → Small q → drop (k * longestBlock) (places q) ≡ places (drop k q)
-unfolding places
+pub drop-places : (k : ℕ) (q : List Block) → Small q → drop (k * longestBlock) (placesOf q) ≡ placesOf (drop k q)
+unfolding placesOf
 drop-places zero q h = refl
 drop-places (suc k) [] h = drop-nil (suc k * longestBlock)
 drop-places (suc k) (b ∷ q) h =
     let e : suc k * longestBlock ≡ longestBlock + k * longestBlock = omega arith in
-    rw (e, ← drop-drop (k * longestBlock) longestBlock (padded longestBlock b ++ places q), drop-at (padded longestBlock b) (places q) longestBlock (length-padded longestBlock b (h .0)))
+    rw (e, ← drop-drop (k * longestBlock) longestBlock (padded longestBlock b ++ placesOf q), drop-at (padded longestBlock b) (placesOf q) longestBlock (length-padded longestBlock b (h .0)))
     (drop-places k q (h .1))
 
 -- a block joins
@@ -66,13 +66,13 @@ lengths-added q b h =
     rw (← ll) (put-padded queueSize (lengthsOf q) (length b ∷ []) (omega arith)) ∙ ap (padded queueSize) (sym (lengths-append q (b ∷ [])))
 
 pub blocks-added : (q : List Block) (b : Block) → Small q → length q < queueSize → length b ≤ longestBlock
-    → put (padded placesSize (places q)) (length q * longestBlock) b ≡ padded placesSize (places (q ++ (b ∷ [])))
-unfolding places
+    → put (padded placesSize (placesOf q)) (length q * longestBlock) b ≡ padded placesSize (placesOf (q ++ (b ∷ [])))
+unfolding placesOf
 blocks-added q b s h k =
-    let lp : length (places q) ≡ length q * longestBlock = length-places q s in
-    rw (← lp) (put-padded placesSize (places q) b (omega arith))
-    ∙ sym (padded-padded placesSize longestBlock (places q) b k (omega arith))
-    ∙ ap (λ (l : List ℕ). padded placesSize (places q ++ l)) (sym (append-nil (padded longestBlock b)))
+    let lp : length (placesOf q) ≡ length q * longestBlock = length-places q s in
+    rw (← lp) (put-padded placesSize (placesOf q) b (omega arith))
+    ∙ sym (padded-padded placesSize longestBlock (placesOf q) b k (omega arith))
+    ∙ ap (λ (l : List ℕ). padded placesSize (placesOf q ++ l)) (sym (append-nil (padded longestBlock b)))
     ∙ ap (padded placesSize) (sym (places-append q (b ∷ [])))
 
 -- the k oldest blocks leave
@@ -82,10 +82,10 @@ module _ (q : List Block) (k : ℕ) (h : length q ≤ queueSize) (m : k ≤ leng
       let ll : length (lengthsOf q) ≡ length q = length-lengths q in
       drop-padded queueSize k (lengthsOf q) (omega arith) (omega arith) ∙ ap (padded queueSize) (drop-lengths k q)
 
-  pub blocks-dropped : Small q → drop (k * longestBlock) (padded placesSize (places q)) ++ replicate (k * longestBlock) 0 ≡ padded placesSize (places (drop k q))
+  pub blocks-dropped : Small q → drop (k * longestBlock) (padded placesSize (placesOf q)) ++ replicate (k * longestBlock) 0 ≡ padded placesSize (placesOf (drop k q))
   blocks-dropped s =
-      let lp : length (places q) ≡ length q * longestBlock = length-places q s in
-      drop-padded placesSize (k * longestBlock) (places q) (omega arith) (omega arith) ∙ ap (padded placesSize) (drop-places k q s)
+      let lp : length (placesOf q) ≡ length q * longestBlock = length-places q s in
+      drop-padded placesSize (k * longestBlock) (placesOf q) (omega arith) (omega arith) ∙ ap (padded placesSize) (drop-places k q s)
 
 -- view
 pub length-tab : (n : ℕ) (f : ℕ → Block) → length (tab n f) ≡ n
@@ -104,25 +104,25 @@ getD-lengths [] i = refl
 getD-lengths (b ∷ q) zero = refl
 getD-lengths (b ∷ q) (suc i) = getD-lengths q i
 
-block-is : (q : List Block) (i : ℕ) → Small q → i < length q → placeBlock (padded queueSize (lengthsOf q)) (padded placesSize (places q)) i ≡ getD q i []
-unfolding placeBlock padded places
+block-is : (q : List Block) (i : ℕ) → Small q → i < length q → placeBlock (padded queueSize (lengthsOf q)) (padded placesSize (placesOf q)) i ≡ getD q i []
+unfolding placeBlock padded placesOf
 block-is q i s h =
     let b : Block = getD q i [] in
     let zl : List ℕ = replicate (queueSize - length (lengthsOf q)) 0 in
-    let zp : List ℕ = replicate (placesSize - length (places q)) 0 in
+    let zp : List ℕ = replicate (placesSize - length (placesOf q)) 0 in
     let zb : List ℕ = replicate (longestBlock - length b) 0 in
     let x : getD (lengthsOf q ++ zl) i 0 ≡ length b = List·getD-append (lengthsOf q) zl 0 i (omega (arith, length-lengths q)) ∙ getD-lengths q i in
-    let y : drop (i * longestBlock) (places q ++ zp) ≡ ((b ++ zb) ++ places (drop (suc i) q)) ++ zp =
-    drop-append-le (i * longestBlock) (places q) zp (omega (arith, length-places q s)) ∙ ap (λ (l : List ℕ). l ++ zp) (drop-places i q s ∙ ap places (drop-cons q i [] h)) in
+    let y : drop (i * longestBlock) (placesOf q ++ zp) ≡ ((b ++ zb) ++ placesOf (drop (suc i) q)) ++ zp =
+    drop-append-le (i * longestBlock) (placesOf q) zp (omega (arith, length-places q s)) ∙ ap (λ (l : List ℕ). l ++ zp) (drop-places i q s ∙ ap placesOf (drop-cons q i [] h)) in
     ap₂ (λ (n : ℕ) (l : List ℕ). take n l) x y
-    ∙ simp append-assoc (take-at b (zb ++ (places (drop (suc i) q) ++ zp)) (length b) refl)
+    ∙ simp append-assoc (take-at b (zb ++ (placesOf (drop (suc i) q) ++ zp)) (length b) refl)
 
 pub view-pack : (a : abstract.Endpoint) → Small (a .queue) → view (pack a) ≡ a
 unfolding view pack
 view-pack a s =
     let q = a .queue in
-    let eq : tab (length q) (placeBlock (padded queueSize (lengthsOf q)) (padded placesSize (places q))) ≡ q =
-    tab-is q (placeBlock (padded queueSize (lengthsOf q)) (padded placesSize (places q))) (length q) (omega arith) (λ i h. block-is q i s h) ∙ take-length q in
+    let eq : tab (length q) (placeBlock (padded queueSize (lengthsOf q)) (padded placesSize (placesOf q))) ≡ q =
+    tab-is q (placeBlock (padded queueSize (lengthsOf q)) (padded placesSize (placesOf q))) (length q) (omega arith) (λ i h. block-is q i s h) ∙ take-length q in
     λ i. record { state = a .state; local = a .local; remote = a .remote; accepted = a .accepted; delivered = a .delivered; queue = eq i }
 
 -- what soundness says of the arrays
@@ -166,8 +166,8 @@ module _ (l b : List ℕ) (W : ℕ) (T : Tidy W l b) where
       let k2 : (w * longestBlock + i) % longestBlock ≡ i = omega arith in
       rw (getD-take longestBlock d i 0 u, getD-drop) (T .clear (w * longestBlock + i) (omega arith) (rw (k1, k2) v))))
 
-  places-tab : (w : ℕ) → w ≤ W → places (tab w (placeBlock l b)) ≡ take (w * longestBlock) b
-  unfolding tab places
+  places-tab : (w : ℕ) → w ≤ W → placesOf (tab w (placeBlock l b)) ≡ take (w * longestBlock) b
+  unfolding tab placesOf
   places-tab zero h = refl
   places-tab (suc w) h =
       let e : suc w * longestBlock ≡ w * longestBlock + longestBlock = omega arith in
@@ -177,7 +177,7 @@ module _ (l b : List ℕ) (W : ℕ) (T : Tidy W l b) where
   pub lengths-back : padded queueSize (lengthsOf (tab W (placeBlock l b))) ≡ l
   lengths-back = rw (lengths-tab W (omega arith)) (padded-is queueSize l W (T .eight) (T .few) (T .unused))
 
-  pub blocks-back : padded placesSize (places (tab W (placeBlock l b))) ≡ b
+  pub blocks-back : padded placesSize (placesOf (tab W (placeBlock l b))) ≡ b
   blocks-back =
       rw (places-tab W (omega arith))
       (padded-is placesSize b (W * longestBlock) (T .bytes) (omega arith)

@@ -11,7 +11,7 @@ use Rattle.octets.specs.Octets.{put, octetsOf, number, field, lay, fields, size
 use Rattle.octets.proofs.Octets.{width, octets-take, octets-drop, then-put, Fit, none, one, fields-lay, lay-fields, length-lay}
 use Rattle.endpoint.specs.declared.Endpoint.{Endpoint}
 use Rattle.step_rules.specs.declared.Numbers.{Numbers}
-use Rattle.endpoint.specs.Record.{acceptedAt, blocksAt, deliveredAt, lengthsAt, localAt, recordSize, remoteAt, waitingAt, numbersLayout, encode, decode, Fits}
+use Rattle.endpoint.specs.Record.{acceptedAt, blocksAt, deliveredAt, lengthsAt, localAt, recordSize, remoteAt, waitingAt, numbersLayout, encode, decode, RecordFits}
 use Rattle.endpoint.specs.Internal.{recordOf, numbersIn}
 
 -- a number written over itself
@@ -43,9 +43,9 @@ numbers-put e d rs rw′ n {a} {b} {c} {f} {g} {h} ea eb ec ef eg eh =
     let s6 : h ≡ put d 0 (p5 ++ (e .waiting ∷ [])) = then-put d p5 (e .waiting ∷ []) waitingAt refl (omega arith) s5 eh in
     rw (byte (e .state) rs, byte (e .waiting) rw′) s6
 
-pub numbers-18 : (n : Numbers) → length (numbersIn n) ≡ lengthsAt
+pub numbers-long : (n : Numbers) → length (numbersIn n) ≡ lengthsAt
 unfolding numbersIn lay octetsOf
-numbers-18 n = refl
+numbers-long n = refl
 
 -- the numbers, then the arrays, each at its place
 pub encode-puts : (n : Numbers) (l b d : List ℕ) → length l ≡ queueSize → length b ≡ placesSize → recordSize ≤ length d
@@ -53,12 +53,12 @@ pub encode-puts : (n : Numbers) (l b d : List ℕ) → length l ≡ queueSize �
 unfolding encode numbersIn
 encode-puts n l b d l8 l512 h {x} {y} {z} ex ey ez =
     let p = numbersIn n in
-    let sy : y ≡ put d 0 (p ++ l) = then-put d p l lengthsAt (numbers-18 n) (omega arith) ex ey in
-    let l26 : length (p ++ l) ≡ blocksAt = length-append p l ∙ omega (arith, numbers-18 n) in
+    let sy : y ≡ put d 0 (p ++ l) = then-put d p l lengthsAt (numbers-long n) (omega arith) ex ey in
+    let l26 : length (p ++ l) ≡ blocksAt = length-append p l ∙ omega (arith, numbers-long n) in
     then-put d (p ++ l) b blocksAt l26 (omega arith) sy ez ∙ ap (put d 0) (append-assoc p l b)
 
 -- what was laid out is read again
-fit : (e : Endpoint) → Fits e → Fit numbersLayout (e .state ∷ e .local ∷ e .remote ∷ e .accepted ∷ e .delivered ∷ e .waiting ∷ [])
+fit : (e : Endpoint) → RecordFits e → Fit numbersLayout (e .state ∷ e .local ∷ e .remote ∷ e .accepted ∷ e .delivered ∷ e .waiting ∷ [])
 fit e r =
     one {w = 1} {v = e .state} (omega (arith, r .state))
     (one {w = 4} {v = e .local} (r .local)
@@ -67,7 +67,7 @@ fit e r =
     (one {w = 4} {v = e .delivered} (r .delivered)
     (one {w = 1} {v = e .waiting} (omega (arith, r .waiting)) none)))))
 
-pub decode-encode : (e : Endpoint) (d : List ℕ) → Fits e → decode (encode e ++ d) ≡ e
+pub decode-encode : (e : Endpoint) (d : List ℕ) → RecordFits e → decode (encode e ++ d) ≡ e
 unfolding decode encode fields size
 decode-encode e d r =
     let vs = e .state ∷ e .local ∷ e .remote ∷ e .accepted ∷ e .delivered ∷ e .waiting ∷ [] in

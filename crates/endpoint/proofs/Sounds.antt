@@ -17,7 +17,7 @@ use Rattle.protocol.specs.Endpoint.{sized, allOf, numbersSound}
 use Rattle.protocol.proofs.Sound.{sized-append, Sound, sound-so}
 use Rattle.endpoint.specs.declared.Endpoint.{Endpoint}
 use Rattle.endpoint.specs.View.{placesSize, tab, placeBlock, view}
-use Rattle.endpoint.specs.Sound.{allBelow, zeros, lengthOk, lengthsOk, unusedAt, unusedOk, sound}
+use Rattle.endpoint.specs.Sound.{allBelow, zeros, placeLengthOk, lengthsOk, unusedAt, unusedOk, sound}
 use Rattle.endpoint.specs.Internal.{placeOk}
 use Rattle.endpoint.proofs.Tests.{all-at, all-hold, alike, zeros-at, zeros-of}
 use Rattle.endpoint.proofs.Packs.{Tidy, length-tab, length-block}
@@ -30,12 +30,12 @@ unfolding numbersSound allOf
 numbers-few e h = leb-true (e .waiting) queueSize (both (leb (e .waiting) queueSize) _ (both (inRange 0 5 (e .state)) _ h .1) .0)
 
 -- lengths
-waits : (w i x : ℕ) → lengthOk w i x ≡ true → i < w → (1 ≤ x) × (x ≤ longestBlock)
-unfolding lengthOk when
+waits : (w i x : ℕ) → placeLengthOk w i x ≡ true → i < w → (1 ≤ x) × (x ≤ longestBlock)
+unfolding placeLengthOk when
 waits w i x h k = within 1 longestBlock x (rw (lt-ltb i w k) at h)
 
-rests : (w i x : ℕ) → lengthOk w i x ≡ true → w ≤ i → x ≡ 0
-unfolding lengthOk when
+rests : (w i x : ℕ) → placeLengthOk w i x ≡ true → w ≤ i → x ≡ 0
+unfolding placeLengthOk when
 rests w i x h k = eqb-true x 0 (rw (le-ltb i w k) at h)
 
 -- by which of two numbers is less
@@ -43,9 +43,9 @@ pub by-lt : {A : Type 0} (a b : ℕ) → (a < b → A) → (b ≤ a → A) → A
 by-lt {A} a b h g = if-lt (λ (b : Bool). A) a b {x = true} {y = false} h g
 
 module _ (w : ℕ) (l : List ℕ) (h : lengthsOk w l ≡ true) where
-  length-at : (i : ℕ) → i < queueSize → lengthOk w i (getD l i 0) ≡ true
+  length-at : (i : ℕ) → i < queueSize → placeLengthOk w i (getD l i 0) ≡ true
   unfolding lengthsOk
-  length-at i k = all-at (λ j. lengthOk w j (getD l j 0)) queueSize i k h
+  length-at i k = all-at (λ j. placeLengthOk w j (getD l j 0)) queueSize i k h
 
 -- blocks
 clear-at : (l b : List ℕ) → unusedOk l b ≡ true → (k : ℕ) → k < placesSize → getD l (k / longestBlock) 0 ≤ k % longestBlock → getD b k 0 ≡ 0
@@ -81,8 +81,8 @@ module _ (w : ℕ) (l b : List ℕ) (w8 : w ≤ queueSize) (l8 : length l ≡ qu
         let at : w * longestBlock + (j - w * longestBlock) ≡ j = omega arith in
         rw at at (sym (getD-drop (w * longestBlock) b (j - w * longestBlock) 0) ∙ zeros-at (drop (w * longestBlock) b) (j - w * longestBlock) (both (zeros (drop w l)) _ k .1))
 
-    lengths-so : (i : ℕ) → lengthOk w i (getD l i 0) ≡ true
-    unfolding lengthOk when
+    lengths-so : (i : ℕ) → placeLengthOk w i (getD l i 0) ≡ true
+    unfolding placeLengthOk when
     lengths-so i =
         by-lt i w (λ m. rw (lt-ltb i w m) (place-at i m .0)) (λ m. rw (le-ltb i w m) (eq-eqb (getD l i 0) 0 (no-length i m)))
 
@@ -123,7 +123,7 @@ module _ (w : ℕ) (l b : List ℕ) (w8 : w ≤ queueSize) (l8 : length l ≡ qu
       alike (Waiting && After) (lengthsOk w l && unusedOk l b)
       (λ t.
       let p = both Waiting After t in
-      joined (all-hold (λ i. lengthOk w i (getD l i 0)) queueSize (λ i _. lengths-so (p .0) (p .1) i))
+      joined (all-hold (λ i. placeLengthOk w i (getD l i 0)) queueSize (λ i _. lengths-so (p .0) (p .1) i))
       (all-hold (λ i. zeros (unusedAt l b i)) queueSize (λ i _. unused-so (p .0) (p .1) i)))
       (λ t.
       let p = both (lengthsOk w l) (unusedOk l b) t in

@@ -57,7 +57,7 @@ decode s =
     }
 
 -- each field has room
-pub record Fits (e : Endpoint) : Type 0 where
+pub record RecordFits (e : Endpoint) : Type 0 where
   pub state : e .state < 256
   pub local : e .local < 256 ^ 4
   pub remote : e .remote < 256 ^ 4

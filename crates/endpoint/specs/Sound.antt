@@ -20,11 +20,11 @@ zeros [] = true
 zeros (x ∷ s) = eqb x 0 && zeros s
 
 -- the length x at place i: a waiting one is 1 to 64, an unused one is 0
-unfoldable pub lengthOk : ℕ → ℕ → ℕ → Bool
-lengthOk w i x = when (ltb i w) (inRange 1 longestBlock x) (eqb x 0)
+unfoldable pub placeLengthOk : ℕ → ℕ → ℕ → Bool
+placeLengthOk w i x = when (ltb i w) (inRange 1 longestBlock x) (eqb x 0)
 
 unfoldable pub lengthsOk : ℕ → List ℕ → Bool
-lengthsOk w lengths = allBelow queueSize (λ i. lengthOk w i (getD lengths i 0))
+lengthsOk w lengths = allBelow queueSize (λ i. placeLengthOk w i (getD lengths i 0))
 
 -- the octets of place i after its block
 unfoldable pub unusedAt : List ℕ → List ℕ → ℕ → List ℕ

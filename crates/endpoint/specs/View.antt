@@ -8,14 +8,14 @@ use Rattle.frame.specs.Frame.{Block}
 use Rattle.protocol.specs.Endpoint as abstract
 use Rattle.endpoint.specs.declared.Endpoint.{Endpoint}
 
--- the octets of all places: 512
+-- the octets of all placesOf: 512
 abbrev pub placesSize : ℕ
 placesSize = queueSize * longestBlock
 
 -- the blocks one after the other, each in a place of 64
-unfoldable pub places : List Block → List ℕ
-places [] = []
-places (b ∷ q) = padded longestBlock b ++ places q
+unfoldable pub placesOf : List Block → List ℕ
+placesOf [] = []
+placesOf (b ∷ q) = padded longestBlock b ++ placesOf q
 
 unfoldable pub lengthsOf : List Block → List ℕ
 lengthsOf [] = []
@@ -32,7 +32,7 @@ pack a =
       delivered = a .delivered;
       waiting = length (a .queue);
       lengths = padded queueSize (lengthsOf (a .queue));
-      blocks = padded placesSize (places (a .queue));
+      blocks = padded placesSize (placesOf (a .queue));
     }
 
 -- f 0, f 1, .., as many as n

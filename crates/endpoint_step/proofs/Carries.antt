@@ -22,11 +22,11 @@ use Rattle.step_plan.specs.declared.Queue.{Queue}
 use Rattle.step_plan.specs.declared.Queue.the-variants.{Keep, Join, Release}
 use Rattle.call_spec.specs.Answers.{noticeOf, sentIn, blockOf, blockPart, endpointAfter}
 use Rattle.step_plan.specs.Internal.{blockBy, joinedBy, queueAfter, Room, blockOut, sentBy, Oldest, Comes, Sends}
-use Rattle.step_plan.specs.Internal.{refusing}
+use Rattle.step_plan.specs.Internal.{refusedPlan}
 use Rattle.step_plan.proofs.Comes.{refuses, joined-short}
 use Rattle.step_plan.proofs.Up.{right, part, told}
 use Rattle.endpoint.specs.declared.Endpoint.{Endpoint}
-use Rattle.endpoint.specs.View.{places, placesSize, lengthsOf, pack, tab, placeBlock, view}
+use Rattle.endpoint.specs.View.{placesOf, placesSize, lengthsOf, pack, tab, placeBlock, view}
 use Rattle.endpoint.specs.Sound.{sound}
 use Rattle.endpoint.specs.Internal.{numbersOf}
 use Rattle.endpoint.proofs.Packs.{Tidy, Small, small, count, tab-head, lengths-back, blocks-back, pack-view, lengths-added, blocks-added, lengths-dropped, blocks-dropped}
@@ -73,7 +73,7 @@ module _ (e : Endpoint) (s : sound e ≡ true) (l8 : length (e .lengths) ≡ que
   unfolding view
   lengths-are = sym (lengths-back (e .lengths) (e .blocks) (e .waiting) is-tidy)
 
-  blocks-are : e .blocks ≡ padded placesSize (places blocks)
+  blocks-are : e .blocks ≡ padded placesSize (placesOf blocks)
   unfolding view
   blocks-are = sym (blocks-back (e .lengths) (e .blocks) (e .waiting) is-tidy)
 
@@ -83,7 +83,7 @@ module _ (e : Endpoint) (s : sound e ≡ true) (l8 : length (e .lengths) ≡ que
   after-lengths Join b r = rw mul-one (ap₂ (λ (w : ℕ) (l : List ℕ). put l w (length b ∷ [])) (sym (count e)) lengths-are ∙ lengths-added blocks b (r .0))
   after-lengths (Release k) b r = rw mul-one (ap (λ (l : List ℕ). drop k l ++ replicate k 0) lengths-are ∙ lengths-dropped blocks k short-queue r)
 
-  after-blocks : (k : Queue) (b : Block) → Room k b (length blocks) → blocksAfter k (e .waiting) b (e .blocks) ≡ padded placesSize (places (queueAfter k b blocks))
+  after-blocks : (k : Queue) (b : Block) → Room k b (length blocks) → blocksAfter k (e .waiting) b (e .blocks) ≡ padded placesSize (placesOf (queueAfter k b blocks))
   unfolding placesAfter queueAfter
   after-blocks Keep b r = blocks-are
   after-blocks Join b r = ap₂ (λ (w : ℕ) (l : List ℕ). put l (w * longestBlock) b) (sym (count e)) blocks-are ∙ blocks-added blocks b is-small (r .0) (r .1 .1)
@@ -109,7 +109,7 @@ module _ (e : Endpoint) (s : sound e ≡ true) (l8 : length (e .lengths) ≡ que
   carries {b} {old} {o} {p} c = carried-is p b (c .counted) (c .room) ∙ ap pack (c .endpoint) ∙ told-is o
 
 -- the plan of a call that is refused
-pub refusal : (e : Endpoint) (c : Arguments) {p : Plan} (k : ℕ) → outcomeOf e c ≡ refused k → p ≡ refusing (numbersOf e) k → Plans e c p
+pub refusal : (e : Endpoint) (c : Arguments) {p : Plan} (k : ℕ) → outcomeOf e c ≡ refused k → p ≡ refusedPlan (numbersOf e) k → Plans e c p
 refusal e c k h r = refuses (numbersOf e) (view e .queue) _ _ (count e) k h r
 
 -- what is left of the buffer

@@ -1,21 +1,20 @@
 -- What the calls keep: an accepted call of a sound struct leaves a sound struct, which holds the endpoint that the step table
 -- gives.
-use Prim.Native.Nat.{ℕ, _+_, _≤_}
+use Prim.Native.Nat.{ℕ}
 use mathlib.Core.Path.{_≡_, refl, subst}
 use mathlib.Core.Bool.{Bool, true}
 use mathlib.Core.List.{List}
 use native.Mathlib.Omega.{arith}
 use lib.ListN.{length}
-use Rattle.octets.specs.Sizes.{queueSize, lastNumber}
+use Rattle.octets.specs.Sizes.{queueSize}
 use Rattle.octets.specs.Test.{first, Outcome, refused, ok, mapped, andThen}
-use Rattle.octets.specs.Octets.{field, Octets}
-use Rattle.octets.proofs.Octets.{field-one, field-more}
+use Rattle.octets.specs.Octets.{Octets}
 use Rattle.octets.proofs.Test.{all-yes, passing}
 use Rattle.frame.specs.Read.{readFrame, readRequest}
 use Rattle.frame.proofs.Fits.{read-fits}
 use Rattle.protocol.specs.Table.{Step}
-use Rattle.protocol.specs.Network.{ask, deliver, perform}
-use Rattle.protocol.specs.Network as protocol
+use Rattle.protocol.specs.History.{ask, deliver, perform}
+use Rattle.protocol.specs.History as protocol
 use Rattle.protocol.specs.Endpoint as abstract
 use Rattle.protocol.specs.Limits.{Bounded, Readable, LeavesSound, LeavesBounded}
 use Rattle.protocol.proofs.Limits.{call-sound, call-bounded}
@@ -29,12 +28,6 @@ use Rattle.call_spec.proofs.Lift.{read-sized}
 use Rattle.endpoint.proofs.Sounds.{view-sound}
 use Rattle.endpoint.proofs.Held.{held, pack-sound}
 use Rattle.endpoint_step.specs.Calls.{outcomeOf}
-
--- four octets make a number of 32 bits
-pub field-32 : (at : ℕ) (s : List ℕ) → Octets s → at + 4 ≤ length s → field 4 at s ≤ lastNumber
-unfolding Octets
-field-32 at s o h =
-    omega (arith, field-one at s (omega arith), field-more 1 at s (omega arith), field-more 2 at s (omega arith), field-more 3 at s (omega arith), o at, o (at + 1), o (at + 2), o (at + 3))
 
 -- the parts of an accepted call
 mapped-ok : {A B : Type 0} (f : A → B) (o : Outcome A) (next : B → Outcome Step) {y : Step} → andThen (mapped f o) next ≡ ok y

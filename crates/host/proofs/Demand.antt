@@ -8,7 +8,7 @@ use borrow.Author.Tests.{le-leb}
 use lib.ListN.{length, length-append}
 use Rattle.octets.specs.Test.{refusing, first, when}
 use Rattle.protocol.specs.Endpoint as abstract
-use Rattle.protocol.specs.Network.{now}
+use Rattle.protocol.specs.History.{now}
 use Rattle.protocol.specs.World.{End, called}
 use Rattle.protocol.specs.Claim.{NoEndAlone}
 use Rattle.protocol.specs.Limits.{Bounded, Sized}

@@ -12,12 +12,12 @@ use Rattle.link.specs.Record.{format}
 use Rattle.link.specs.Lent.{freshRecord}
 use Rattle.answer_text.specs.Text.{answerRoom}
 use Rattle.line_answer.specs.Line.{lineCall, lineOutcome}
-use Rattle.line_answer.specs.Text.{text, answered}
+use Rattle.line_answer.specs.Text.{text, inRoom}
 use Rattle.line_split.specs.Split.{cut}
 use Rattle.line_split.proofs.Long.{asks-cut}
 use Rattle.line_io.specs.declared.Place.{Place}
-use Rattle.line_io.specs.Answering.{Cuts, textOf}
-use Rattle.line_io.specs.Program.{Ran, Over, joined}
+use Rattle.line_io.specs.Answering.{Cuts, inputText}
+use Rattle.line_io.specs.Program.{Ran, Over, concat}
 use Rattle.line_io.proofs.Steps.{free, free-room}
 use Rattle.line_io.proofs.Program.{program-run}
 use Rattle.line.specs.Ends.{oneEnd}
@@ -30,12 +30,12 @@ pub cuts : Cuts oneEnd
 cuts = record { next = λ rec l. ap (recordAfter format rec) (same rec l); says = λ rec l. ap (text rec) (same rec l) }
 
 -- where there is room for an answer, the line is asked
-pub asks : (rec line out : List ℕ) (filled : ℕ) → filled + answerRoom ≤ length out → answered rec line (free out filled) ≡ ok (lineOutcome rec line)
-unfolding answered first when outcome
+pub asks : (rec line out : List ℕ) (filled : ℕ) → filled + answerRoom ≤ length out → inRoom rec line (free out filled) ≡ ok (lineOutcome rec line)
+unfolding inRoom first when outcome
 asks rec line out filled h = rw (le-leb answerRoom (length (free out filled)) (free-room out filled answerRoom h)) refl
 
 -- THE theorem, of the program: from a fresh record to its end after the end of the input, however the input came in pieces, all that was handed to be
 -- written is the text of the input.
 pub whole : {rec buf line out : List ℕ} {p : Place} (r : Ran oneEnd answerRoom freshRecord rec buf line out p) → p .steps ≡ 0 → Over (r .pieces)
-    → joined (r .texts) ≡ textOf oneEnd freshRecord (joined (r .pieces))
+    → concat (r .texts) ≡ inputText oneEnd freshRecord (concat (r .pieces))
 whole r z o = program-run cuts (r .run) z o

@@ -6,7 +6,7 @@ ghost use Prim.Native.Nat.{_+_, _≤_, _<_};
 ghost use lib.ListN.{length};
 ghost use Rattle.link.specs.Lent.{freshRecord};
 ghost use Rattle.answer_text.specs.Text.{answerRoom};
-ghost use Rattle.line_io.specs.Place.{Fits};
+ghost use Rattle.line_io.specs.Place.{PlaceFits};
 ghost use Rattle.line_io.specs.Step.{Replied, Stepped};
 ghost use Rattle.line_io.specs.Program.{Ran};
 ghost use Rattle.line.specs.Ends.{oneEnd};
@@ -31,7 +31,7 @@ fn step(
     out: &mut [u8; line_io::BUFFER_SIZE],
     p: Place,
 ) -> Place
-    requires { ⌜ (Fits p) × (0 < p .steps) ⌝ }
+    requires { ⌜ (PlaceFits p) × (0 < p .steps) ⌝ }
     ensures { λ r. ⌜ Stepped oneEnd answerRoom (now (rec .entry)) (now (buf .entry)) (now (line .entry)) (now (out .entry)) p (now (rec .exit)) (now (buf .exit)) (now (line .exit)) (now (out .exit)) r ⌝ }
 {
     let q = line_io::next(buf, line, out, answer_text::ANSWER_ROOM, p);

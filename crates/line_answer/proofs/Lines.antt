@@ -21,7 +21,7 @@ use Rattle.answer_text.specs.declared.Output.the-variants as output
 use Rattle.answer_text.specs.Text.{outputOf, answerRoom}
 use Rattle.answer_text.proofs.Outputs.{output-fits}
 use Rattle.line_answer.specs.Line.{lineCall, lineOutcome}
-use Rattle.line_answer.specs.Text.{text, answered, recordLeft, LineAnswered}
+use Rattle.line_answer.specs.Text.{text, inRoom, recordLeft, LineAnswered}
 use Rattle.line_answer.specs.Internal.{refusedLine, Gives}
 
 -- 11 and 12 of the record come before 1 and 2 of the line, and the call asks them too
@@ -75,17 +75,17 @@ second-refuses rec n e z = rw (sym e ∙ z) refl
 
 -- the whole answer, without room for it and with
 module _ (rec line out : List ℕ) where
-  gives-answer : (o : Outcome (Outcome Step)) → answered rec line out ≡ o → {rec′ out′ : List ℕ} {r : Output} → r ≡ outputOf (mapped (text rec) o)
+  gives-answer : (o : Outcome (Outcome Step)) → inRoom rec line out ≡ o → {rec′ out′ : List ℕ} {r : Output} → r ≡ outputOf (mapped (text rec) o)
       → out′ ≡ left (mapped (text rec) o) out → rec′ ≡ recordLeft rec o → LineAnswered rec line out rec′ out′ r
   gives-answer o e a b c = record { answer = rw e a; buffer = rw e b; end = rw e c }
 
   pub no-room : length out < answerRoom → LineAnswered rec line out rec out (output.Refused 11)
-  unfolding answered first when outcome mapped outputOf left recordLeft
+  unfolding inRoom first when outcome mapped outputOf left recordLeft
   no-room h = gives-answer (refused 11) (rw (lt-leb answerRoom (length out) h) refl) refl refl refl
 
   pub with-text : answerRoom ≤ length out → {rec′ out′ : List ℕ} {r : ℕ} → Gives (lineOutcome rec line) rec out rec′ out′ r
       → LineAnswered rec line out rec′ out′ (output.Written r)
-  unfolding answered first when outcome mapped outputOf left recordLeft
+  unfolding inRoom first when outcome mapped outputOf left recordLeft
   with-text h g =
       gives-answer (ok (lineOutcome rec line)) (rw (le-leb answerRoom (length out) h) refl) (ap output.Written (g .begins .count)) (g .begins .buffer) (g .end)
 

@@ -20,8 +20,8 @@ unfoldable pub text : List ℕ → Outcome Step → List ℕ
 text rec o = textOf (statusOf rec o) (blockOf o) (wire (sentIn o))
 
 -- A line's answer into a buffer: without room for it, nothing is asked of the end.
-unfoldable pub answered : List ℕ → List ℕ → List ℕ → Outcome (Outcome Step)
-answered rec line out = outcome (first ((11, leb answerRoom (length out)) ∷ [])) (lineOutcome rec line)
+unfoldable pub inRoom : List ℕ → List ℕ → List ℕ → Outcome (Outcome Step)
+inRoom rec line out = outcome (first ((11, leb answerRoom (length out)) ∷ [])) (lineOutcome rec line)
 
 unfoldable pub recordLeft : List ℕ → Outcome (Outcome Step) → List ℕ
 recordLeft rec (refused n) = rec
@@ -29,6 +29,6 @@ recordLeft rec (ok o) = recordAfter format rec o
 
 -- What the answer to a line is, and every octet that it leaves.
 pub record LineAnswered (rec line out rec′ out′ : List ℕ) (r : Output) : Type 0 where
-  pub answer : r ≡ outputOf (mapped (text rec) (answered rec line out))
-  pub buffer : out′ ≡ left (mapped (text rec) (answered rec line out)) out
-  pub end : rec′ ≡ recordLeft rec (answered rec line out)
+  pub answer : r ≡ outputOf (mapped (text rec) (inRoom rec line out))
+  pub buffer : out′ ≡ left (mapped (text rec) (inRoom rec line out)) out
+  pub end : rec′ ≡ recordLeft rec (inRoom rec line out)

@@ -6,17 +6,17 @@ use native.Mathlib.Omega.{arith}
 use lib.ListN.{length}
 use Rattle.line_split.specs.Split.{ended, begun, last, linesOf, cut}
 use Rattle.line_split.proofs.Split.{ended-append, begun-append, ended-cut, begun-cut, cut-cut}
-use Rattle.line_io.specs.Answering.{Answering, Cuts, after, answers, textOf}
+use Rattle.line_io.specs.Answering.{Answering, Cuts, stateAfter, answers, inputText}
 
 module _ (a : Answering) where
-  pub answers-append : (s : a .State) (k l : List (List ℕ)) → answers a s (k ++ l) ≡ answers a s k ++ answers a (after a s k) l
-  unfolding answers after
+  pub answers-append : (s : a .State) (k l : List (List ℕ)) → answers a s (k ++ l) ≡ answers a s k ++ answers a (stateAfter a s k) l
+  unfolding answers stateAfter
   answers-append s [] l = refl
   answers-append s (x ∷ k) l =
       ap (λ (t : List ℕ). a .says s x ++ t) (answers-append (a .next s x) k l) ∙ sym (append-assoc (a .says s x) _ _)
 
-  after-append : (s : a .State) (k l : List (List ℕ)) → after a s (k ++ l) ≡ after a (after a s k) l
-  unfolding after
+  after-append : (s : a .State) (k l : List (List ℕ)) → stateAfter a s (k ++ l) ≡ stateAfter a (stateAfter a s k) l
+  unfolding stateAfter
   after-append s [] l = refl
   after-append s (x ∷ k) l = after-append (a .next s x) k l
 
@@ -29,7 +29,7 @@ last-alike (x ∷ k) (y ∷ l) e = ap (λ (t : List ℕ). t ∷ []) e
 
 -- What is made of some of the input: the state, what is kept of the line that it begins, and the text that answers the lines that it ends.
 pub record Fed (a : Answering) (s : a .State) (kept used : List ℕ) (s′ : a .State) (kept′ text : List ℕ) : Type 0 where
-  pub state : s′ ≡ after a s (ended kept used)
+  pub state : s′ ≡ stateAfter a s (ended kept used)
   pub part : kept′ ≡ cut (begun kept used)
   pub told : text ≡ answers a s (ended kept used)
 
@@ -39,24 +39,24 @@ module _ {a : Answering} (c : Cuts a) where
   answers-cut s [] = refl
   answers-cut s (l ∷ ls) = rw (c .says s l, c .next s l, answers-cut (a .next s l) ls) refl
 
-  pub after-cut : (s : a .State) (ls : List (List ℕ)) → after a s (map cut ls) ≡ after a s ls
-  unfolding after
+  pub after-cut : (s : a .State) (ls : List (List ℕ)) → stateAfter a s (map cut ls) ≡ stateAfter a s ls
+  unfolding stateAfter
   after-cut s [] = refl
-  after-cut s (l ∷ ls) = ap (λ (t : a .State). after a t (map cut ls)) (c .next s l) ∙ after-cut (a .next s l) ls
+  after-cut s (l ∷ ls) = ap (λ (t : a .State). stateAfter a t (map cut ls)) (c .next s l) ∙ after-cut (a .next s l) ls
 
   -- lines of which the same is kept
   answers-alike : (s : a .State) (k l : List (List ℕ)) → map cut k ≡ map cut l → answers a s k ≡ answers a s l
   answers-alike s k l e = sym (answers-cut s k) ∙ ap (answers a s) e ∙ answers-cut s l
 
-  after-alike : (s : a .State) (k l : List (List ℕ)) → map cut k ≡ map cut l → after a s k ≡ after a s l
-  after-alike s k l e = sym (after-cut s k) ∙ ap (after a s) e ∙ after-cut s l
+  after-alike : (s : a .State) (k l : List (List ℕ)) → map cut k ≡ map cut l → stateAfter a s k ≡ stateAfter a s l
+  after-alike s k l e = sym (after-cut s k) ∙ ap (stateAfter a s) e ∙ after-cut s l
 
-  -- some of the input after some
+  -- some of the input stateAfter some
   pub fed-more : {s t u : a .State} {kept kept′ kept″ x y p q : List ℕ} → Fed a s kept x t kept′ p → Fed a t kept′ y u kept″ q
       → Fed a s kept (x ++ y) u kept″ (p ++ q)
   fed-more {s = s} {kept = kept} {x = x} {y = y} f g =
       let e : cut (cut (begun kept x)) ≡ cut (begun kept x) = cut-cut (begun kept x) in
-      let t = after a s (ended kept x) in
+      let t = stateAfter a s (ended kept x) in
       let i = ended-cut (cut (begun kept x)) (begun kept x) y e in
       record {
         state = g .state ∙ rw (f .state, f .part, ended-append kept x y, after-append a s (ended kept x) (ended (begun kept x) y)) (after-alike t _ _ i);
@@ -66,8 +66,8 @@ module _ {a : Answering} (c : Cuts a) where
       }
 
   -- all of the input, and then the last line
-  pub fed-whole : {s t : a .State} {kept x text : List ℕ} → Fed a s [] x t kept text → text ++ answers a t (last kept) ≡ textOf a s x
-  unfolding textOf linesOf
+  pub fed-whole : {s t : a .State} {kept x text : List ℕ} → Fed a s [] x t kept text → text ++ answers a t (last kept) ≡ inputText a s x
+  unfolding inputText linesOf
   fed-whole {s = s} {x = x} f =
       rw (f .told, f .state, f .part, answers-append a s (ended [] x) (last (begun [] x)))
       (ap (λ (z : List ℕ). answers a s (ended [] x) ++ z) (answers-alike _ _ _ (last-alike (cut (begun [] x)) (begun [] x) (cut-cut (begun [] x)))))

@@ -9,10 +9,10 @@ use lib.Seq.{length-take-le, take-add, drop-drop}
 use Rattle.octets.proofs.Test.{by-eq, eq-yes, eq-no, lt-yes, lt-no}
 use Rattle.line_split.specs.Split.{ended, begun, cut}
 use Rattle.line_io.specs.declared.Place.{Place}
-use Rattle.line_io.specs.Answering.{Answering, Cuts, after, answers, textOf}
-use Rattle.line_io.specs.Place.{bufferSize, Fits, Starts, between}
+use Rattle.line_io.specs.Answering.{Answering, Cuts, stateAfter, answers, inputText}
+use Rattle.line_io.specs.Place.{bufferSize, PlaceFits, Starts, between}
 use Rattle.line_io.specs.Step.{Rests, Stepped}
-use Rattle.line_io.specs.Program.{handed, brought, Run, starts, steps, Ran, Over, joined}
+use Rattle.line_io.specs.Program.{handed, brought, Run, starts, steps, Ran, Over, concat}
 use Rattle.line_io.proofs.Answers.{Fed, fed-more, fed-whole}
 use Rattle.line_io.proofs.Steps.{by-lt}
 
@@ -30,16 +30,16 @@ from-start : (f t : ℕ) (s : List ℕ) → f ≡ 0 → between f t s ≡ take t
 from-start f t s z = let e : t - 0 ≡ t = omega arith in rw (z, e) refl
 
 -- pieces, with none or one more
-joined-none : (k l : List (List ℕ)) → l ≡ [] → joined (k ++ l) ≡ joined k
-joined-none k l e = ap (λ (x : List (List ℕ)). joined (k ++ x)) e ∙ ap joined (append-nil k)
+joined-none : (k l : List (List ℕ)) → l ≡ [] → concat (k ++ l) ≡ concat k
+joined-none k l e = ap (λ (x : List (List ℕ)). concat (k ++ x)) e ∙ ap concat (append-nil k)
 
-joined-snoc : (k : List (List ℕ)) (t : List ℕ) → joined (k ++ (t ∷ [])) ≡ joined k ++ t
-unfolding joined
+joined-snoc : (k : List (List ℕ)) (t : List ℕ) → concat (k ++ (t ∷ [])) ≡ concat k ++ t
+unfolding concat
 joined-snoc [] t = append-nil t
-joined-snoc (x ∷ k) t = ap (λ (y : List ℕ). x ++ y) (joined-snoc k t) ∙ sym (append-assoc x (joined k) t)
+joined-snoc (x ∷ k) t = ap (λ (y : List ℕ). x ++ y) (joined-snoc k t) ∙ sym (append-assoc x (concat k) t)
 
-joined-one : (k : List (List ℕ)) {l : List (List ℕ)} {t : List ℕ} → l ≡ t ∷ [] → joined (k ++ l) ≡ joined k ++ t
-joined-one k {l} {t} e = ap (λ (x : List (List ℕ)). joined (k ++ x)) e ∙ joined-snoc k t
+joined-one : (k : List (List ℕ)) {l : List (List ℕ)} {t : List ℕ} → l ≡ t ∷ [] → concat (k ++ l) ≡ concat k ++ t
+joined-one k {l} {t} e = ap (λ (x : List (List ℕ)). concat (k ++ x)) e ∙ joined-snoc k t
 
 over-none : (k l : List (List ℕ)) → l ≡ [] → (Over k → ⊥) → Over (k ++ l) → ⊥
 over-none k l e h o = h (subst Over (ap (λ (x : List (List ℕ)). k ++ x) e ∙ append-nil k) o)
@@ -57,8 +57,8 @@ over-one k {l} {t} e n h o = over-snoc k t n h (subst Over (ap (λ (x : List (Li
 -- As long as the input lasts: all that was read is used or at hand, and what was handed on and what waits answers the lines that the used part ends.
 record Lasting (a : Answering) (s₀ s : a .State) (buf line out : List ℕ) (p : Place) (pieces texts : List (List ℕ)) : Type 0 where
   pub used : List ℕ
-  pub all : joined pieces ≡ used ++ between (p .at) (p .end) buf
-  pub fed : Fed a s₀ [] used s (take (p .kept) line) (joined texts ++ take (p .filled) out)
+  pub all : concat pieces ≡ used ++ between (p .at) (p .end) buf
+  pub fed : Fed a s₀ [] used s (take (p .kept) line) (concat texts ++ take (p .filled) out)
   pub more : Over pieces → ⊥
 
 -- Then: what was handed on and what waits is the text of the input.
@@ -66,7 +66,7 @@ record Last (a : Answering) (s₀ : a .State) (out : List ℕ) (p : Place) (piec
   pub at : p .at ≡ p .end
   pub few : p .steps ≤ 1
   pub done : p .steps ≡ 0 → p .filled ≡ 0
-  pub text : joined texts ++ take (p .filled) out ≡ textOf a s₀ (joined pieces)
+  pub text : concat texts ++ take (p .filled) out ≡ inputText a s₀ (concat pieces)
 
 data SoFar (a : Answering) (s₀ s : a .State) (buf line out : List ℕ) (p : Place) (pieces texts : List (List ℕ)) : Type 0 where
   lasts : Lasting a s₀ s buf line out p pieces texts → SoFar a s₀ s buf line out p pieces texts
@@ -97,7 +97,7 @@ module _ {a : Answering} (c : Cuts a) (room : ℕ) (s₀ s s′ : a .State) (buf
       let x = between (p .at) (q .at) buf in
       let k = take (p .kept) line in
       let n : handed room out p ≡ [] = eq-no (p .at) (p .end) _ _ h ∙ lt-no bufferSize (p .filled + room) _ _ r in
-      let f : Fed a s₀ [] (l .used ++ x) s′ (take (q .kept) line′) ((joined texts ++ take (p .filled) out) ++ answers a s (ended k x)) =
+      let f : Fed a s₀ [] (l .used ++ x) s′ (take (q .kept) line′) ((concat texts ++ take (p .filled) out) ++ answers a s (ended k x)) =
       fed-more c (l .fed) (record { state = g .state; part = g .part; told = refl }) in
       let i : between (q .at) (p .end) buf ≡ between (q .at) (q .end) buf′ = rw (g .end, g .input) refl in
       record {
@@ -110,8 +110,8 @@ module _ {a : Answering} (c : Cuts a) (room : ℕ) (s₀ s s′ : a .State) (buf
           state = f .state;
           part = f .part;
           told = ap (λ (y : List ℕ). y ++ take (q .filled) out′) (joined-none texts _ n)
-              ∙ ap (λ (y : List ℕ). joined texts ++ y) (g .told)
-              ∙ sym (append-assoc (joined texts) (take (p .filled) out) (answers a s (ended k x)))
+              ∙ ap (λ (y : List ℕ). concat texts ++ y) (g .told)
+              ∙ sym (append-assoc (concat texts) (take (p .filled) out) (answers a s (ended k x)))
               ∙ f .told;
         };
         more = over-none pieces _ (reads-none h) (l .more);
@@ -119,13 +119,13 @@ module _ {a : Answering} (c : Cuts a) (room : ℕ) (s₀ s s′ : a .State) (buf
 
   -- where what waits is handed on, and what is held stays
   hands-all : handed room out p ≡ take (p .filled) out ∷ [] → q .filled ≡ 0
-      → joined (texts ++ handed room out p) ++ take (q .filled) out′ ≡ joined texts ++ take (p .filled) out
+      → concat (texts ++ handed room out p) ++ take (q .filled) out′ ≡ concat texts ++ take (p .filled) out
   hands-all e z =
-      ap (λ (y : List ℕ). y ++ take (q .filled) out′) (joined-one texts e) ∙ ap (λ (n : ℕ). (joined texts ++ take (p .filled) out) ++ take n out′) z
-      ∙ append-nil (joined texts ++ take (p .filled) out)
+      ap (λ (y : List ℕ). y ++ take (q .filled) out′) (joined-one texts e) ∙ ap (λ (n : ℕ). (concat texts ++ take (p .filled) out) ++ take n out′) z
+      ∙ append-nil (concat texts ++ take (p .filled) out)
 
   fed-rests : handed room out p ≡ take (p .filled) out ∷ [] → Rests a s line p s′ line′ q → (l : Before)
-      → Fed a s₀ [] (l .used) s′ (take (q .kept) line′) (joined (texts ++ handed room out p) ++ take (q .filled) out′)
+      → Fed a s₀ [] (l .used) s′ (take (q .kept) line′) (concat (texts ++ handed room out p) ++ take (q .filled) out′)
   fed-rests e r l = record { state = r .state ∙ l .fed .state; part = r .part ∙ l .fed .part; told = hands-all e (r .filled) ∙ l .fed .told }
 
   lasts-wrote : p .at ≢ p .end → bufferSize < p .filled + room → Before → After
@@ -146,7 +146,7 @@ module _ {a : Answering} (c : Cuts a) (room : ℕ) (s₀ s s′ : a .State) (buf
     unfolding handed
     hands = eq-yes (p .at) (p .end) _ _ h
 
-    all-used : (l : Before) → joined pieces ≡ l .used
+    all-used : (l : Before) → concat pieces ≡ l .used
     all-used l = l .all ∙ ap (λ (y : List ℕ). l .used ++ y) (used-up (p .at) (p .end) buf h) ∙ append-nil (l .used)
 
     reads-nothing : q .steps ≡ 0 → brought p buf′ q ≡ []
@@ -182,15 +182,15 @@ module _ {a : Answering} (c : Cuts a) (room : ℕ) (s₀ s s′ : a .State) (buf
     ends-now : q .steps ≢ 0 → q .end ≡ 0 → Before → AtEnd
     ends-now n m l =
         let g = w .finished h n m in
-        let i : joined (pieces ++ brought p buf′ q) ≡ joined pieces =
-        joined-one pieces (reads-piece n) ∙ ap (λ (y : ℕ). joined pieces ++ take y buf′) m ∙ append-nil (joined pieces) in
+        let i : concat (pieces ++ brought p buf′ q) ≡ concat pieces =
+        joined-one pieces (reads-piece n) ∙ ap (λ (y : ℕ). concat pieces ++ take y buf′) m ∙ append-nil (concat pieces) in
         record {
           at = g .at ∙ sym m;
           few = omega (arith, g .steps);
           done = λ z. absurd (n z);
           text = ap (λ (y : List ℕ). y ++ take (q .filled) out′) (joined-one texts hands)
-              ∙ ap (λ (y : List ℕ). (joined texts ++ take (p .filled) out) ++ y) (g .told)
-              ∙ fed-whole c (l .fed) ∙ ap (textOf a s₀) (sym (all-used l) ∙ sym i);
+              ∙ ap (λ (y : List ℕ). (concat texts ++ take (p .filled) out) ++ y) (g .told)
+              ∙ fed-whole c (l .fed) ∙ ap (inputText a s₀) (sym (all-used l) ∙ sym i);
         }
 
     ended-stopped : q .steps ≡ 0 → Last a s₀ out p pieces texts → AtEnd
@@ -200,11 +200,11 @@ module _ {a : Answering} (c : Cuts a) (room : ℕ) (s₀ s s′ : a .State) (buf
           at = g .at ∙ h ∙ sym (g .end);
           few = omega (arith, z);
           done = λ _. g .rests .filled;
-          text = hands-all hands (g .rests .filled) ∙ l .text ∙ ap (textOf a s₀) (sym (joined-none pieces _ (reads-nothing z)));
+          text = hands-all hands (g .rests .filled) ∙ l .text ∙ ap (inputText a s₀) (sym (joined-none pieces _ (reads-nothing z)));
         }
 
     -- before a read, what was handed on answers every line that has ended
-    all-answered : q .steps ≢ 0 → SoFar a s₀ s buf line out p pieces texts → joined (texts ++ handed room out p) ≡ answers a s₀ (ended [] (joined pieces))
+    all-answered : q .steps ≢ 0 → SoFar a s₀ s buf line out p pieces texts → concat (texts ++ handed room out p) ≡ answers a s₀ (ended [] (concat pieces))
     all-answered n (lasts l) = joined-one texts hands ∙ l .fed .told ∙ ap (λ (y : List ℕ). answers a s₀ (ended [] y)) (sym (all-used l))
     all-answered n (over l) = absurd (n (omega (arith, w .less, l .few)))
 
@@ -224,7 +224,7 @@ module _ {a : Answering} {room : ℕ} where
       → Stepped a room s buf line out p s′ buf′ line′ out′ q → Ran a room s₀ s′ buf′ line′ out′ q
   ran-more r g w = record { pieces = _; texts = _; run = steps (r .run) g w }
 
-  run-fits : {s₀ s : a .State} {buf line out : List ℕ} {p : Place} {pieces texts : List (List ℕ)} → Run a room s₀ s buf line out p pieces texts → Fits p
+  run-fits : {s₀ s : a .State} {buf line out : List ℕ} {p : Place} {pieces texts : List (List ℕ)} → Run a room s₀ s buf line out p pieces texts → PlaceFits p
   run-fits (starts g) =
       record {
         used = omega (arith, g .at);
@@ -234,13 +234,13 @@ module _ {a : Answering} {room : ℕ} where
       }
   run-fits (steps r g w) = w .fits
 
-  pub ran-fits : {s₀ s : a .State} {buf line out : List ℕ} {p : Place} → Ran a room s₀ s buf line out p → Fits p
+  pub ran-fits : {s₀ s : a .State} {buf line out : List ℕ} {p : Place} → Ran a room s₀ s buf line out p → PlaceFits p
   ran-fits r = run-fits (r .run)
 
 module _ {a : Answering} (c : Cuts a) where
   so-far : {room : ℕ} {s₀ s : a .State} {buf line out : List ℕ} {p : Place} {pieces texts : List (List ℕ)} → Run a room s₀ s buf line out p pieces texts
       → SoFar a s₀ s buf line out p pieces texts
-  unfolding joined Over ended begun after answers cut
+  unfolding concat Over ended begun stateAfter answers cut
   so-far (starts {buf = buf} {p = p} g) =
       lasts (record {
         used = [];
@@ -252,19 +252,19 @@ module _ {a : Answering} (c : Cuts a) where
       so-far-more c room s₀ s s′ buf line out buf′ line′ out′ p q pieces texts w (so-far r)
 
   whole : {s₀ s : a .State} {buf line out : List ℕ} {p : Place} {pieces texts : List (List ℕ)} → SoFar a s₀ s buf line out p pieces texts → p .steps ≡ 0 → Over pieces
-      → joined texts ≡ textOf a s₀ (joined pieces)
+      → concat texts ≡ inputText a s₀ (concat pieces)
   whole (lasts l) z o = absurd (l .more o)
   whole {out = out} {texts = texts} (over l) z o =
-      sym (ap (λ (n : ℕ). joined texts ++ take n out) (l .done z) ∙ append-nil (joined texts)) ∙ l .text
+      sym (ap (λ (n : ℕ). concat texts ++ take n out) (l .done z) ∙ append-nil (concat texts)) ∙ l .text
 
-  -- THE theorem, of a program that is done after the end of its input: however the input came in pieces, all that was handed to be written is the text of the input.
+  -- THE theorem, of a program that is done stateAfter the end of its input: however the input came in pieces, all that was handed to be written is the text of the input.
   pub program-run : {room : ℕ} {s₀ s : a .State} {buf line out : List ℕ} {p : Place} {pieces texts : List (List ℕ)} → Run a room s₀ s buf line out p pieces texts
-      → p .steps ≡ 0 → Over pieces → joined texts ≡ textOf a s₀ (joined pieces)
+      → p .steps ≡ 0 → Over pieces → concat texts ≡ inputText a s₀ (concat pieces)
   program-run r z o = whole (so-far r) z o
 
   -- And whenever it reads, all that was handed to be written before answers every line that has ended: a person who types gets each answer at once.
   pub at-once : {room : ℕ} {s₀ s s′ : a .State} {buf line out buf′ line′ out′ : List ℕ} {p q : Place} {pieces texts : List (List ℕ)}
       → Run a room s₀ s buf line out p pieces texts → Stepped a room s buf line out p s′ buf′ line′ out′ q → p .at ≡ p .end → q .steps ≢ 0
-      → joined (texts ++ handed room out p) ≡ answers a s₀ (ended [] (joined pieces))
+      → concat (texts ++ handed room out p) ≡ answers a s₀ (ended [] (concat pieces))
   at-once {room} {s₀} {s} {s′} {buf} {line} {out} {buf′} {line′} {out′} {p} {q} {pieces} {texts} r w h n =
       all-answered c room s₀ s s′ buf line out buf′ line′ out′ p q pieces texts w h n (so-far r)

@@ -12,8 +12,8 @@ use Rattle.octets.specs.Test.{when, ifEq}
 use Rattle.octets.proofs.Test.{by-eq, eq-yes, eq-no, if-lt}
 use Rattle.line_split.specs.Split.{ended, last, longestKept, cut}
 use Rattle.line_io.specs.declared.Place.{Place}
-use Rattle.line_io.specs.Answering.{Answering, Cuts, after, answers}
-use Rattle.line_io.specs.Place.{bufferSize, Fits, between, readyLine, oneLess, emptied, answeredWith, Flushed, AfterRead, Taken, Refilled, Next}
+use Rattle.line_io.specs.Answering.{Answering, Cuts, stateAfter, answers}
+use Rattle.line_io.specs.Place.{bufferSize, PlaceFits, between, readyLine, oneLess, emptied, answeredWith, Flushed, AfterRead, Taken, Refilled, Next}
 use Rattle.line_io.specs.Step.{Replied, Went, Rests, Wrote, ReadOn, Finished, Stopped, Stepped}
 use Rattle.line_io.proofs.Answers.{answers-cut, after-cut}
 
@@ -110,11 +110,11 @@ pub by-lt : {A : Type 0} (a b : ℕ) → (a < b → A) → (b ≤ a → A) → A
 by-lt {A} a b h g = if-lt (λ (b : Bool). A) a b {x = true} {y = false} h g
 
 -- a place in range, of which nothing waits and as much is held as before
-fits-by : {p q : Place} → Fits p → q .at ≤ q .end → q .end ≤ bufferSize → q .kept ≡ p .kept → q .filled ≡ 0 → Fits q
+fits-by : {p q : Place} → PlaceFits p → q .at ≤ q .end → q .end ≤ bufferSize → q .kept ≡ p .kept → q .filled ≡ 0 → PlaceFits q
 fits-by f u r k z = record { used = u; read = r; kept = omega (arith, k, f .kept); filled = omega (arith, z) }
 
 -- a step stays in range, and leaves fewer steps
-refill-fits : {p q : Place} {buf′ : List ℕ} → Fits p → 0 < p .steps → Refill p buf′ q → (Fits q) × (q .steps < p .steps)
+refill-fits : {p q : Place} {buf′ : List ℕ} → PlaceFits p → 0 < p .steps → Refill p buf′ q → (PlaceFits q) × (q .steps < p .steps)
 refill-fits f l (halts h) = (fits-by f (omega (arith, h .at, h .end, f .used)) (omega (arith, h .end, f .read)) (h .kept) (h .filled), omega (arith, h .steps))
 refill-fits f l (reads m) = (fits-by f (omega (arith, m .at)) (m .read) (m .kept) (m .filled), omega (arith, m .steps))
 refill-fits f l (ends d) = (fits-by f (omega (arith, d .at)) (omega (arith, d .end)) (d .kept) (d .filled), omega (arith, d .steps, d .left))
@@ -126,7 +126,7 @@ ready-last n (reads m) = absurd (n (m .lines))
 ready-last n (ends d) = d
 
 -- one step towards the next line, in each of its cases
-module _ {room : ℕ} {buf line : List ℕ} {p q : Place} (f : Fits p) (l : 0 < p .steps) where
+module _ {room : ℕ} {buf line : List ℕ} {p q : Place} (f : PlaceFits p) (l : 0 < p .steps) where
   pub next-refilled : {buf′ line′ : List ℕ} → p .at ≡ p .end → Refilled line (oneLess p) buf′ line′ q → Next room buf line p buf′ line′ q
   next-refilled h r =
       let g = refill-fits f l (refill r) in
@@ -181,7 +181,7 @@ module _ {a : Answering} where
   none-reads e n m (ends d) = absurd (m (d .end))
 
   none-ends : {s : a .State} {line buf′ out : List ℕ} {p q : Place} → q .lines ≡ 0 → q .steps ≢ 0 → q .end ≡ 0 → Refill p buf′ q → Finished a s line p s out q
-  unfolding after answers last
+  unfolding stateAfter answers last
   none-ends z n m (halts h) = absurd (n (h .steps))
   none-ends z n m (reads r) = absurd (r .some m)
   none-ends {p = p} z n m (ends d) =
@@ -207,7 +207,7 @@ module _ {a : Answering} where
   -- and where a piece of a line is held
   none-went : {s : a .State} {buf line out buf′ line′ : List ℕ} {p q : Place} → Taken buf line (oneLess p) line′ q → buf′ ≡ buf → q .lines ≡ 0
       → Went a s buf line out p s buf′ line′ out q
-  unfolding after answers
+  unfolding stateAfter answers
   none-went {out = out} {p = p} t b z =
       record {
         input = b;
@@ -235,7 +235,7 @@ module _ {a : Answering} where
   -- a line is answered: the last one,
   line-ends : {s s′ : a .State} {line : List ℕ} (buf′ : List ℕ) {line′ out out′ : List ℕ} {p q : Place} {n : ℕ} → p .kept ≤ length line′ → line′ ≡ line → q .lines ≢ 0
       → Replied a s (readyLine buf′ line′ q) out (q .filled) s′ out′ n → Ended p q → Finished a s line p s′ out′ (answeredWith q n)
-  unfolding after answers readyLine
+  unfolding stateAfter answers readyLine
   line-ends {s = s} {line = line} buf′ {line′ = line′} {out = out} {p = p} {q = q} b e m r d =
       let k : p .kept ≢ 0 = λ z. m (d .lines ∙ eq-yes {A = ℕ} (p .kept) 0 0 1 z) in
       let y : readyLine buf′ line′ q ≡ take (p .kept) line = eq-no (q .kept) 0 _ _ (λ z. k (sym (d .kept) ∙ z)) ∙ rw (e, d .kept) refl in
@@ -251,7 +251,7 @@ module _ {a : Answering} where
   -- and any other
   line-went : Cuts a → {s s′ : a .State} {buf line out buf′ line′ out′ : List ℕ} {p q : Place} {n : ℕ} → Taken buf line (oneLess p) line′ q → buf′ ≡ buf → q .lines ≢ 0
       → Replied a s (readyLine buf′ line′ q) out (q .filled) s′ out′ n → Went a s buf line out p s′ buf′ line′ out′ (answeredWith q n)
-  unfolding after answers cut
+  unfolding stateAfter answers cut
   line-went c {s = s} {buf = buf} {line = line} {out = out} {line′ = line′} {p = p} {q = q} t b z r′ =
       let r = rw b at r′ in
       let ready = readyLine buf line′ q in
@@ -261,7 +261,7 @@ module _ {a : Answering} where
         on = t .on;
         end = t .end;
         steps = t .steps;
-        state = r .state ∙ sym (c .next s ready) ∙ ap (after a s) (sym (t .one z .0)) ∙ after-cut c s e;
+        state = r .state ∙ sym (c .next s ready) ∙ ap (stateAfter a s) (sym (t .one z .0)) ∙ after-cut c s e;
         part = sym (ap cut (t .one z .1));
         told = r .told
             ∙ ap (λ (x : ℕ). take x out ++ a .says s ready) (t .filled)

@@ -4,16 +4,16 @@ use mathlib.Core.Path.{_≡_}
 use mathlib.Core.List.{List, [], _∷_, _++_}
 use Rattle.line_split.specs.Split.{linesOf, cut}
 
--- What answers lines: a state, the text that it says to a line, and the state after that.
+-- What answers lines: a state, the text that it says to a line, and the state stateAfter that.
 pub record Answering : Type 1 where
   pub State : Type 0
   pub next : State → List ℕ → State
   pub says : State → List ℕ → List ℕ
 
--- the state after lines
-unfoldable pub after : (a : Answering) → a .State → List (List ℕ) → a .State
-after a s [] = s
-after a s (l ∷ ls) = after a (a .next s l) ls
+-- the state stateAfter lines
+unfoldable pub stateAfter : (a : Answering) → a .State → List (List ℕ) → a .State
+stateAfter a s [] = s
+stateAfter a s (l ∷ ls) = stateAfter a (a .next s l) ls
 
 -- the answers to lines, in order
 unfoldable pub answers : (a : Answering) → a .State → List (List ℕ) → List ℕ
@@ -21,8 +21,8 @@ answers a s [] = []
 answers a s (l ∷ ls) = a .says s l ++ answers a (a .next s l) ls
 
 -- THE text of an input.
-unfoldable pub textOf : (a : Answering) → a .State → List ℕ → List ℕ
-textOf a s input = answers a s (linesOf input)
+unfoldable pub inputText : (a : Answering) → a .State → List ℕ → List ℕ
+inputText a s input = answers a s (linesOf input)
 
 -- What is kept of a line says all that counts of it. It is proved of both programs, so that their texts speak of whole lines.
 pub record Cuts (a : Answering) : Type 0 where

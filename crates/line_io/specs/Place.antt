@@ -13,7 +13,7 @@ abbrev pub bufferSize : ℕ
 bufferSize = 65536
 
 -- the place is in range
-pub record Fits (p : Place) : Type 0 where
+pub record PlaceFits (p : Place) : Type 0 where
   pub used : p .at ≤ p .end
   pub read : p .end ≤ bufferSize
   pub kept : p .kept ≤ longestKept
@@ -131,6 +131,6 @@ pub record Next (room : ℕ) (buf line : List ℕ) (p : Place) (buf′ line′ :
   pub refilled : p .at ≡ p .end → Refilled line (oneLess p) buf′ line′ q
   pub flushed : p .at ≢ p .end → bufferSize < p .filled + room → (Flushed (oneLess p) q) × ((buf′ ≡ buf) × (line′ ≡ line))
   pub taken : p .at ≢ p .end → p .filled + room ≤ bufferSize → (Taken buf line (oneLess p) line′ q) × (buf′ ≡ buf)
-  pub fits : Fits q
+  pub fits : PlaceFits q
   pub less : q .steps < p .steps
   pub ready : room ≤ bufferSize → q .lines ≢ 0 → Ready room q

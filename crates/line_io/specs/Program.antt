@@ -37,6 +37,6 @@ Over [] = ⊥
 Over ([] ∷ pieces) = Unit {0}
 Over ((c ∷ s) ∷ pieces) = Over pieces
 
-unfoldable pub joined : List (List ℕ) → List ℕ
-joined [] = []
-joined (s ∷ ss) = s ++ joined ss
+unfoldable pub concat : List (List ℕ) → List ℕ
+concat [] = []
+concat (s ∷ ss) = s ++ concat ss

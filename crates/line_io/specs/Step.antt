@@ -7,23 +7,23 @@ use mathlib.Core.List.{List, _++_}
 use lib.ListN.{length, take}
 use Rattle.line_split.specs.Split.{ended, begun, last, cut}
 use Rattle.line_io.specs.declared.Place.{Place}
-use Rattle.line_io.specs.Answering.{Answering, after, answers}
-use Rattle.line_io.specs.Place.{bufferSize, Fits, between}
+use Rattle.line_io.specs.Answering.{Answering, stateAfter, answers}
+use Rattle.line_io.specs.Place.{bufferSize, PlaceFits, between}
 
--- The answer to a line, after what waits already.
+-- The answer to a line, stateAfter what waits already.
 pub record Replied (a : Answering) (s : a .State) (line out : List ℕ) (filled : ℕ) (s′ : a .State) (out′ : List ℕ) (n : ℕ) : Type 0 where
   pub state : s′ ≡ a .next s line
   pub room : filled + n ≤ length out
   pub told : take (filled + n) out′ ≡ take filled out ++ a .says s line
 
--- Input and room for an answer are left: some of the input is used. What it ends of lines is answered, in order, after what waits already; what it begins
+-- Input and room for an answer are left: some of the input is used. What it ends of lines is answered, in order, stateAfter what waits already; what it begins
 -- is held.
 pub record Went (a : Answering) (s : a .State) (buf line out : List ℕ) (p : Place) (s′ : a .State) (buf′ line′ out′ : List ℕ) (q : Place) : Type 0 where
   pub input : buf′ ≡ buf
   pub on : p .at < q .at
   pub end : q .end ≡ p .end
   pub steps : q .steps ≡ p .steps - 1
-  pub state : s′ ≡ after a s (ended (take (p .kept) line) (between (p .at) (q .at) buf))
+  pub state : s′ ≡ stateAfter a s (ended (take (p .kept) line) (between (p .at) (q .at) buf))
   pub part : take (q .kept) line′ ≡ cut (begun (take (p .kept) line) (between (p .at) (q .at) buf))
   pub told : take (q .filled) out′ ≡ take (p .filled) out ++ answers a s (ended (take (p .kept) line) (between (p .at) (q .at) buf))
 
@@ -54,7 +54,7 @@ pub record Finished (a : Answering) (s : a .State) (line : List ℕ) (p : Place)
   pub at : q .at ≡ 0
   pub held : q .kept ≡ 0
   pub steps : q .steps ≡ 1
-  pub state : s′ ≡ after a s (last (take (p .kept) line))
+  pub state : s′ ≡ stateAfter a s (last (take (p .kept) line))
   pub told : take (q .filled) out′ ≡ answers a s (last (take (p .kept) line))
 
 -- The input at hand is used up, and nothing is read since no step is left or the write failed.
@@ -70,5 +70,5 @@ pub record Stepped (a : Answering) (room : ℕ) (s : a .State) (buf line out : L
   pub read-on : p .at ≡ p .end → q .steps ≢ 0 → q .end ≢ 0 → ReadOn a s line p s′ buf′ line′ q
   pub finished : p .at ≡ p .end → q .steps ≢ 0 → q .end ≡ 0 → Finished a s line p s′ out′ q
   pub stopped : p .at ≡ p .end → q .steps ≡ 0 → Stopped a s line p s′ line′ q
-  pub fits : Fits q
+  pub fits : PlaceFits q
   pub less : q .steps < p .steps

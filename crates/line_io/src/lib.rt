@@ -4,7 +4,7 @@ ghost use Prim.Native.Nat.{_+_, _≤_, _<_};
 ghost use lib.ListN.{length, take};
 ghost use Rattle.octets.specs.Test.{when};
 ghost use Rattle.line_split.specs.Split.{longestKept};
-ghost use Rattle.line_io.specs.Place.{bufferSize, Fits, Starts, readyLine, emptied, answeredWith, Flushed, AfterRead, Filled, Taken, Next};
+ghost use Rattle.line_io.specs.Place.{bufferSize, PlaceFits, Starts, readyLine, emptied, answeredWith, Flushed, AfterRead, Filled, Taken, Next};
 
 // The octets of a program's buffers for its input and its output.
 pub const BUFFER_SIZE: usize = 65536;
@@ -111,7 +111,7 @@ fn fill(buf: &mut [u8; BUFFER_SIZE], p: Place) -> Place
 
 // Takes the next line of the input at hand, or what there is of it.
 fn take(buf: &[u8], line: &mut [u8], p: Place) -> Place
-    requires { ⌜ (Fits p) × (p .at < p .end) ⌝ }
+    requires { ⌜ (PlaceFits p) × (p .at < p .end) ⌝ }
     requires { ⌜ (length (now buf) ≡ bufferSize) × (length (now line) ≡ longestKept) ⌝ }
     ensures { λ r. ⌜ Taken (now (buf .entry)) (now (line .entry)) p (now (line .exit)) r ⌝ }
 {
@@ -146,7 +146,7 @@ pub fn next(
     room: usize,
     p: Place,
 ) -> Place
-    requires { ⌜ (Fits p) × (0 < p .steps) ⌝ }
+    requires { ⌜ (PlaceFits p) × (0 < p .steps) ⌝ }
     ensures { λ r. ⌜ Next room (now (buf .entry)) (now (line .entry)) p (now (buf .exit)) (now (line .exit)) r ⌝ }
 {
     let mut q = p;

@@ -69,6 +69,13 @@ pub turned-down : {o : Outcome Step} {n : ℕ} → o ≡ refused n → (rec s ou
 unfolding answerOf blockOf blockPart recordAfter bufferAfter mapped left
 turned-down e rec s out h = rw (e, h) (record { answer = refl; end = refl; buffer = refl; block = refl })
 
+-- an answer with the same block's length
+pub with-block : {o : Outcome Step} {rec s out rec′ out′ : List ℕ} (a : Answer) → Called o rec s out rec′ out′ a → (b : ℕ) → b ≡ a .block
+    → Called o rec s out rec′ out′ (record { status = a .status; sent = a .sent; block = b })
+with-block {s = s} a c b e =
+    let h : record { status = a .status; sent = a .sent; block = b } ≡ a = λ i. record { status = a .status; sent = a .sent; block = e i } in
+    record { answer = h ∙ c .answer; end = c .end; buffer = c .buffer; block = ap (blockPart s) e ∙ c .block }
+
 -- what a refusal tells: of a buffer that is too short for a record nothing, else its numbers
 pub tells-short : (rec : List ℕ) (n : ℕ) → length rec < recordSize
     → record { status = record { number = n; state = 0; notice = 0; local = 0; remote = 0 }; sent = 0; block = 0 } ≡ answerOf rec (refused n)

@@ -14,7 +14,7 @@ use Rattle.step_plan.specs.declared.Plan.{Plan}
 use Rattle.endpoint.specs.declared.Endpoint.{Endpoint}
 use Rattle.endpoint.specs.Record.{encode, decode, lengthsAt, blocksAt, recordSize}
 use Rattle.endpoint.specs.Internal.{recordOf, numbersIn}
-use Rattle.endpoint.proofs.Record.{numbers-18, encode-puts}
+use Rattle.endpoint.proofs.Record.{numbers-long, encode-puts}
 use Rattle.endpoint_step.specs.Internal.{lengthsAfter, blocksAfter, carried}
 
 -- a part that is lent and comes back is a write
@@ -38,10 +38,10 @@ module _ (rec : List ℕ) (p : Plan) (b : Block) {w : ℕ} (long : recordSize �
     (ex : x ≡ put rec 0 (numbersIn (p .numbers)))
     (el : l ≡ lengthsAfter (p .queue) w b (take queueSize (drop lengthsAt x))) (l8 : length l ≡ queueSize) where
   same-18 : drop lengthsAt x ≡ drop lengthsAt rec
-  same-18 = ap (drop lengthsAt) ex ∙ after-put rec (numbersIn (p .numbers)) 0 lengthsAt (omega (arith, numbers-18 (p .numbers))) (omega arith)
+  same-18 = ap (drop lengthsAt) ex ∙ after-put rec (numbersIn (p .numbers)) 0 lengthsAt (omega (arith, numbers-long (p .numbers))) (omega arith)
 
   length-x : length x ≡ length rec
-  length-x = ap length ex ∙ length-put rec (numbersIn (p .numbers)) 0 (omega (arith, numbers-18 (p .numbers)))
+  length-x = ap length ex ∙ length-put rec (numbersIn (p .numbers)) 0 (omega (arith, numbers-long (p .numbers)))
 
   same-26 : drop blocksAt (back x l) ≡ drop blocksAt rec
   same-26 =

@@ -11,13 +11,13 @@ use Rattle.octets.specs.Sizes.{longestFrame, queueSize}
 use Rattle.octets.specs.Test.{when, first, ok, refusing, andThen}
 use Rattle.octets.specs.Octets.{octetsOf, lay}
 use Rattle.protocol.specs.Endpoint as abstract
-use Rattle.protocol.specs.Network as protocol
+use Rattle.protocol.specs.History as protocol
 use Rattle.protocol.specs.Claim.{NoEndAlone}
 use Rattle.protocol.specs.Limits.{Bounded}
 use Rattle.protocol.proofs.Sound.{sound-so}
-use Rattle.endpoint.specs.View.{placesSize, places, lengthsOf, pack, view}
+use Rattle.endpoint.specs.View.{placesSize, placesOf, lengthsOf, pack, view}
 use Rattle.endpoint.specs.Sound.{sound}
-use Rattle.endpoint.specs.Record.{recordSize, encode, Fits}
+use Rattle.endpoint.specs.Record.{recordSize, encode, RecordFits}
 use Rattle.endpoint.proofs.Packs.{length-lengths, length-places}
 use Rattle.endpoint.proofs.Held.{small-of, held, pack-sound}
 use Rattle.endpoint.proofs.Record.{decode-encode}
@@ -27,7 +27,7 @@ use Rattle.call_spec.proofs.Lift.{demand-3}
 use Rattle.link.specs.Record.{format, ends}
 
 -- the struct that holds an endpoint whose numbers have 32 bits
-packed-fits : (e : abstract.Endpoint) → abstract.sound e ≡ true → Bounded e → Fits (pack e)
+packed-fits : (e : abstract.Endpoint) → abstract.sound e ≡ true → Bounded e → RecordFits (pack e)
 unfolding pack
 packed-fits e s b =
     let f = sound-so e s in
@@ -40,10 +40,10 @@ packed-fits e s b =
       delivered = omega (arith, b .delivered≤);
       waiting = omega (arith, f .laden .places);
       lengths = length-padded queueSize (lengthsOf q) (omega (arith, length-lengths q, f .laden .places));
-      blocks = length-padded placesSize (places q) (omega (arith, length-places q (small-of q (f .blocks)), f .laden .places));
+      blocks = length-padded placesSize (placesOf q) (omega (arith, length-places q (small-of q (f .blocks)), f .laden .places));
     }
 
-length-encode : (e : abstract.Endpoint) → Fits (pack e) → length (encode (pack e)) ≡ recordSize
+length-encode : (e : abstract.Endpoint) → RecordFits (pack e) → length (encode (pack e)) ≡ recordSize
 unfolding encode lay octetsOf
 length-encode e f = let l = length-append (pack e .lengths) (pack e .blocks) in omega (arith, l, f .lengths, f .blocks)
 

@@ -8,7 +8,7 @@ use lib.ListN.{length, drop-of-length-le}
 use Rattle.octets.specs.Test.{when, first, outcome}
 use Rattle.octets.specs.Octets.{put, left}
 use Rattle.protocol.specs.Endpoint.{fresh}
-use Rattle.protocol.specs.Network.{now}
+use Rattle.protocol.specs.History.{now}
 use Rattle.protocol.proofs.Theorem.{roomy, limited}
 use Rattle.endpoint.specs.Record.{recordSize}
 use Rattle.link.specs.Lent.{freshRecord, freshIn}

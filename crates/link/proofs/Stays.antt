@@ -8,13 +8,14 @@ use borrow.Author.Tests.{leb-true}
 use lib.ListN.{length}
 use Rattle.octets.specs.Test.{first, ok, mapped}
 use Rattle.octets.specs.Octets.{put, left, Octets}
+use Rattle.octets.proofs.Octets.{field-32}
 use Rattle.octets.proofs.Test.{passing, all-yes}
 use Rattle.protocol.specs.Table.{Step}
 use Rattle.protocol.specs.Limits.{Bounded}
 use Rattle.endpoint.specs.View.{view}
-use Rattle.endpoint.specs.Record.{recordSize, decode}
+use Rattle.endpoint.specs.Record.{localAt, remoteAt, acceptedAt, deliveredAt, recordSize, decode}
 use Rattle.endpoint_step.specs.Calls.{outcomeOf}
-use Rattle.endpoint_step.proofs.Laws.{field-32, InOctets, leaves}
+use Rattle.endpoint_step.proofs.Laws.{InOctets, leaves}
 use Rattle.call_spec.specs.Calls.{Arguments, performed, recordAfter}
 use Rattle.link.specs.Record.{format}
 use Rattle.link.proofs.Demand.{lawful}
@@ -25,10 +26,10 @@ bounded : (rec : List ℕ) → Octets rec → recordSize ≤ length rec → Boun
 unfolding view decode
 bounded rec o l =
     record {
-      local≤ = field-32 1 rec o (omega arith);
-      remote≤ = field-32 5 rec o (omega arith);
-      accepted≤ = field-32 9 rec o (omega arith);
-      delivered≤ = field-32 13 rec o (omega arith);
+      local≤ = field-32 localAt rec o (omega arith);
+      remote≤ = field-32 remoteAt rec o (omega arith);
+      accepted≤ = field-32 acceptedAt rec o (omega arith);
+      delivered≤ = field-32 deliveredAt rec o (omega arith);
     }
 
 pub stays-sound : (rec : List ℕ) → Octets rec → (c : Arguments) → InOctets (c .call) (c .octets) → {x : Step} → performed format rec c ≡ ok x

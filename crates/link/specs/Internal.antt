@@ -16,6 +16,6 @@ abbrev pub PlannedCall : List ℕ → List ℕ → ℕ → Plan → Type 0
 PlannedCall rec s room p = (c : Call) × Plans (decode rec) (given c s room) p
 
 -- its stores and its answer are those of every call that it is the plan of
-abbrev pub Finished : Plan → List ℕ → List ℕ → List ℕ → List ℕ → List ℕ → Answer → Type 0
-Finished p rec s out rec′ out′ r =
+abbrev pub Stored : Plan → List ℕ → List ℕ → List ℕ → List ℕ → List ℕ → Answer → Type 0
+Stored p rec s out rec′ out′ r =
     (c : Call) → Plans (decode rec) (given c s (length out)) p → Called (performed format rec (given c s (length out))) rec s out rec′ out′ r

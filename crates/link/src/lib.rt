@@ -21,7 +21,7 @@ ghost use Rattle.endpoint.specs.Record.{recordSize, encode, decode};
 ghost use Rattle.endpoint_step.specs.Internal.{Plans, carried};
 ghost use Rattle.link.specs.Record.{format, recordQuestions};
 ghost use Rattle.link.specs.Lent.{answerOf, Called, answerIn, freshIn};
-ghost use Rattle.link.specs.Internal.{PlannedCall, Finished};
+ghost use Rattle.link.specs.Internal.{PlannedCall, Stored};
 
 // The octets of a record.
 pub const RECORD_SIZE: usize = endpoint::RECORD_SIZE;
@@ -138,7 +138,7 @@ fn store(p: Plan, joined: &[u8], rec: &mut [u8])
 // The stores of a planned call, and its answer: the frame out, then the record. A plan that refuses stores nothing.
 pub fn finish(p: Plan, rec: &mut [u8], s: &[u8], out: &mut [u8]) -> Answer
     requires { ⌜ (recordSize ≤ length (now rec)) × PlannedCall (now rec) (now s) (length (now out)) p ⌝ }
-    ensures { λ r. ⌜ Finished p (now (rec .entry)) (now (s .entry)) (now (out .entry)) (now (rec .exit)) (now (out .exit)) r ⌝ }
+    ensures { λ r. ⌜ Stored p (now (rec .entry)) (now (s .entry)) (now (out .entry)) (now (rec .exit)) (now (out .exit)) r ⌝ }
 {
     if p.number != step_plan::ACCEPTED {
         return refuse(rec, p.number);

@@ -32,11 +32,11 @@ pub const QUEUE_FULL: u8 = 10;
 // 11: a lent buffer is too small.
 pub const SHORT_BUFFER: u8 = 11;
 
-// 12: a record is not sound, or the book's count is too large.
+// 12: a record is not sound, or the log's count is too large.
 pub const UNSOUND: u8 = 12;
 
-// 13: the book does not hold that frame.
+// 13: the log does not hold that frame.
 pub const NO_SUCH_FRAME: u8 = 13;
 
-// 14: the book has no place left.
+// 14: the log has no place left.
 pub const LOG_FULL: u8 = 14;

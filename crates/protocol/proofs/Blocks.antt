@@ -13,7 +13,7 @@ use Rattle.octets.proofs.Test.{if-eq, eq-yes, eq-no}
 use Rattle.frame.specs.Frame.{Block, DATA, Frame}
 use Rattle.protocol.specs.Endpoint.{Endpoint, waiting}
 use Rattle.protocol.specs.Table.{Notice, none, connected, rejected, closedByPartner, closeFinished, handedUp, Sent}
-use Rattle.protocol.specs.Network.{Call, Event, History, now, sent}
+use Rattle.protocol.specs.History.{Call, Event, History, now, sent}
 use Rattle.protocol.specs.Claim.{Opens, blockUp, handedUpIn, blockSent, acceptedFor, OpenedWith, Prefix}
 use Rattle.protocol.proofs.Facts.{silent, Laden, load, Carry, keeps, clears, begins, takes, releases, queues, stepTo}
 use Rattle.protocol.proofs.Facts.{Says, silence, crao, crpo, crack, rej, reset-said, dr, drack, drack-to-other, datum, ack}

@@ -16,7 +16,7 @@ use Rattle.protocol.specs.Endpoint.{Endpoint, waiting}
 use Rattle.protocol.specs.Table.{Sent, nothing, frame, Step}
 use Rattle.octets.specs.Sizes.{lastNumber, queueSize}
 use Rattle.protocol.specs.Requests.{questions, refusal, queueing, oldest, resent, accept, request}
-use Rattle.protocol.specs.Network.{Call, ask, deliver, perform, Event, History, now, also, sent, recorded, after, Due}
+use Rattle.protocol.specs.History.{Call, ask, deliver, perform, Event, History, now, also, sent, recorded, after, Due}
 use Rattle.protocol.specs.Claim.{blockSent}
 use Rattle.protocol.proofs.Facts.{alone, stays, hangs-up, drops, keeps, clears, queues, Sane, Laden}
 use Rattle.protocol.proofs.Facts.{Says, silence, crao, crpo, dr, datum, Fires, fires, heard}

@@ -5,7 +5,7 @@ use Rattle.octets.specs.Test.{when, ifEq, ifLt, first, outcome}
 use Rattle.frame.specs.Frame.{Frame}
 use Rattle.protocol.specs.Table.{whenListening, whenActive, whenPassive, dataRow, openRows, whenEstablished, rule, apply, step}
 use Rattle.protocol.specs.Requests.{questions, refusal, accept, request}
-use Rattle.protocol.specs.Network.{perform, now, sent, recorded}
+use Rattle.protocol.specs.History.{perform, now, sent, recorded}
 use Rattle.protocol.specs.World.{called, ends}
 use Rattle.protocol.specs.Claim.{handedUpIn, Demand}
 use Rattle.protocol.specs.Examples.{start, callOne, callBoth, ping, pong, talk, BothOpen, HandsUp}

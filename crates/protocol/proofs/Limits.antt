@@ -12,7 +12,7 @@ use Rattle.protocol.specs.Endpoint.{Endpoint, waiting, sized, sound}
 use Rattle.protocol.specs.Table.{Notice, Sent, frame, Step}
 use Rattle.octets.specs.Sizes.{lastNumber}
 use Rattle.protocol.specs.Requests.{begun, accept}
-use Rattle.protocol.specs.Network.{Call, ask, deliver, perform, History, now, sent}
+use Rattle.protocol.specs.History.{Call, ask, deliver, perform, History, now, sent}
 use Rattle.protocol.specs.Claim.{blockSent}
 use Rattle.protocol.specs.Limits.{Bounded, Readable, Leaves, LeavesSound, LeavesBounded}
 use Rattle.frame.specs.Fits.{Fits, control-fits, data-fits, ack-fits}

@@ -8,19 +8,19 @@ use Rattle.frame.specs.Frame.{Block, Frame, control, connect}
 use Rattle.protocol.specs.Endpoint.{Endpoint}
 use Rattle.protocol.specs.Table.{Sent, Notice, Step}
 use Rattle.protocol.specs.Requests.{begun, accept}
-use Rattle.protocol.specs.Network.{Call, ask, Event, History, now, sent}
+use Rattle.protocol.specs.History.{Call, ask, Event, History, now, sent}
 use Rattle.protocol.specs.Claim.{BegunByConnect, Opens, Met}
 use Rattle.protocol.proofs.Facts.{Laden, load, Move, Says, crao, silence, Fires, fires, Carry, stepTo}
 use Rattle.protocol.proofs.Calls.{Heard, no-frame, from, with-new, event, Deed, refuses, connects, listens, goes}
-use Rattle.protocol.proofs.Invariant.{Party, Ends, Holds, back, agreed, ends-i, ends-j, holds-i, holds-j, said}
+use Rattle.protocol.proofs.Invariant.{Party, EndHolds, Holds, back, agreed, ends-i, ends-j, holds-i, holds-j, said}
 use Rattle.protocol.proofs.Invariant.{Begins, begins-i, begins-j, begun-i, begun-j}
 
 -- All that holds of two ends that a list of calls has reached. by-a and by-b say what began their incarnations.
 pub record Joint (a b : History) : Type 0 where
   pub by-a : ℕ
   pub by-b : ℕ
-  pub ends-a : Ends (record { at = now a; by = by-a }) (record { at = now b; by = by-b })
-  pub ends-b : Ends (record { at = now b; by = by-b }) (record { at = now a; by = by-a })
+  pub ends-a : EndHolds (record { at = now a; by = by-a }) (record { at = now b; by = by-b })
+  pub ends-b : EndHolds (record { at = now b; by = by-b }) (record { at = now a; by = by-a })
   pub laden-a : Laden (now a)
   pub laden-b : Laden (now b)
   pub holds-a : (g : Frame) → List·Memᴰ g (sent a) → Holds (record { at = now a; by = by-a }) (record { at = now b; by = by-b }) g

@@ -11,7 +11,7 @@ use Rattle.frame.specs.Frame.{Block, DATA, Frame, control}
 use Rattle.protocol.specs.Endpoint.{Endpoint}
 use Rattle.protocol.specs.Table.{Notice, handedUp, Sent, delivering}
 use Rattle.protocol.specs.Requests.{accept}
-use Rattle.protocol.specs.Network.{Call, Event, History, now, sent}
+use Rattle.protocol.specs.History.{Call, Event, History, now, sent}
 use Rattle.protocol.specs.Claim.{handedUpIn, blockSent, acceptedFor, OpenedWith, Prefix, InOrder}
 use Rattle.protocol.proofs.Facts.{silent, Laden, Carry, keeps, clears, begins, takes, releases, queues, Says, crao, silence, stepTo, fires}
 use Rattle.protocol.proofs.Calls.{event, Heard, no-frame, from, Deed, refuses, connects, listens, goes}

@@ -1,6 +1,6 @@
 -- Demand 3 holds of every list of calls, and so do the limits.
 use mathlib.Core.List.{List}
-use Rattle.protocol.specs.Network.{Call, History, Due}
+use Rattle.protocol.specs.History.{Call, History, Due}
 use Rattle.protocol.specs.World.{Ends, Entry, Two, run, AllDue, BothNew, endsWhere, ends}
 use Rattle.protocol.specs.Claim.{NoEndAlone}
 use Rattle.protocol.specs.Limits.{Sized, Limited}

@@ -1,11 +1,11 @@
--- Demand 3 along a list of calls, in whatever form the records are. Assumes nothing.
+-- Demand 3 along a list of calls, in whatever form the records are.
 use Prim.Native.Nat.{ℕ, zero, suc}
 use mathlib.Core.Path.{_≡_, refl, sym, subst}
 use mathlib.Core.List.{List, [], _∷_, _++_}
 use Rattle.octets.specs.Test.{Outcome, refused, ok, refusing, andThen}
 use Rattle.protocol.specs.Endpoint.{Endpoint, fresh}
 use Rattle.protocol.specs.Table.{Step}
-use Rattle.protocol.specs.Network.{Call, perform, History, now, recorded, after}
+use Rattle.protocol.specs.History.{Call, perform, History, now, recorded, after}
 use Rattle.protocol.specs.World.{Ends, End, Entry, atA, atB, Two, called, made, run, DueAt, AllDue, BothNew, endsWhere}
 use Rattle.protocol.specs.Claim.{Opens, Met, Meets, EachMeets, InOrder, NoEndAlone}
 

@@ -9,7 +9,7 @@ use Rattle.protocol.specs.Endpoint.{closed, activeOpening, established, 
 use Rattle.protocol.specs.Table.{Notice, none, connected, rejected, closedByPartner, closeFinished, handedUp}
 use Rattle.protocol.specs.Table.{frame, quiet, says, turned, step}
 use Rattle.protocol.specs.Requests.{request}
-use Rattle.protocol.specs.Network.{Call, ask, deliver, Event, History, now}
+use Rattle.protocol.specs.History.{Call, ask, deliver, Event, History, now}
 use Rattle.protocol.specs.World.{Ends, Entry, Two, made, run, AllDue, BothNew}
 
 -- An incarnation is one L of one end. It is begun by connect where the connect request raised L to it.

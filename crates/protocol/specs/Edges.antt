@@ -1,11 +1,11 @@
--- The eleven cases that document 01 marks P, "at the edges", as one table: what each call answers, whole.
+-- The eleven cases that document 01 marks P, "at the edges", as one table: what each call edgeAnswers, whole.
 use Prim.Native.Nat.{ℕ}
 use mathlib.Core.List.{List, [], _∷_, map}
 use Rattle.octets.specs.Test.{Outcome, refused, ok}
 use Rattle.frame.specs.Frame.{Block, CRAO, REJ, RESET, control, dataFrame, ackFrame, connect, send}
 use Rattle.protocol.specs.Endpoint.{closed, listening, activeOpening, passiveOpening, established, closing, Endpoint}
 use Rattle.protocol.specs.Table.{none, rejected, closeFinished, Step, quiet, says}
-use Rattle.protocol.specs.Network.{Call, ask, deliver, perform}
+use Rattle.protocol.specs.History.{Call, ask, deliver, perform}
 
 -- one line of the table
 pub record Edge : Type 0 where
@@ -49,5 +49,5 @@ edges =
 unfoldable pub expected : List Edge → List (Outcome Step)
 expected es = map (λ (x : Edge). x .answer) es
 
-unfoldable pub answers : List Edge → List (Outcome Step)
-answers es = map (λ (x : Edge). perform (x .call) (x .before)) es
+unfoldable pub edgeAnswers : List Edge → List (Outcome Step)
+edgeAnswers es = map (λ (x : Edge). perform (x .call) (x .before)) es

@@ -1,7 +1,7 @@
 pub mod Endpoint
 pub mod Table
 pub mod Requests
-pub mod Network
+pub mod History
 pub mod World
 pub mod Claim
 pub mod Limits

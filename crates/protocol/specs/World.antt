@@ -4,8 +4,8 @@ use mathlib.Core.List.{List, [], _∷_}
 use Rattle.octets.specs.Test.{Outcome, refused, ok}
 use Rattle.protocol.specs.Endpoint.{Endpoint, fresh}
 use Rattle.protocol.specs.Table.{Step}
-use Rattle.protocol.specs.Network.{perform, History, recorded, Due}
-use Rattle.protocol.specs.Network as protocol
+use Rattle.protocol.specs.History.{perform, History, recorded, Due}
+use Rattle.protocol.specs.History as protocol
 
 -- What an end is.
 pub record Ends : Type 1 where
@@ -21,7 +21,7 @@ pub record Ends : Type 1 where
   -- whether a call may stand in the list beside the answers of the other end: a delivery is of a frame that an earlier call there sent
   pub Due : History → History → Call → Type 0
 
--- An end at a moment: its record as the last call left it, and what its accepted calls have answered, the latest first.
+-- An end at a moment: its record as the last call endpointLeft it, and what its accepted calls have answered, the latest first.
 pub record End (Record : Type 0) : Type 0 where
   pub rec : Record
   pub history : History
@@ -71,9 +71,9 @@ module _ (E : Ends) where
   BothNew w = New (w .a) × New (w .b)
 
 -- The ends of the protocol: the record is the endpoint itself.
-abbrev pub left : Endpoint → Outcome Step → Endpoint
-left e (refused n) = e
-left e (ok x) = x .endpoint
+abbrev pub endpointLeft : Endpoint → Outcome Step → Endpoint
+endpointLeft e (refused n) = e
+endpointLeft e (ok x) = x .endpoint
 
 abbrev pub endsWhere : (History → protocol.Call → Type 0) → Ends
 endsWhere Fair =
@@ -83,7 +83,7 @@ endsWhere Fair =
       Call = protocol.Call;
       said = λ e. ok;
       comes = λ e c. perform c e;
-      leaves = λ e c. left e;
+      leaves = λ e c. endpointLeft e;
       Due = λ this other c. Fair other c;
     }
 

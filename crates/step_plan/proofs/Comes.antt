@@ -20,7 +20,7 @@ use Rattle.step_plan.specs.declared.Queue.{Queue}
 use Rattle.step_plan.specs.declared.Queue.the-variants.{Keep, Join, Release}
 use Rattle.call_spec.specs.Answers.{noticeOf, sentIn, endpointAfter}
 use Rattle.step_plan.specs.Internal.{joinedBy, queueAfter, Room, blockOut, sentBy, Comes}
-use Rattle.step_plan.specs.Internal.{refusing, keeping, turning, beginning, releasing}
+use Rattle.step_plan.specs.Internal.{refusedPlan, keeping, turning, beginning, releasingPlan}
 
 -- an accepted call
 abbrev pub answers : Endpoint → Notice → Reply → Block → Outcome Step
@@ -30,7 +30,7 @@ none-left : (n : Numbers) (q : List Block) → length q ≡ n .waiting → drop 
 none-left n q w = drop-of-length-le q {i = n .waiting} (omega arith)
 
 module _ (n : Numbers) (q : List Block) (b old : Block) (w : length q ≡ n .waiting) {o : Outcome Step} {p : Plan} where
-  pub refuses : (k : ℕ) → o ≡ refused k → p ≡ refusing n k → Comes n q b old o p
+  pub refuses : (k : ℕ) → o ≡ refused k → p ≡ refusedPlan n k → Comes n q b old o p
   unfolding numberOf noticeOf sentIn endpointAfter queueAfter sentBy
   refuses k h e =
       rw (h, e) (record { number = refl; notice = refl; endpoint = refl; counted = sym w; room = tt; sent = refl })
@@ -69,7 +69,7 @@ module _ (n : Numbers) (q : List Block) (b old : Block) (w : length q ≡ n .wai
       })
 
   pub releases : (m : ℕ) → n .waiting ≤ n .accepted → m ≤ n .accepted → o ≡ ok (quiet (table.releasing m (holding n q)) none)
-      → p ≡ releasing n (m - (n .accepted - n .waiting)) → Comes n q b old o p
+      → p ≡ releasingPlan n (m - (n .accepted - n .waiting)) → Comes n q b old o p
   unfolding numberOf noticeOf sentIn endpointAfter queueAfter sentBy noticeNumber
   releases m lo hi h e =
       let k = m - (n .accepted - n .waiting) in

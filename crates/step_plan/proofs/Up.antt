@@ -22,8 +22,8 @@ use Rattle.protocol.specs.Endpoint.{Endpoint}
 use Rattle.protocol.specs.Table.{noticeNumber, rule, Step, apply, step}
 use Rattle.protocol.specs.Requests.{refusal, accept}
 use Rattle.protocol.specs.Requests as protocol
-use Rattle.protocol.specs.Network.{ask, deliver, perform}
-use Rattle.protocol.specs.Network as network
+use Rattle.protocol.specs.History.{ask, deliver, perform}
+use Rattle.protocol.specs.History as history
 use Rattle.protocol.proofs.Facts.{Found, hand-up, found}
 use Rattle.call_spec.specs.declared.Call.{Call}
 use Rattle.call_spec.specs.declared.Call.the-variants as call
@@ -76,7 +76,7 @@ module _ (s : List ℕ) (e : Endpoint) (f : Frame) (d : f .kind ≡ 8 → (f .bl
   right-step = by-rule (rule e f) (λ z. kind-of (subst (Found e f) z (found e f)))
 
 hearing-right : (s : List ℕ) (e : Endpoint) (r : Outcome Frame) → ((f : Frame) → r ≡ ok f → f .kind ≡ 8 → (f .block ≡ drop dataBlockAt s) × (dataBlockAt ≤ length s))
-    → RightOf s (andThen (mapped deliver r) (λ (x : network.Call). perform x e))
+    → RightOf s (andThen (mapped deliver r) (λ (x : history.Call). perform x e))
 unfolding andThen mapped perform noticeOf blockOf
 hearing-right s e (refused m) d = none s 0 (λ z. omega arith)
 hearing-right s e (ok f) d = right-step s e f (d f refl)
@@ -103,7 +103,7 @@ pub refused-silent : (n : ℕ) → Silent (refused n)
 unfolding noticeOf blockOf
 refused-silent n = record { notice = refl; block = refl }
 
-asking-silent : (e : Endpoint) (r : Outcome Request) → Silent (andThen (mapped ask r) (λ (x : network.Call). perform x e))
+asking-silent : (e : Endpoint) (r : Outcome Request) → Silent (andThen (mapped ask r) (λ (x : history.Call). perform x e))
 unfolding andThen mapped perform noticeOf blockOf protocol.request
 asking-silent e (refused n) = record { notice = refl; block = refl }
 asking-silent e (ok q) = of-value Silent refused-silent (refusal q e) (accept q e) (accepts-silent q e)

@@ -81,8 +81,8 @@ pub record Sends (x : Sent) (out out′ : List ℕ) (n : ℕ) : Type 0 where
 -- Plans that many rows share.
 
 -- nothing is done
-abbrev pub refusing : Numbers → ℕ → Plan
-refusing n k = record { number = k; numbers = n; queue = Keep; notice = 0; reply = Nothing }
+abbrev pub refusedPlan : Numbers → ℕ → Plan
+refusedPlan n k = record { number = k; numbers = n; queue = Keep; notice = 0; reply = Nothing }
 
 -- the blocks stay
 abbrev pub keeping : Numbers → ℕ → Reply → Plan
@@ -110,13 +110,13 @@ beginning n st reply =
     }
 
 -- one block more is handed up
-abbrev pub delivering : Numbers → Numbers
-delivering n =
+abbrev pub deliveringNumbers : Numbers → Numbers
+deliveringNumbers n =
     record { state = n .state; local = n .local; remote = n .remote; accepted = n .accepted; delivered = n .delivered + 1; waiting = n .waiting }
 
 -- the k oldest blocks leave
-abbrev pub releasing : Numbers → ℕ → Plan
-releasing n k =
+abbrev pub releasingPlan : Numbers → ℕ → Plan
+releasingPlan n k =
     record {
       number = 0;
       numbers = record { state = n .state; local = n .local; remote = n .remote; accepted = n .accepted; delivered = n .delivered; waiting = n .waiting - k };

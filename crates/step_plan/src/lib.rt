@@ -7,7 +7,7 @@ ghost use lib.ListN.{length};
 ghost use Rattle.octets.specs.Sizes.{longestFrame, longestBlock};
 ghost use Rattle.frame.specs.Layout.{dataBlockAt};
 ghost use Rattle.step_plan.specs.Internal.{blockBy, joinedBy, Room, blockOut, sentBy, Sends};
-ghost use Rattle.step_plan.specs.Internal.{refusing, keeping, turning};
+ghost use Rattle.step_plan.specs.Internal.{refusedPlan, keeping, turning};
 
 // The number of an answer that refuses nothing.
 pub const ACCEPTED: u8 = 0;
@@ -49,7 +49,7 @@ pub struct Plan {
 
 // A refusal changes nothing.
 pub fn refuse(given: Numbers, number: u8) -> Plan
-    ensures { λ r. ⌜ r ≡ refusing given number ⌝ }
+    ensures { λ r. ⌜ r ≡ refusedPlan given number ⌝ }
 {
     Plan {
         number,

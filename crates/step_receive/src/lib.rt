@@ -29,12 +29,12 @@ ghost use Rattle.step_rules.specs.Internal.{carrying, Chosen};
 ghost use Rattle.call_spec.specs.declared.Call.the-variants.{Receive};
 ghost use Rattle.call_spec.specs.Calls.{does};
 ghost use Rattle.step_plan.specs.Internal.{Planned};
-ghost use Rattle.step_plan.specs.Internal.{delivering, releasing};
+ghost use Rattle.step_plan.specs.Internal.{deliveringNumbers, releasingPlan};
 
 // One block more is handed up.
 fn deliver(n: Numbers) -> Numbers
     requires { ⌜ n .delivered < lastNumber ⌝ }
-    ensures { λ r. ⌜ r ≡ delivering n ⌝ }
+    ensures { λ r. ⌜ r ≡ deliveringNumbers n ⌝ }
 {
     Numbers {
         state: n.state,
@@ -49,7 +49,7 @@ fn deliver(n: Numbers) -> Numbers
 // The blocks before this number leave; the oldest waiting one has number t - w.
 fn release(n: Numbers, number: u32) -> Plan
     requires { ⌜ (n .waiting ≤ n .accepted) × ((n .accepted - n .waiting < number) × (number ≤ n .accepted)) ⌝ }
-    ensures { λ r. ⌜ r ≡ releasing n (number - (n .accepted - n .waiting)) ⌝ }
+    ensures { λ r. ⌜ r ≡ releasingPlan n (number - (n .accepted - n .waiting)) ⌝ }
 {
     let gone = number - (n.accepted - (n.waiting as u32));
     Plan {

@@ -27,7 +27,7 @@ ghost use Rattle.frame.specs.Frame.{Block, connect, listen, endListening, close
 ghost use Rattle.frame.specs.Layout.{sendBlockAt};
 ghost use Rattle.frame.specs.Answer.{requestOf};
 ghost use Rattle.protocol.specs.Requests.{request};
-ghost use Rattle.protocol.specs.Network.{ask};
+ghost use Rattle.protocol.specs.History.{ask};
 ghost use Rattle.protocol.specs.Limits.{Readable};
 ghost use Rattle.call_spec.specs.declared.Call.the-variants.{Request};
 ghost use Rattle.call_spec.specs.Calls.{does};

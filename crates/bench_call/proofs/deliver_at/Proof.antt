@@ -2,7 +2,7 @@ use denote.Ref.{now}
 use lib.ListN.{length}
 use Rattle.call_spec.specs.declared.Call.the-variants.{Receive}
 use Rattle.call_spec.specs.Calls.{Arguments, given}
-use Rattle.bench_log.specs.Log.{frameAt}
+use Rattle.bench_log.specs.Log.{frameLogged}
 use Rattle.bench_call.proofs.Does.{loggable, does}
 use Rattle.bench_call.proofs.Moves.{has-place}
 use Rattle.bench_call.proofs.Handed.{stands}
@@ -11,7 +11,7 @@ use Rattle.bench_call.proofs.deliver_at.Statement.{statement}
 use Rattle.bench_call.proofs.deliver_at.Tie as tie
 
 abbrev call-of : tie.Start → Arguments
-call-of c = given Receive (frameAt (c .args .n) (now (c .args .log))) (length (now (c .args .out)))
+call-of c = given Receive (frameLogged (c .args .n) (now (c .args .log))) (length (now (c .args .out)))
 
 finish-requires : tie.Need-finish-requires
 finish-requires c κs =

@@ -2,7 +2,7 @@ use Prim.Native.Nat.{ℕ, _+_, _-_, _*_}
 use mathlib.Core.Path.{_≡_, ap}
 use denote.Ref.{now}
 use lib.ListN.{take, drop}
-use Rattle.bench_log.specs.Log.{lengthAt, frameAt, placeSize}
+use Rattle.bench_log.specs.Log.{lengthAt, frameLogged, placeSize}
 use native.Mathlib.Omega.{arith}
 use borrow.Author.Needs.{needs}
 use Rattle.bench_log.proofs.frame_of.Statement.{statement}
@@ -13,7 +13,7 @@ unfolding lengthAt
 part-result-end c = omega (arith, c .wide .ensures .0, c .before .before .before .pre .1 .1)
 
 returns : tie.Need-returns
-unfolding lengthAt frameAt
+unfolding lengthAt frameLogged
 returns c =
     let a = c .before .before .before .before .args in
     let at = a .n * placeSize + 2 in

@@ -5,7 +5,7 @@ use borrow.Author.Tests.{not-true, not-false}
 use lib.ListN.{length}
 use Rattle.call_spec.specs.declared.Call.the-variants.{Receive}
 use Rattle.call_spec.specs.Calls.{given}
-use Rattle.bench_log.specs.Log.{frameAt}
+use Rattle.bench_log.specs.Log.{frameLogged}
 use denote.Ref.{now}
 use Rattle.bench_order.proofs.Plays.{declines, at-a, at-b, no-frame, to-a, to-b}
 use native.Mathlib.Omega.{arith}
@@ -23,13 +23,13 @@ deliver-at-requires : tie.Need-deliver-at-requires
 deliver-at-requires c κs = let s = c .before .before .before .before .before .before .before .before .before .before .before .before .before in let a = s .args in let h = held (a .count) (a .n) (now (a .log)) (sym (c .before .before .before .before .before .before .before .holds .ensures) ∙ not-false (c .before .before .before .before .before .before .before .holds .result) (c .before .before .before .before .before .before .if1 .left)) in omega (arith, h .below, h .short, s .pre)
 
 returns-2 : tie.Need-returns-2
-returns-2 c = let a = c .before .before .before .before .before .before .before .before .before .before .before .before .before .before .before .before .before .before .before .before .args in let h = sym (c .before .before .before .before .before .before .before .before .before .before .before .before .before .before .holds .ensures) ∙ not-false (c .before .before .before .before .before .before .before .before .before .before .before .before .before .before .holds .result) (c .before .before .before .before .before .before .before .before .before .before .before .before .before .if1 .left) in at-b (now (a .a)) (now (a .b)) (now (a .log)) (a .count) (a .n) (given Receive (frameAt (a .n) (now (a .log))) (length (now (a .out)))) (now (a .out)) (to-b (now (a .a)) (now (a .b)) (now (a .log)) (a .count) (a .n) (length (now (a .out))) h (sym (c .before .before .before .before .before .before .before .before .before .before .before .sender-of .ensures) ∙ c .before .before .before .before .before .before .before .before .before .before .if2 .taken)) (c .before .before .before .before .before .before .deliver-at .ensures)
+returns-2 c = let a = c .before .before .before .before .before .before .before .before .before .before .before .before .before .before .before .before .before .before .before .before .args in let h = sym (c .before .before .before .before .before .before .before .before .before .before .before .before .before .before .holds .ensures) ∙ not-false (c .before .before .before .before .before .before .before .before .before .before .before .before .before .before .holds .result) (c .before .before .before .before .before .before .before .before .before .before .before .before .before .if1 .left) in at-b (now (a .a)) (now (a .b)) (now (a .log)) (a .count) (a .n) (given Receive (frameLogged (a .n) (now (a .log))) (length (now (a .out)))) (now (a .out)) (to-b (now (a .a)) (now (a .b)) (now (a .log)) (a .count) (a .n) (length (now (a .out))) h (sym (c .before .before .before .before .before .before .before .before .before .before .before .sender-of .ensures) ∙ c .before .before .before .before .before .before .before .before .before .before .if2 .taken)) (c .before .before .before .before .before .before .deliver-at .ensures)
 
 deliver-at-requires-2 : tie.Need-deliver-at-requires-2
 deliver-at-requires-2 c κs = let s = c .before .before .before .before .before .before .before .before .before .before .before .before .before in let a = s .args in let h = held (a .count) (a .n) (now (a .log)) (sym (c .before .before .before .before .before .before .before .holds .ensures) ∙ not-false (c .before .before .before .before .before .before .before .holds .result) (c .before .before .before .before .before .before .if1 .left)) in omega (arith, h .below, h .short, s .pre)
 
 returns-3 : tie.Need-returns-3
-returns-3 c = let a = c .before .before .before .before .before .before .before .before .before .before .before .before .before .before .before .before .before .before .before .before .args in let h = sym (c .before .before .before .before .before .before .before .before .before .before .before .before .before .before .holds .ensures) ∙ not-false (c .before .before .before .before .before .before .before .before .before .before .before .before .before .before .holds .result) (c .before .before .before .before .before .before .before .before .before .before .before .before .before .if1 .left) in at-a (now (a .a)) (now (a .b)) (now (a .log)) (a .count) (a .n) (given Receive (frameAt (a .n) (now (a .log))) (length (now (a .out)))) (now (a .out)) (to-a (now (a .a)) (now (a .b)) (now (a .log)) (a .count) (a .n) (length (now (a .out))) h (λ z. c .before .before .before .before .before .before .before .before .before .before .if2 .left (c .before .before .before .before .before .before .before .before .before .before .before .sender-of .ensures ∙ z))) (c .before .before .before .before .before .before .deliver-at2 .ensures)
+returns-3 c = let a = c .before .before .before .before .before .before .before .before .before .before .before .before .before .before .before .before .before .before .before .before .args in let h = sym (c .before .before .before .before .before .before .before .before .before .before .before .before .before .before .holds .ensures) ∙ not-false (c .before .before .before .before .before .before .before .before .before .before .before .before .before .before .holds .result) (c .before .before .before .before .before .before .before .before .before .before .before .before .before .if1 .left) in at-a (now (a .a)) (now (a .b)) (now (a .log)) (a .count) (a .n) (given Receive (frameLogged (a .n) (now (a .log))) (length (now (a .out)))) (now (a .out)) (to-a (now (a .a)) (now (a .b)) (now (a .log)) (a .count) (a .n) (length (now (a .out))) h (λ z. c .before .before .before .before .before .before .before .before .before .before .if2 .left (c .before .before .before .before .before .before .before .before .before .before .before .sender-of .ensures ∙ z))) (c .before .before .before .before .before .before .deliver-at2 .ensures)
 
 pub deliver-spec : {M : Type 1} → statement M
 deliver-spec =

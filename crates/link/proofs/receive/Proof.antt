@@ -11,7 +11,7 @@ use Rattle.step_plan.specs.Internal.{blockBy}
 use Rattle.link.specs.declared.Answer.{Answer}
 use Rattle.link.specs.Record.{format}
 use Rattle.link.specs.Lent.{statusOf, answerOf}
-use Rattle.link.proofs.Answers.{long-enough, hands-it-up}
+use Rattle.link.proofs.Answers.{with-block, long-enough, hands-it-up}
 use borrow.Author.Needs.{needs}
 use Rattle.link.proofs.receive.Statement.{statement}
 use Rattle.link.proofs.receive.Tie as tie
@@ -34,17 +34,9 @@ returns : tie.Need-returns
 unfolding answerOf
 returns c =
     let s = c .before .before .before .before .before .before .before .before .before .before .before .before in
-    let r = c .before .before .before .before .before .before .perform .ensures in
+    let r = c .before .before .before .before .before .before .perform in
     let b = c .handed-up .ensures ∙ ap (λ (n : ℕ). blockBy n (now (s .args .s))) (notice-is (c .before .before .before .before .before .before)) ∙ hands-it-up (now (s .args .rec)) (call-of s) in
-    let k = ap (λ (x : Answer). x .block) (r .answer) ∙ sym (ap length b) in (
-      record {
-        answer = (λ i. record { status = c .before .before .before .before .before .before .perform .result .status; sent = c .before .before .before .before .before .before .perform .result .sent; block = sym k i }) ∙ r .answer;
-        end = r .end;
-        buffer = r .buffer;
-        block = ap (blockPart (now (s .args .s))) (sym k) ∙ r .block;
-      },
-      b,
-    )
+    (with-block (r .result) (r .ensures) _ (ap length b ∙ sym (ap (λ (x : Answer). x .block) (r .ensures .answer))), b)
 
 pub receive-spec : {M : Type 1} → statement M
 receive-spec = tie.close (tie.spec (λ c κs. search needs) handed-up-requires (λ c. search needs) (λ c. search needs) returns)

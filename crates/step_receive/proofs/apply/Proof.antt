@@ -14,7 +14,7 @@ use Rattle.protocol.specs.Table.{none, connected, rejected, closedByPartner, cl
 use Rattle.step_rules.specs.Internal.{holding, carrying}
 use Rattle.step_plan.specs.declared.Reply.the-variants.{Nothing, Frame}
 use Rattle.step_plan.specs.Internal.{sentBy}
-use Rattle.step_plan.specs.Internal.{delivering}
+use Rattle.step_plan.specs.Internal.{deliveringNumbers}
 use Rattle.step_plan.proofs.Comes.{keeps, turns, releases}
 use Rattle.step_receive.proofs.Found.{hands-up, frees}
 use native.Mathlib.Omega.{arith}
@@ -73,7 +73,7 @@ apply-spec =
     (λ c x b q old w _. let s = c .before .before .before in let n = s .args .n in turns n q b old w listening 0 none Nothing (does s q x (c .before .enum-told11 .given .1)) (c .turn7 .ensures))
     (λ c x b q old w _. let s = c .before .before .before in let n = s .args .n in turns n q b old w closed 0 closedByPartner (Frame (Drack (n .local) (s .args .f .sender))) (does s q x (c .before .enum-told12 .given .1)) (c .turn8 .ensures))
     (λ c x b q old w _. let s = c .before .before .before in let n = s .args .n in keeps n q b old w n none (Frame (Crack (n .local) (n .remote))) refl (does s q x (c .before .enum-told13 .given .1)) (c .keep5 .ensures))
-    (λ c x b q old w _. let s = c .before .before .before .before .before .before in let n = s .args .n in keeps n q b old w (delivering n) (handedUp x) (Frame (Ack (n .local) (n .remote) (n .delivered + 1))) refl (does s q x (c .before .before .before .before .enum-told14 .given .1)) (rw (c .before .before .deliver .ensures, c .before .acknowledge .ensures) at (c .keep6 .ensures)))
+    (λ c x b q old w _. let s = c .before .before .before .before .before .before in let n = s .args .n in keeps n q b old w (deliveringNumbers n) (handedUp x) (Frame (Ack (n .local) (n .remote) (n .delivered + 1))) refl (does s q x (c .before .before .before .before .enum-told14 .given .1)) (rw (c .before .before .deliver .ensures, c .before .acknowledge .ensures) at (c .keep6 .ensures)))
     (λ c x b q old w _. let s = c .before .before .before .before in let n = s .args .n in keeps n q b old w n none (Frame (Ack (n .local) (n .remote) (n .delivered))) refl (does s q x (c .before .before .enum-told15 .given .1)) (rw (c .before .acknowledge2 .ensures) at (c .keep7 .ensures)))
     (λ c x b q old w _. let s = c .before .before .before in let n = s .args .n in let t = c .before .enum-told16 .given .1 in releases n q b old w (s .args .f .number) (s .pre .0) (found-release s t .1) (does s q x t) (c .release .ensures))
     (λ c x b q old w _. let s = c .before .before .before in let n = s .args .n in turns n q b old w closed 0 closeFinished (Frame (Drack (n .local) (s .args .f .sender))) (does s q x (c .before .enum-told17 .given .1)) (c .turn9 .ensures))

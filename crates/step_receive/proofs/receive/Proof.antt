@@ -6,7 +6,7 @@ use Rattle.frame.specs.declared.FrameRead.{FrameRead}
 use Rattle.frame.specs.Layout.{dataBlockAt}
 use Rattle.frame.specs.Answer.{frameOf, valuesOf, frameRead}
 use Rattle.protocol.specs.Table.{step}
-use Rattle.protocol.specs.Network.{perform}
+use Rattle.protocol.specs.History.{perform}
 use Rattle.call_spec.specs.Calls.{reads, does}
 use Rattle.step_plan.proofs.Comes.{refuses}
 use Rattle.frame.proofs.Fits.{data-limit}

@@ -6,7 +6,7 @@ use Rattle.frame.specs.declared.RequestRead.{RequestRead}
 use Rattle.frame.specs.Layout.{sendBlockAt}
 use Rattle.frame.specs.Read.{readRequest}
 use Rattle.frame.specs.Answer.{requestOf, requestRead}
-use Rattle.protocol.specs.Network.{perform}
+use Rattle.protocol.specs.History.{perform}
 use Rattle.call_spec.proofs.Lift.{read-sized}
 use Rattle.call_spec.specs.Calls.{reads, does}
 use Rattle.step_plan.proofs.Comes.{refuses}
