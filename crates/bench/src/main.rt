@@ -74,8 +74,8 @@ fn run(
 ) -> Place
     ensures { λ r. ⌜ (Ran bothEnds answerRoom (benchOf freshRecord freshRecord (now (log .entry)) (now (count .entry))) (benchOf (now (a .exit)) (now (b .exit)) (now (log .exit)) (now (count .exit))) (now (buf .exit)) (now (line .exit)) (now (out .exit)) r) × (r .steps ≡ 0) ⌝ }
 {
-    link::dock_fresh(a);
-    link::dock_fresh(b);
+    link::make_fresh(a);
+    link::make_fresh(b);
     let mut p = line_io::start();
     while p.steps > 0 {
         p = step(a, b, log, count, buf, line, out, p);

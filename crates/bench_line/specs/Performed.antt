@@ -11,15 +11,3 @@ use Rattle.bench_order.specs.Performed.{Performed}
 -- A line's text: all questions up to 13, in document 01's order, give the call.
 abbrev pub LinePerformed : Bench → List ℕ → List ℕ → List ℕ → List ℕ → List ℕ → List ℕ → BenchAnswer → Type 0
 LinePerformed w line out a b log out′ r = Performed w (lineAsks w line (length out)) (field 2 1 (unhex line)) out a b log out′ r
-
--- the answer in numbers, for programs in C
-abbrev pub benchAnswerIn : ℕ → ℕ → ℕ → ℕ → ℕ → ℕ → ℕ → ℕ → ℕ → ℕ → BenchAnswer
-benchAnswerIn number end state notice local remote sent at block count =
-    record {
-      end = end;
-      status = record { number = number; state = state; notice = notice; local = local; remote = remote };
-      sent = sent;
-      at = at;
-      block = block;
-      count = count;
-    }

@@ -9,7 +9,6 @@ use Rattle.octets.specs.Test.{Question, first, Outcome, numberOf}
 use Rattle.protocol.specs.Table.{Step}
 use Rattle.call_spec.specs.Calls.{recordAfter}
 use Rattle.link.specs.Record.{format}
-use Rattle.bench_log.specs.Log.{places}
 use Rattle.bench_spec.specs.Bench.{Bench, recordAt, bufferQuestions, soundQuestions, delivery, comes, endOf}
 use Rattle.bench_query.specs.declared.Found.{Found}
 use Rattle.bench_query.specs.declared.Found.the-variants.{Frame, Nothing, Refused}
@@ -32,20 +31,3 @@ abbrev pub Answers : Bench → Found → Type 0
 Answers w (Frame n) = (first (questions w) ≡ 0) × ((n < w .count) × WouldChange w n)
 Answers w Nothing = (first (questions w) ≡ 0) × ((n : ℕ) → WouldChange w n → ⊥)
 Answers w (Refused k) = (first (questions w) ≡ k) × (k ≢ 0)
-
--- For C: the number, and the frame's number, which is below 512 where there is one.
-unfoldable pub numberIn : Found → ℕ
-numberIn (Frame n) = 0
-numberIn Nothing = 0
-numberIn (Refused k) = k
-
-unfoldable pub frameIn : Found → ℕ
-frameIn (Frame n) = n
-frameIn Nothing = places
-frameIn (Refused k) = places
-
-pub record FrameNamed (w : Bench) (number frame : ℕ) : Type 0 where
-  pub found : Found
-  pub answers : Answers w found
-  pub is-number : number ≡ numberIn found
-  pub is-frame : frame ≡ frameIn found

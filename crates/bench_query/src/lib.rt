@@ -11,7 +11,7 @@ ghost use Rattle.call_spec.specs.declared.Call.the-variants.{Receive};
 ghost use Rattle.call_spec.specs.Calls.{given};
 ghost use Rattle.link.specs.Record.{format};
 ghost use Rattle.bench_spec.specs.Bench.{benchOf, callOutcome};
-ghost use Rattle.bench_query.specs.Found.{Changes, WouldChange, questions, Answers, FrameNamed};
+ghost use Rattle.bench_query.specs.Found.{Changes, WouldChange, questions, Answers};
 ghost use Rattle.bench_query.specs.Internal.{sameNumbers, Says};
 
 // What the question answers: a frame's number, none, or the number of a refusal.
@@ -83,33 +83,5 @@ pub fn some_frame(a: &[u8], b: &[u8], log: &[u8], count: usize) -> Found
             break Found::Frame(i);
         }
         i += 1;
-    }
-}
-
-// The same for programs in C: answers the number; the frame's goes to the last, 512 where there is none.
-#[no_mangle]
-pub extern "C" fn dock_some_frame(
-    a: &[u8],
-    b: &[u8],
-    log: &[u8],
-    count: usize,
-    frame: &mut usize,
-) -> u8
-    ensures { λ r. ⌜ FrameNamed (benchOf (now (a .entry)) (now (b .entry)) (now (log .entry)) count) r (now (frame .exit)) ⌝ }
-{
-    let found = some_frame(a, b, log, count);
-    match found {
-        Found::Frame(n) => {
-            *frame = n;
-            0
-        }
-        Found::Nothing => {
-            *frame = bench_log::PLACES;
-            0
-        }
-        Found::Refused(number) => {
-            *frame = bench_log::PLACES;
-            number
-        }
     }
 }

@@ -1,4 +1,4 @@
-// The codec for programs in C and Rust: numbers and byte slices alone. The comparison with the second implementation goes through these calls.
+// The codec in numbers and byte slices, for the comparison with the reference alone: no part of the library for C.
 use frame::ACK;
 use frame::CRAO;
 use frame::DATA;

@@ -51,7 +51,7 @@ fn run(
 ) -> Place
     ensures { λ r. ⌜ (Ran oneEnd answerRoom freshRecord (now (rec .exit)) (now (buf .exit)) (now (line .exit)) (now (out .exit)) r) × (r .steps ≡ 0) ⌝ }
 {
-    link::dock_fresh(rec);
+    link::make_fresh(rec);
     let mut p = line_io::start();
     while p.steps > 0 {
         p = step(rec, buf, line, out, p);

@@ -42,7 +42,7 @@ pub record Called (o : Outcome Step) (rec s out rec′ out′ : List ℕ) (r : A
   pub buffer : out′ ≡ bufferAfter out o
   pub block : blockPart s (r .block) ≡ blockOf o
 
--- the answer in numbers, for programs in C
+-- the answer in numbers
 abbrev pub answerIn : ℕ → ℕ → ℕ → ℕ → ℕ → ℕ → ℕ → Answer
 answerIn number state notice local remote sent block =
     record { status = record { number = number; state = state; notice = notice; local = local; remote = remote }; sent = sent; block = block }

@@ -13,7 +13,7 @@ ghost use lib.ListN.{length};
 ghost use Rattle.octets.specs.Sizes.{longestBlock, queueSize};
 ghost use Rattle.octets.specs.Test.{first, refused, numberOf};
 ghost use Rattle.octets.specs.Octets.{put, left};
-ghost use Rattle.call_spec.specs.declared.Call.the-variants.{Request, Receive};
+ghost use Rattle.call_spec.specs.declared.Call.the-variants.{Receive};
 ghost use Rattle.call_spec.specs.Calls.{given, performed};
 ghost use Rattle.call_spec.specs.Answers.{blockOf};
 ghost use Rattle.step_plan.specs.Internal.{Room};
@@ -34,8 +34,7 @@ pub struct Answer {
 }
 
 // Writes a fresh record to the start of rec. Answers 0, or 11 where rec is too short.
-#[no_mangle]
-pub extern "C" fn dock_fresh(rec: &mut [u8]) -> u8
+pub fn make_fresh(rec: &mut [u8]) -> u8
     ensures { λ r. ⌜ (r ≡ numberOf (freshIn (now (rec .entry)))) × (now (rec .exit) ≡ left (freshIn (now (rec .entry))) (now (rec .entry))) ⌝ }
 {
     if rec.len() < RECORD_SIZE {
@@ -179,31 +178,6 @@ pub fn perform(call: Call, rec: &mut [u8], s: &[u8], out: &mut [u8]) -> Answer
     finish(p, rec, s, out)
 }
 
-// A request, the timer call among them: s has its octets. Answers the number; state, notice, L, D and the length of the frame
-// sent go to the last five.
-#[no_mangle]
-pub extern "C" fn dock_request(
-    rec: &mut [u8],
-    s: &[u8],
-    out: &mut [u8],
-    state: &mut u8,
-    notice: &mut u8,
-    local: &mut u32,
-    remote: &mut u32,
-    sent: &mut usize,
-) -> u8
-    ensures { λ r. ⌜ Called (performed format (now (rec .entry)) (given Request (now (s .entry)) (length (now (out .entry))))) (now (rec .entry)) (now (s .entry)) (now (out .entry)) (now (rec .exit)) (now (out .exit)) (answerIn r (now (state .exit)) (now (notice .exit)) (now (local .exit)) (now (remote .exit)) (now (sent .exit)) 0) ⌝ }
-{
-    let a = perform(Call::Request, rec, s, out);
-    let told = a.status;
-    *state = told.state;
-    *notice = told.notice;
-    *local = told.local;
-    *remote = told.remote;
-    *sent = a.sent;
-    told.number
-}
-
 // Receives the frame s. Gives the block handed up, a part of s, empty where there is none; the number, state, notice, L, D and
 // the length of the frame sent go to the last six.
 pub fn receive<'a>(
@@ -228,26 +202,4 @@ pub fn receive<'a>(
     *remote = told.remote;
     *sent = a.sent;
     step_plan::handed_up(told.notice, s)
-}
-
-// Receives the frame s for programs in C. Answers the number; the block handed up is octets 14 on of s, and its length, 0 where
-// there is none, goes to the last.
-#[no_mangle]
-pub extern "C" fn dock_receive(
-    rec: &mut [u8],
-    s: &[u8],
-    out: &mut [u8],
-    state: &mut u8,
-    notice: &mut u8,
-    local: &mut u32,
-    remote: &mut u32,
-    sent: &mut usize,
-    block: &mut usize,
-) -> u8
-    ensures { λ r. ⌜ Called (performed format (now (rec .entry)) (given Receive (now (s .entry)) (length (now (out .entry))))) (now (rec .entry)) (now (s .entry)) (now (out .entry)) (now (rec .exit)) (now (out .exit)) (answerIn r (now (state .exit)) (now (notice .exit)) (now (local .exit)) (now (remote .exit)) (now (sent .exit)) (now (block .exit))) ⌝ }
-{
-    let mut number: u8 = 0;
-    let up = receive(rec, s, out, &mut number, state, notice, local, remote, sent);
-    *block = up.len();
-    number
 }

@@ -23,8 +23,8 @@ abbrev μ-loop : tie.MeasureT-loop
 loop-holds : tie.Need-loop-holds Inv-loop μ-loop
 loop-holds c =
     let a = c .before .before .before .before .before .args in
-    let e = c .before .before .before .dock-fresh .ensures .1 ∙ fresh-is _ (omega arith) in
-    let f = c .before .dock-fresh2 .ensures .1 ∙ fresh-is _ (omega arith) in
+    let e = c .before .before .before .make-fresh .ensures .1 ∙ fresh-is _ (omega arith) in
+    let f = c .before .make-fresh2 .ensures .1 ∙ fresh-is _ (omega arith) in
     ran-none (now (a .buf)) (now (a .line)) (now (a .out)) (both-fresh e f) (c .start .ensures)
 
 pub run-spec : {M : Type 1} → statement M

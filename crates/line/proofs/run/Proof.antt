@@ -18,7 +18,7 @@ abbrev μ-loop : tie.MeasureT-loop
 μ-loop rec₀ buf₀ line₀ out₀ p₀ rec buf line out p = p .steps
 
 loop-holds : tie.Need-loop-holds Inv-loop μ-loop
-loop-holds c = let a = c .before .before .before .args in ran-none (now (a .buf)) (now (a .line)) (now (a .out)) (c .before .dock-fresh .ensures .1 ∙ fresh-is _ (omega arith)) (c .start .ensures)
+loop-holds c = let a = c .before .before .before .args in ran-none (now (a .buf)) (now (a .line)) (now (a .out)) (c .before .make-fresh .ensures .1 ∙ fresh-is _ (omega arith)) (c .start .ensures)
 
 pub run-spec : {M : Type 1} → statement M
 run-spec =

@@ -1,12 +1,12 @@
 use mathlib.Core.Path.{ap, sym, _∙_}
 use denote.Ref.{now}
 use lib.ListN.{length}
 use Rattle.link.specs.declared.Answer.{Answer}
 use Rattle.link.specs.Lent.{answerOf}
 use Rattle.link.proofs.Answers.{with-block, none-up}
 use borrow.Author.Needs.{needs}
-use Rattle.link.proofs.dock_request.Statement.{statement}
-use Rattle.link.proofs.dock_request.Tie as tie
+use Rattle.dock.proofs.dock_request.Statement.{statement}
+use Rattle.dock.proofs.dock_request.Tie as tie
 
 returns : tie.Need-returns
 unfolding answerOf

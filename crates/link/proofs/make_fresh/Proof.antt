@@ -9,8 +9,8 @@ use Rattle.endpoint.specs.Record.{encode, recordSize}
 use Rattle.link.specs.Lent.{freshIn}
 use native.Mathlib.Omega.{arith}
 use borrow.Author.Needs.{needs}
-use Rattle.link.proofs.dock_fresh.Statement.{statement}
-use Rattle.link.proofs.dock_fresh.Tie as tie
+use Rattle.link.proofs.make_fresh.Statement.{statement}
+use Rattle.link.proofs.make_fresh.Tie as tie
 
 returns : tie.Need-returns
 unfolding freshIn first when outcome numberOf left
@@ -22,5 +22,5 @@ returns-2 c =
     let d = now (c .before .before .before .before .before .before .before .args .rec) in
     rw (le-leb recordSize (length d) (omega arith)) (refl, c .before .before .encode .ensures ∙ ap (λ (e : Endpoint). put d 0 (encode e)) (c .before .before .before .before .fresh .ensures))
 
-pub dock-fresh-spec : {M : Type 1} → statement M
-dock-fresh-spec = tie.close (tie.spec returns (λ c κs. search needs) (λ c κs. search needs) (λ c. search needs) returns-2)
+pub make-fresh-spec : {M : Type 1} → statement M
+make-fresh-spec = tie.close (tie.spec returns (λ c κs. search needs) (λ c κs. search needs) (λ c. search needs) returns-2)
