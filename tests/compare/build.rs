@@ -1,4 +1,4 @@
-//! Links the first implementation's static libraries.
+//! Links the proved implementation's static libraries.
 
 use std::env;
 use std::path::Path;
@@ -7,7 +7,7 @@ fn main() {
     let manifest = env::var("CARGO_MANIFEST_DIR").expect("cargo names the manifest's folder");
     let folder = Path::new(&manifest).join("../../target/staticlib");
     println!("cargo::rustc-link-search=native={}", folder.display());
-    for name in ["codec", "link", "bench_line", "bench_query"] {
+    for name in ["codec", "dock"] {
         println!("cargo::rustc-link-lib=static={name}");
         let library = folder.join(format!("lib{name}.a"));
         println!("cargo::rerun-if-changed={}", library.display());

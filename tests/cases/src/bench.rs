@@ -2,12 +2,12 @@
 //! byte of every buffer.
 
 mod call;
-mod desk;
+mod implementation;
 mod scene;
 #[cfg(test)]
 mod tests;
 
-pub use desk::{Bench, Lent, Named, Reference, Reply};
+pub use implementation::{Bench, Lent, Named, Reply};
 pub use scene::deliver;
 
 use crate::coverage::Coverage;

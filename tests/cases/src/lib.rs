@@ -3,11 +3,14 @@
 pub mod alter;
 pub mod bench;
 pub mod coverage;
+pub mod end;
 pub mod group;
 pub mod guarded;
 pub mod hex;
-pub mod lent;
 pub mod near;
 pub mod random;
 pub mod records;
 pub mod sample;
+
+/// The reference, as one implementation of the calls that are compared: its answers are right.
+pub struct Reference;

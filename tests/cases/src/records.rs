@@ -2,6 +2,7 @@
 
 use crate::random::Random;
 use crate::sample::{block, number};
+use reference::block::LONGEST_BLOCK;
 use reference::record::RECORD;
 use reference::State;
 
@@ -11,10 +12,10 @@ const NUMBERS: [usize; 4] = [1, 5, 9, 13];
 const WAITING: usize = 17;
 /// Where the lengths stand.
 const LENGTHS: usize = 18;
-/// Where the blocks stand.
-const BLOCKS: usize = 26;
-const PLACES: usize = 8;
-const PLACE: usize = 64;
+/// Where the blocks stand, each with the room of the longest.
+pub const BLOCKS: usize = 26;
+/// The most blocks that wait.
+const MOST_WAITING: usize = 8;
 
 /// A record's numbers.
 #[derive(Clone, Copy)]
@@ -51,7 +52,7 @@ impl Numbers {
         record[WAITING] = blocks.len() as u8;
         for (place, block) in blocks.iter().enumerate() {
             record[LENGTHS + place] = block.len() as u8;
-            put(&mut record, BLOCKS + place * PLACE, block);
+            put(&mut record, BLOCKS + place * LONGEST_BLOCK, block);
         }
         record
     }
@@ -102,7 +103,7 @@ pub fn sound(random: &mut Random) -> [u8; RECORD] {
 /// A sound record of an open end with these numbers L and D.
 fn open(random: &mut Random, numbers: Numbers) -> [u8; RECORD] {
     let accepted = limit(random, 0);
-    let most = PLACES.min(accepted as usize);
+    let most = MOST_WAITING.min(accepted as usize);
     let waiting = match random.within(0..=3) {
         0 => 0,
         1 => most,
@@ -137,7 +138,7 @@ pub fn spoil(random: &mut Random, record: &mut [u8; RECORD]) {
         }
         4 => record[WAITING] = random.within(0..=10) as u8,
         5 => {
-            let place = LENGTHS + random.within(0..=PLACES - 1);
+            let place = LENGTHS + random.within(0..=MOST_WAITING - 1);
             record[place] = random.pick(&[0, 1, 63, 64, 65, 255]);
         }
         _ => record[random.within(BLOCKS..=RECORD - 1)] = random.byte(),

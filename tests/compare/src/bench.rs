@@ -1,7 +1,7 @@
-//! The bench of the first implementation, through its C interface.
+//! A bench of the proved implementation, through its calls for C.
 
-use crate::first::First;
-use crate::link::untold;
+use crate::end::untold;
+use crate::proved::Proved;
 use cases::bench::{Bench, Lent, Named, Reply};
 
 /// The number that names no frame.
@@ -44,7 +44,7 @@ extern "C" {
 
 // SAFETY of all calls: each pointer comes from a reference that lives as long as the call, and
 // each length is that of its slice.
-impl Bench for First {
+impl Bench for Proved {
     fn line(lent: Lent, line: &[u8]) -> Reply {
         let [a, b] = lent.records;
         let mut reply = Reply {
@@ -80,7 +80,7 @@ impl Bench for First {
         reply
     }
 
-    fn name(records: [&[u8]; 2], book: &[u8], count: usize) -> Named {
+    fn some_frame(records: [&[u8]; 2], book: &[u8], count: usize) -> Named {
         let [a, b] = records;
         let mut frame = usize::MAX;
         let number = unsafe {

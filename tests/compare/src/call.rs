@@ -1,12 +1,12 @@
-//! One call, the memory lent to it, and what it answers and leaves there.
+//! One call of a codec, the memory lent to it, and what it answers and leaves there.
 
 use crate::codec::{Codec, Fields};
-use crate::first::First;
-use crate::second::Second;
+use crate::proved::Proved;
 use cases::group::Group;
 use cases::guarded::Guarded;
 use cases::hex::Hex;
 use cases::random::Random;
+use cases::Reference;
 
 /// A call with all that it is given to read.
 #[derive(Debug)]
@@ -27,7 +27,7 @@ struct Memory {
 
 /// What a call answers, and the memory after it.
 #[derive(Debug, PartialEq)]
-struct Answer {
+struct After {
     number: u8,
     memory: Memory,
 }
@@ -47,13 +47,13 @@ impl Call {
     /// One case: both implementations make the call, lent a buffer of this many bytes.
     pub fn compare(&self, group: &mut Group, room: usize) {
         let memory = Memory::new(&mut Random::new(group.compared()), room);
-        let first = self.answer::<First>(memory.clone());
-        let second = self.answer::<Second>(memory);
-        group.check(self, second.number, &first, &second);
+        let found = self.after::<Proved>(memory.clone());
+        let right = self.after::<Reference>(memory);
+        group.check(self, right.number, &found, &right);
     }
 
     /// Makes the call in this implementation.
-    fn answer<C: Codec>(&self, mut memory: Memory) -> Answer {
+    fn after<C: Codec>(&self, mut memory: Memory) -> After {
         let out = memory.out.bytes_mut();
         let number = match self {
             Self::ReadLine { line } => C::read_line(&line.0, out, &mut memory.length),
@@ -63,6 +63,6 @@ impl Call {
             }
             Self::Write { fields, block } => C::write(fields, &block.0, out, &mut memory.length),
         };
-        Answer { number, memory }
+        After { number, memory }
     }
 }

@@ -1,4 +1,4 @@
-//! The calls that both implementations offer.
+//! The calls that an implementation of the codec offers.
 
 use cases::random::Random;
 
@@ -23,7 +23,8 @@ impl Fields {
     }
 }
 
-/// One implementation. Each call answers 0, or the number of the question that refused it.
+/// One implementation of the codec. Each call answers 0, or the number of the question that
+/// refused it.
 pub trait Codec {
     /// Questions 11, 1 and 2 of a line; its bytes and their count.
     fn read_line(line: &[u8], out: &mut [u8], length: &mut usize) -> u8;

@@ -1,11 +1,11 @@
-//! The first implementation beside the reference.
+//! The proved implementation beside the reference.
 
 mod bench;
 mod call;
 mod codec;
-pub mod first;
+mod end;
 pub mod lines;
-mod link;
 pub mod messages;
-mod second;
+pub mod proved;
+mod reference;
 pub mod trips;

@@ -1,7 +1,7 @@
-//! Compares the first implementation with the reference, on generated inputs with fixed seeds.
+//! Compares the proved implementation with the reference, on generated inputs with fixed seeds.
 
 use cases::group::{Group, Score};
-use compare::first::First;
+use compare::proved::Proved;
 use compare::{lines, messages, trips};
 use std::process::ExitCode;
 
@@ -13,8 +13,8 @@ const BENCH_ROUNDS: usize = 52;
 fn main() -> ExitCode {
     let groups = [lines::groups(), messages::groups(), trips::groups()];
     let codec: Score = groups.iter().flatten().map(Group::report).sum();
-    let end = cases::lent::compare::<First>(END_ROUNDS);
-    let bench = cases::bench::compare::<First>(BENCH_ROUNDS);
+    let end = cases::end::compare::<Proved>(END_ROUNDS);
+    let bench = cases::bench::compare::<Proved>(BENCH_ROUNDS);
     let score: Score = [codec, end, bench].into_iter().sum();
     score.conclude()
 }

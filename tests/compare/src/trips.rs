@@ -1,13 +1,13 @@
-//! Round trips through the first implementation.
+//! Round trips through the proved implementation.
 
 use crate::codec::{Codec, Fields};
-use crate::first::First;
 use crate::messages;
-use crate::second::Second;
+use crate::proved::Proved;
 use cases::group::Group;
 use cases::hex::Hex;
 use cases::random::Random;
 use cases::sample::hex_digits;
+use cases::Reference;
 use reference::frame::LONGEST_FRAME;
 use std::fmt::Debug;
 
@@ -16,18 +16,18 @@ const RANDOM_LINES: usize = 10_000;
 /// The groups of this module, with all cases made.
 pub fn groups() -> Vec<Group> {
     vec![
-        frames_read_first(),
-        frames_written_first(),
-        lines_read_first(),
-        lines_written_first(),
+        frames_read_and_written(),
+        frames_written_and_read(),
+        lines_read_and_written(),
+        lines_written_and_read(),
     ]
 }
 
 /// What reads, written again, is the same bytes.
-fn frames_read_first() -> Group {
+fn frames_read_and_written() -> Group {
     let mut group = Group::new("frames read and written again", &[0]);
     for bytes in messages::inputs() {
-        if let Ok((fields, block)) = read_frame::<First>(&bytes) {
+        if let Ok((fields, block)) = read_frame::<Proved>(&bytes) {
             let end = write_frame(&fields, &block.0);
             check(&mut group, Hex(bytes), end);
         }
@@ -36,12 +36,12 @@ fn frames_read_first() -> Group {
 }
 
 /// What is written with readable numbers reads as what it was.
-fn frames_written_first() -> Group {
+fn frames_written_and_read() -> Group {
     let mut group = Group::new("frames written and read again", &[0]);
     for bytes in messages::inputs() {
-        if let Ok((fields, block)) = read_frame::<Second>(&bytes) {
+        if let Ok((fields, block)) = read_frame::<Reference>(&bytes) {
             let end =
-                write_frame(&fields, &block.0).and_then(|bytes| read_frame::<First>(&bytes.0));
+                write_frame(&fields, &block.0).and_then(|bytes| read_frame::<Proved>(&bytes.0));
             check(&mut group, (fields, block), end);
         }
     }
@@ -49,7 +49,7 @@ fn frames_written_first() -> Group {
 }
 
 /// A line whose bytes are written again is the same line.
-fn lines_read_first() -> Group {
+fn lines_read_and_written() -> Group {
     let mut group = Group::new("lines read and written again", &[0]);
     let mut random = Random::new(20);
     for _ in 0..RANDOM_LINES {
@@ -62,7 +62,7 @@ fn lines_read_first() -> Group {
 }
 
 /// Bytes written as a line read as the same bytes.
-fn lines_written_first() -> Group {
+fn lines_written_and_read() -> Group {
     let mut group = Group::new("lines written and read again", &[0]);
     let mut random = Random::new(21);
     for _ in 0..RANDOM_LINES {
@@ -87,28 +87,28 @@ fn read_frame<C: Codec>(bytes: &[u8]) -> Result<(Fields, Hex), u8> {
     Ok((fields, Hex(bytes[bytes.len() - block..].to_vec())))
 }
 
-/// The bytes that the first implementation writes of a frame.
+/// The bytes that the proved implementation writes of a frame.
 fn write_frame(fields: &Fields, block: &[u8]) -> Result<Hex, u8> {
     let mut out = vec![0; LONGEST_FRAME];
     let mut length = 0;
-    accepted(First::write(fields, block, &mut out, &mut length))?;
+    accepted(Proved::write(fields, block, &mut out, &mut length))?;
     out.truncate(length);
     Ok(Hex(out))
 }
 
-/// The bytes that the first implementation reads from a line.
+/// The bytes that the proved implementation reads from a line.
 fn read_line(line: &[u8]) -> Result<Hex, u8> {
     let mut out = vec![0; LONGEST_FRAME];
     let mut length = 0;
-    accepted(First::read_line(line, &mut out, &mut length))?;
+    accepted(Proved::read_line(line, &mut out, &mut length))?;
     out.truncate(length);
     Ok(Hex(out))
 }
 
-/// The line that the first implementation writes of these bytes.
+/// The line that the proved implementation writes of these bytes.
 fn write_line(bytes: &[u8]) -> Result<Hex, u8> {
     let mut out = vec![0; 2 * bytes.len()];
-    accepted(First::write_line(bytes, &mut out))?;
+    accepted(Proved::write_line(bytes, &mut out))?;
     Ok(Hex(out))
 }
 

@@ -14,8 +14,8 @@ const CALLS: usize = 2_000;
 /// All scripts of this sort for one end.
 pub fn scripts() -> impl Iterator<Item = Script> {
     of((300..300 + SOURCES).flat_map(|seed| {
-        let [first, second] = session(seed, 2 * CALLS);
-        [first, second, nearby::script(seed, CALLS)]
+        let [a, b] = session(seed, 2 * CALLS);
+        [a, b, nearby::script(seed, CALLS)]
     }))
 }
 

@@ -1,4 +1,4 @@
-//! What is asked of a line program for a bench.
+//! What is asked of a bench program.
 
 pub mod full;
 pub mod odd;

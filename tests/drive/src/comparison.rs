@@ -1,8 +1,8 @@
 //! The program's answers beside those of the reference.
 
 use crate::program::{self, Run};
+use crate::reference_program::ReferenceProgram;
 use crate::script::Script;
-use crate::subject::Subject;
 use cases::coverage::Coverage;
 use cases::group::Group;
 use std::ffi::OsString;
@@ -19,7 +19,7 @@ pub struct Comparison<P> {
     reference: PhantomData<P>,
 }
 
-impl<P: Subject> Comparison<P> {
+impl<P: ReferenceProgram> Comparison<P> {
     /// A comparison of this program that has asked nothing yet.
     pub fn new(program: OsString) -> Self {
         Self {
@@ -118,9 +118,8 @@ impl fmt::Debug for Text<'_> {
 #[cfg(test)]
 mod tests {
     use super::*;
-
-    type Bench = reference::bench::program::Program;
-    type Line = reference::program::Program;
+    use reference::bench::program::BenchProgram;
+    use reference::program::LineProgram;
 
     const INPUT: &[u8] = b"40\n040000000000000001\nzz";
     const OUTPUT: &[u8] =
@@ -131,7 +130,7 @@ mod tests {
         508200000000000000000000\n";
 
     /// How many lines of this input passed and failed with this output.
-    fn score<P: Subject>(input: &[u8], output: &[u8], succeeded: bool) -> (u64, u64) {
+    fn score<P: ReferenceProgram>(input: &[u8], output: &[u8], succeeded: bool) -> (u64, u64) {
         let mut group = Group::new("test", &[]);
         let run = Run {
             output: output.to_vec(),
@@ -144,7 +143,7 @@ mod tests {
     }
 
     /// Every byte of the right output of so many lines counts.
-    fn assert_all_counts<P: Subject>(input: &[u8], right: &[u8], lines: u64) {
+    fn assert_all_counts<P: ReferenceProgram>(input: &[u8], right: &[u8], lines: u64) {
         assert_eq!(score::<P>(input, right, true), (lines, 0));
         for place in 0..right.len() {
             let mut output = right.to_vec();
@@ -157,13 +156,13 @@ mod tests {
 
     #[test]
     fn every_byte_counts() {
-        assert_all_counts::<Line>(INPUT, OUTPUT, 3);
-        assert_all_counts::<Bench>(BENCH_INPUT, BENCH_OUTPUT, 4);
+        assert_all_counts::<LineProgram>(INPUT, OUTPUT, 3);
+        assert_all_counts::<BenchProgram>(BENCH_INPUT, BENCH_OUTPUT, 4);
     }
 
     #[test]
     fn surplus_output_and_a_failing_program_count() {
-        let score = |output: &[u8], succeeded| score::<Line>(INPUT, output, succeeded);
+        let score = |output: &[u8], succeeded| score::<LineProgram>(INPUT, output, succeeded);
         assert_eq!(score(&[OUTPUT, b"8"].concat(), true), (3, 1));
         assert_eq!(score(&[OUTPUT, b"\n"].concat(), true), (2, 1));
         assert_eq!(score(OUTPUT, false), (3, 1));

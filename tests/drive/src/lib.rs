@@ -1,4 +1,5 @@
-//! What is asked of a line program for one end or for a bench, and how its answers are compared.
+//! What is asked of a line program, which has one end, or of a bench program, which has two, and
+//! how its answers are compared.
 
 pub mod altered;
 pub mod bench;
@@ -7,7 +8,7 @@ mod end;
 pub mod nearby;
 pub mod odd;
 pub mod program;
+pub mod reference_program;
 pub mod script;
 pub mod sessions;
-pub mod subject;
 pub mod typed;

@@ -1,5 +1,5 @@
-//! Runs a line program for one end on generated scripts, and compares its answers with those of
-//! the reference, byte for byte.
+//! Runs a line program on generated scripts, and compares its answers with those of the reference,
+//! byte for byte.
 //!
 //! The command line names the program. Number 9 is never expected: no script is long enough to
 //! use up the numbers of an end that starts fresh.
@@ -7,7 +7,7 @@
 use cases::group::{Group, Score};
 use drive::comparison::Comparison;
 use drive::{altered, nearby, odd, program, sessions, typed};
-use reference::program::Program;
+use reference::program::LineProgram;
 use std::process::ExitCode;
 
 /// So many calls of a session are typed or not, as they are one end's or the other's.
@@ -18,8 +18,8 @@ fn main() -> ExitCode {
         return ExitCode::FAILURE;
     };
     let [script, _] = sessions::session(600, TYPED);
-    let typed = typed::group::<Program>(&program, &script);
-    let mut comparison = Comparison::<Program>::new(program);
+    let typed = typed::group::<LineProgram>(&program, &script);
+    let mut comparison = Comparison::<LineProgram>::new(program);
     let groups = [
         comparison.group("sessions", &[0, 8, 10], sessions::scripts()),
         comparison.group("numbers nearby", &[0, 7, 8, 10], nearby::scripts()),

@@ -1,8 +1,8 @@
-//! Scripts: the whole input of a line program.
+//! Scripts: the whole input of a program.
 
 use reference::line;
 
-/// The bytes that a line program reads.
+/// The bytes that a program reads.
 #[derive(Clone, Default)]
 pub struct Script(pub Vec<u8>);
 

@@ -24,27 +24,27 @@ pub fn scripts() -> impl Iterator<Item = Script> {
 /// The two scripts of a session with so many calls.
 pub fn session(seed: u64, calls: usize) -> [Script; 2] {
     let mut random = Random::new(seed);
-    let [mut first, mut second] = [Side::default(), Side::default()];
+    let [mut a, mut b] = [Party::default(), Party::default()];
     let deliveries = random.within(3..=8);
     for _ in 0..calls {
-        let (side, partner) = match random.within(0..=1) {
-            0 => (&mut first, &second.end),
-            _ => (&mut second, &first.end),
+        let (party, partner) = match random.within(0..=1) {
+            0 => (&mut a, &b.end),
+            _ => (&mut b, &a.end),
         };
         let message = if random.within(1..=10) <= deliveries && !partner.sent.is_empty() {
-            let number = side.taken.next(&mut random, partner.sent.len());
+            let number = party.taken.next(&mut random, partner.sent.len());
             partner.sent[number].clone()
         } else {
-            request(&mut random, side.end.state())
+            request(&mut random, party.end.state())
         };
-        side.end.call(&message);
+        party.end.call(&message);
     }
-    [first.end.script, second.end.script]
+    [a.end.script, b.end.script]
 }
 
-/// One side of a session.
+/// One of the two in a session: its end, and how far its partner's frames have come.
 #[derive(Default)]
-struct Side {
+struct Party {
     end: End,
     taken: Taken,
 }
@@ -85,12 +85,12 @@ pub fn request(random: &mut Random, state: State) -> Vec<u8> {
 #[cfg(test)]
 mod tests {
     use super::*;
-    use crate::subject::Subject;
-    use reference::program::Program;
+    use crate::reference_program::ReferenceProgram;
+    use reference::program::LineProgram;
 
     /// How many answers to this script have this notice.
     fn notices(script: &Script, notice: &str) -> usize {
-        let mut program = Program::default();
+        let mut program = LineProgram::default();
         let answers = script.lines().filter(|line| {
             let answer = program.answer(line);
             answer[4..6] == *notice.as_bytes()

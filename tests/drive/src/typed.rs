@@ -1,8 +1,8 @@
 //! A person at the program: the next line is typed only when the last one is answered.
 
 use crate::comparison::Text;
+use crate::reference_program::ReferenceProgram;
 use crate::script::Script;
-use crate::subject::Subject;
 use cases::group::Group;
 use std::ffi::OsStr;
 use std::io::{Error, ErrorKind, Read, Result, Write};
@@ -15,7 +15,7 @@ use std::time::Duration;
 const PATIENCE: Duration = Duration::from_secs(5);
 
 /// Types a script's lines, a character at a time.
-pub fn group<P: Subject>(program: &OsStr, script: &Script) -> Group {
+pub fn group<P: ReferenceProgram>(program: &OsStr, script: &Script) -> Group {
     let mut group = Group::new("typed", &[0]);
     if let Err(error) = typed::<P>(program, script, &mut group) {
         group.fail(&format_args!("the program cannot be typed to: {error}"));
@@ -23,7 +23,7 @@ pub fn group<P: Subject>(program: &OsStr, script: &Script) -> Group {
     group
 }
 
-fn typed<P: Subject>(program: &OsStr, script: &Script, group: &mut Group) -> Result<()> {
+fn typed<P: ReferenceProgram>(program: &OsStr, script: &Script, group: &mut Group) -> Result<()> {
     let mut dialogue = Dialogue::start(program)?;
     let mut reference = P::default();
     for line in script.lines() {
@@ -109,12 +109,12 @@ impl Dialogue {
 #[cfg(test)]
 mod tests {
     use super::*;
-    use reference::program::Program;
+    use reference::program::LineProgram;
 
     /// How many answers of this program pass and fail.
     fn score(program: &str) -> (u64, u64) {
         let script = Script::from_iter([b"40".as_slice(), b"45", b"zz"]);
-        let score = group::<Program>(OsStr::new(program), &script).report();
+        let score = group::<LineProgram>(OsStr::new(program), &script).report();
         (score.passed, score.failed)
     }
 

@@ -8,8 +8,8 @@ mod side;
 pub use order::{Order, DELIVER, REQUEST_A, REQUEST_B};
 pub use side::Side;
 
-use crate::buffer::put;
-use crate::call::{self, start};
+use crate::buffer::{put, start, start_mut};
+use crate::call;
 use crate::frame::LONGEST_FRAME;
 use crate::record::{Record, RECORD};
 use crate::{line, Refusal};
@@ -71,9 +71,9 @@ fn make<'a>(
     out: &mut [u8],
 ) -> Result<Answer<'a>, Refusal> {
     let [a, b] = records;
-    let records = [start::<RECORD>(a)?, start::<RECORD>(b)?];
-    let (places, _) = start::<BOOK>(book)?.as_chunks_mut::<PLACE>();
-    let out = start::<LONGEST_FRAME>(out)?;
+    let records = [start_mut::<RECORD>(a)?, start_mut::<RECORD>(b)?];
+    let (places, _) = start_mut::<BOOK>(book)?.as_chunks_mut::<PLACE>();
+    let out = start_mut::<LONGEST_FRAME>(out)?;
     let (used, free) = places.split_at_mut_checked(count).ok_or(Refusal::Unsound)?;
     let bench = Bench::sound(records.each_ref().map(|record| &**record), used)?;
     let bytes = line::read(line)?;
@@ -87,11 +87,6 @@ fn make<'a>(
         end: step.end,
         count,
     })
-}
-
-/// Question 11: the first bytes of a lent buffer that is only read, if it has so many.
-fn lent<const LENGTH: usize>(buffer: &[u8]) -> Result<&[u8; LENGTH], Refusal> {
-    buffer.first_chunk().ok_or(Refusal::Buffer)
 }
 
 /// A sound bench, which is only read.
@@ -116,8 +111,8 @@ impl<'r, 'a> Bench<'r, 'a> {
     /// Questions 11 and 12 of a bench that is only read.
     fn new(records: [&'r [u8]; 2], book: &'a [u8], count: usize) -> Result<Self, Refusal> {
         let [a, b] = records;
-        let records = [lent(a)?, lent(b)?];
-        let (places, _) = lent::<BOOK>(book)?.as_chunks();
+        let records = [start(a)?, start(b)?];
+        let (places, _) = start::<BOOK>(book)?.as_chunks();
         let used = places.get(..count).ok_or(Refusal::Unsound)?;
         Self::sound(records, used)
     }

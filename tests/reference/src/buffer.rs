@@ -10,6 +10,16 @@ pub fn ask_room(buffer: &[u8], needed: usize) -> Result<(), Refusal> {
     Ok(())
 }
 
+/// Question 11: the start of a lent buffer that is only read, if it has so many bytes.
+pub fn start<const LENGTH: usize>(buffer: &[u8]) -> Result<&[u8; LENGTH], Refusal> {
+    buffer.first_chunk().ok_or(Refusal::Buffer)
+}
+
+/// Question 11: the start of a lent buffer, if it has so many bytes.
+pub fn start_mut<const LENGTH: usize>(buffer: &mut [u8]) -> Result<&mut [u8; LENGTH], Refusal> {
+    buffer.first_chunk_mut().ok_or(Refusal::Buffer)
+}
+
 /// Writes the bytes at the start of the buffer, and no other byte; answers their count.
 ///
 /// The buffer has room for them: question 11 is asked before.

@@ -1,5 +1,6 @@
 //! The calls of one end, on buffers that the caller lends.
 
+use crate::buffer::start_mut;
 use crate::frame::LONGEST_FRAME;
 use crate::record::{self, Record, RECORD};
 use crate::step::{self, Outcome};
@@ -59,7 +60,7 @@ impl Answer<'_> {
 
 /// Makes the record that of a fresh end. Answers 0, or 11 if it is too short.
 pub fn fresh(record: &mut [u8]) -> u8 {
-    refusal::number(start(record).map(record::make_fresh))
+    refusal::number(start_mut(record).map(record::make_fresh))
 }
 
 /// A request of the host: questions 11, 12, 3 to 6 and 8 to 10, then its step.
@@ -100,8 +101,8 @@ fn make<'a>(
     out: &mut [u8],
     read: impl FnOnce() -> Result<Message<'a>, Refusal>,
 ) -> Result<(Outcome<'a>, usize), Refusal> {
-    let record = start::<RECORD>(record)?;
-    let out = start::<LONGEST_FRAME>(out)?;
+    let record = start_mut::<RECORD>(record)?;
+    let out = start_mut::<LONGEST_FRAME>(out)?;
     let mut record = Record::read(record)?;
     let outcome = step::make(&mut record, read()?)?;
     let sent = match outcome.sending {
@@ -110,9 +111,4 @@ fn make<'a>(
     };
     record.write();
     Ok((outcome, sent))
-}
-
-/// Question 11: the first bytes of a lent buffer, if it has so many.
-pub fn start<const LENGTH: usize>(buffer: &mut [u8]) -> Result<&mut [u8; LENGTH], Refusal> {
-    buffer.first_chunk_mut().ok_or(Refusal::Buffer)
 }

@@ -1,7 +1,7 @@
-//! The second implementation of the dock link, written from its document alone.
+//! The reference: a second implementation of the dock link, written from the documents alone.
 //!
-//! It is kept plain and direct: its purpose is to be compared with the first
-//! implementation, call by call and byte by byte.
+//! It is kept plain and direct: its purpose is to be compared with the proved implementation, call
+//! by call and byte by byte.
 
 pub mod bench;
 pub mod block;

@@ -9,12 +9,12 @@ use crate::stream::Lines;
 /// The first byte of an answer line for number 0.
 const SUCCESS: u8 = 0x80;
 
-/// A line program, which holds one end.
-pub struct Program {
+/// The line program, which holds one end.
+pub struct LineProgram {
     record: [u8; RECORD],
 }
 
-impl Default for Program {
+impl Default for LineProgram {
     /// A program with a fresh end.
     fn default() -> Self {
         let mut record = [0; RECORD];
@@ -23,14 +23,14 @@ impl Default for Program {
     }
 }
 
-impl Program {
+impl LineProgram {
     /// The record of its end.
     pub fn record(&self) -> &[u8; RECORD] {
         &self.record
     }
 }
 
-impl Lines for Program {
+impl Lines for LineProgram {
     fn line(&mut self, line: &[u8], output: &mut Vec<u8>) {
         let mut frame = [0; LONGEST_FRAME];
         let bytes = line::read(line);
@@ -68,7 +68,7 @@ mod tests {
 
     fn output(input: &[u8]) -> String {
         let mut output = Vec::new();
-        run(Program::default(), input, &mut output).unwrap();
+        run(LineProgram::default(), input, &mut output).unwrap();
         String::from_utf8(output).unwrap()
     }
 
@@ -104,7 +104,7 @@ mod tests {
     /// The number that answers this line.
     fn number(line: &[u8]) -> u8 {
         let mut output = Vec::new();
-        Program::default().line(line, &mut output);
+        LineProgram::default().line(line, &mut output);
         line::read(&output[..2]).unwrap()[0] - SUCCESS
     }
 

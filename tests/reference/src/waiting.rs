@@ -4,14 +4,14 @@ use crate::block::LONGEST_BLOCK;
 use crate::{Block, Refusal};
 
 /// The most blocks that wait.
-pub const PLACES: usize = 8;
+pub const MOST_WAITING: usize = 8;
 /// The bytes of the waiting blocks in a record: w, the lengths, the places.
-pub const WAITING: usize = 1 + PLACES + PLACES * LONGEST_BLOCK;
+pub const WAITING: usize = 1 + MOST_WAITING + MOST_WAITING * LONGEST_BLOCK;
 
 /// The waiting blocks where they stand in a record, the oldest first.
 pub struct Waiting<'a> {
     count: &'a mut u8,
-    lengths: &'a mut [u8; PLACES],
+    lengths: &'a mut [u8; MOST_WAITING],
     places: &'a mut [[u8; LONGEST_BLOCK]],
 }
 
@@ -36,7 +36,7 @@ impl<'a> Waiting<'a> {
     /// Is w at most 8, each waiting length 1 to 64, and what is unused 0?
     pub fn is_sound(&self) -> bool {
         let count = self.count();
-        if count > PLACES {
+        if count > MOST_WAITING {
             return false;
         }
         let (used, unused) = self.lengths.split_at(count);
@@ -53,7 +53,7 @@ impl<'a> Waiting<'a> {
     /// Question 10; then the block joins as the youngest.
     pub fn push(&mut self, block: Block) -> Result<(), Refusal> {
         let count = self.count();
-        if count >= PLACES {
+        if count >= MOST_WAITING {
             return Err(Refusal::WaitingFull);
         }
         let bytes = block.bytes();
@@ -182,9 +182,9 @@ mod tests {
         for place in 3..WAITING {
             let mut bytes = sound;
             bytes[place] = 1;
-            let first = (9..12).contains(&place);
-            let second = (9 + 64..9 + 69).contains(&place);
-            assert_eq!(is_sound(bytes), first || second);
+            let in_older = (9..12).contains(&place);
+            let in_younger = (9 + 64..9 + 69).contains(&place);
+            assert_eq!(is_sound(bytes), in_older || in_younger);
         }
     }
 }

@@ -1,11 +1,12 @@
 //! One call, the buffers lent to it, and what it answers and leaves there.
 
-use super::desk::{Bench, Lent, Named, Reference, Reply};
+use super::implementation::{Bench, Lent, Named, Reply};
 use super::scene::Scene;
 use crate::group::Group;
 use crate::guarded::Guarded;
 use crate::random::Random;
 use crate::records;
+use crate::Reference;
 use reference::bench;
 use reference::bench::book::PLACES;
 use reference::frame::LONGEST_FRAME;
@@ -64,12 +65,15 @@ impl Buffers {
         number
     }
 
-    /// One case, in the first group if there is a frame to name, else in the second: what this
+    /// One case, in the group `named` if there is a frame to name, else in `none`: what this
     /// implementation names is right.
-    pub fn compare_question<B: Bench>(&self, groups: &mut [Group; 2]) {
-        let found = self.after(Self::name::<B>);
-        let mut right = self.after(Self::name::<Reference>);
-        let group = &mut groups[usize::from(right.reply.frame.is_none())];
+    pub fn compare_question<B: Bench>(&self, [named, none]: &mut [Group; 2]) {
+        let found = self.after(Self::some_frame::<B>);
+        let mut right = self.after(Self::some_frame::<Reference>);
+        let group = match right.reply.frame {
+            Some(_) => named,
+            None => none,
+        };
         if self.is_right(found.reply.frame) {
             right.reply.frame = found.reply.frame;
         }
@@ -106,9 +110,9 @@ impl Buffers {
     }
 
     /// The question, asked of this implementation.
-    fn name<B: Bench>(&mut self) -> Named {
+    fn some_frame<B: Bench>(&mut self) -> Named {
         let records = self.records.each_ref().map(Guarded::bytes);
-        B::name(records, self.book.bytes(), self.count)
+        B::some_frame(records, self.book.bytes(), self.count)
     }
 }
 

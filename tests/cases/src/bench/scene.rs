@@ -1,6 +1,6 @@
 //! Scenes: two sound records and a book, right or damaged, and lines for them.
 
-use crate::alter::{alter, damage as spoil};
+use crate::alter::{alter, damage};
 use crate::near;
 use crate::random::Random;
 use crate::records::sound;
@@ -35,7 +35,7 @@ impl Scene {
         let damaged = random.pick(&[0, 0, 16, 64, PLACES]);
         for _ in 0..damaged {
             let number = random.within(0..=PLACES - 1);
-            damage(random, &mut scene.places_mut()[number]);
+            damage_place(random, &mut scene.places_mut()[number]);
         }
         scene
     }
@@ -116,7 +116,7 @@ impl Scene {
     pub fn line(&self, random: &mut Random) -> Vec<u8> {
         let mut line = line::write(&self.bytes(random));
         match random.within(0..=31) {
-            0 | 1 => spoil(random, &mut line),
+            0 | 1 => damage(random, &mut line),
             2 => line.truncate(random.within(0..=line.len())),
             3 => line.extend(random.bytes_within(1..=3)),
             4 => line = random.bytes_within(0..=200),
@@ -203,7 +203,7 @@ pub fn deliver(number: usize) -> Vec<u8> {
 }
 
 /// Damages a place: its sender, its length, what follows its frame, its frame, or all of it.
-fn damage(random: &mut Random, place: &mut Place) {
+fn damage_place(random: &mut Random, place: &mut Place) {
     let length = usize::from(place[1]).min(LONGEST_FRAME);
     match random.within(0..=7) {
         0 => place[0] = random.pick(&[2, 3, 128, 255]),
@@ -267,7 +267,7 @@ mod tests {
         let mut random = Random::new(2);
         let lost = (0..1_000).filter(|_| {
             let mut place = book::place(Side::B, &[4, 0, 0, 0, 0, 0, 0, 0, 1]);
-            damage(&mut random, &mut place);
+            damage_place(&mut random, &mut place);
             book::find(&[place], 0).is_err()
         });
         assert!((200..700).contains(&lost.count()));

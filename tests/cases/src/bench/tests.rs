@@ -1,7 +1,8 @@
 //! The comparison finds what is wrong, and nothing else.
 
-use super::{calls, compare, Bench, Lent, Named, Reference, Reply};
+use super::{calls, compare, Bench, Lent, Named, Reply};
 use crate::coverage::Coverage;
+use crate::Reference;
 use reference::bench::book::{self, Place, BOOK, HEAD, PLACE, PLACES};
 use reference::bench::{self, Order, Side};
 use reference::frame::LONGEST_FRAME;
@@ -37,8 +38,8 @@ impl Bench for Checked {
         reply
     }
 
-    fn name(records: [&[u8]; 2], book: &[u8], count: usize) -> Named {
-        let named = Reference::name(records, book, count);
+    fn some_frame(records: [&[u8]; 2], book: &[u8], count: usize) -> Named {
+        let named = Reference::some_frame(records, book, count);
         match named.number {
             0 => assert_named(records, book, count, named.frame),
             _ => assert_eq!(named.frame, None),
@@ -63,10 +64,10 @@ fn assert_refused(before: &All, after: &All, count: usize, reply: &Reply) {
 fn assert_accepted(before: &All, after: &All, count: usize, reply: &Reply) {
     let mut right = before.clone();
     let side = Side::of(reply.side).unwrap();
-    let end = side.index();
-    let record = *after[end].first_chunk::<RECORD>().unwrap();
+    let own = side.index();
+    let record = *after[own].first_chunk::<RECORD>().unwrap();
     assert!(Record::read(&mut record.clone()).is_ok());
-    right[end][..RECORD].copy_from_slice(&record);
+    right[own][..RECORD].copy_from_slice(&record);
     let sent = reply.end.sent;
     if sent > 0 {
         let frame = &after[3][..sent];
@@ -114,7 +115,7 @@ impl Bench for Last {
         Reference::line(lent, line)
     }
 
-    fn name(records: [&[u8]; 2], book: &[u8], count: usize) -> Named {
+    fn some_frame(records: [&[u8]; 2], book: &[u8], count: usize) -> Named {
         match bench::changing(records, book, count) {
             Ok(changing) => Named {
                 number: 0,
@@ -199,8 +200,8 @@ impl<const FAULT: u8> Bench for Broken<FAULT> {
         reply
     }
 
-    fn name(records: [&[u8]; 2], book: &[u8], count: usize) -> Named {
-        Reference::name(records, book, count)
+    fn some_frame(records: [&[u8]; 2], book: &[u8], count: usize) -> Named {
+        Reference::some_frame(records, book, count)
     }
 }
 
@@ -307,8 +308,8 @@ impl<const FAULT: u8> Bench for Misreading<FAULT> {
         reply
     }
 
-    fn name(records: [&[u8]; 2], book: &[u8], count: usize) -> Named {
-        Reference::name(records, book, count)
+    fn some_frame(records: [&[u8]; 2], book: &[u8], count: usize) -> Named {
+        Reference::some_frame(records, book, count)
     }
 }
 
@@ -340,8 +341,8 @@ impl<const FAULT: u8> Bench for Misnaming<FAULT> {
         Reference::line(lent, line)
     }
 
-    fn name(records: [&[u8]; 2], book: &[u8], count: usize) -> Named {
-        let right = Reference::name(records, book, count);
+    fn some_frame(records: [&[u8]; 2], book: &[u8], count: usize) -> Named {
+        let right = Reference::some_frame(records, book, count);
         match (FAULT, right.number) {
             (NEVER_REFUSES, _) => Named { number: 0, ..right },
             (_, 1..) => right,
@@ -351,9 +352,11 @@ impl<const FAULT: u8> Bench for Misnaming<FAULT> {
                 ..right
             },
             (NAMES_WHAT_14_REFUSES, _) if count == PLACES => {
-                Reference::name(records, book, count - 1)
+                Reference::some_frame(records, book, count - 1)
             }
-            (LOOKS_AT_ONE_TOO_FEW, _) if count > 0 => Reference::name(records, book, count - 1),
+            (LOOKS_AT_ONE_TOO_FEW, _) if count > 0 => {
+                Reference::some_frame(records, book, count - 1)
+            }
             (NAMES_WHAT_ONLY_SENDS, _) if right.frame.is_none() && count > 0 => Named {
                 frame: Some(0),
                 ..right

@@ -50,18 +50,18 @@ fn script(seed: u64) -> Script {
 #[cfg(test)]
 mod tests {
     use super::*;
-    use crate::subject::Subject;
-    use reference::bench::program::Program;
+    use crate::reference_program::ReferenceProgram;
+    use reference::bench::program::BenchProgram;
 
     /// How often each number is answered while the book is full.
     fn tally(scripts: impl Iterator<Item = Script>) -> [usize; 15] {
         let mut tally = [0; 15];
         for script in scripts {
-            let mut program = Program::default();
+            let mut program = BenchProgram::default();
             for line in script.lines() {
                 let answer = program.answer(line);
                 if program.used().len() == PLACES {
-                    tally[usize::from(Program::number(&answer))] += 1;
+                    tally[usize::from(BenchProgram::number(&answer))] += 1;
                 }
             }
         }

@@ -52,15 +52,15 @@ fn numbers() -> Script {
 #[cfg(test)]
 mod tests {
     use super::*;
-    use crate::subject::Subject;
-    use reference::bench::program::Program;
+    use crate::reference_program::ReferenceProgram;
+    use reference::bench::program::BenchProgram;
 
     /// How many answers to this script have each number.
     fn tally(script: &Script) -> [usize; 15] {
-        let mut program = Program::default();
+        let mut program = BenchProgram::default();
         let mut tally = [0; 15];
         for line in script.lines() {
-            tally[usize::from(Program::number(&program.answer(line)))] += 1;
+            tally[usize::from(BenchProgram::number(&program.answer(line)))] += 1;
         }
         tally
     }

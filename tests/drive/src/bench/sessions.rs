@@ -29,13 +29,13 @@ pub fn session(seed: u64, lines: usize) -> Script {
 #[cfg(test)]
 mod tests {
     use super::*;
-    use crate::subject::Subject;
-    use reference::bench::program::Program;
+    use crate::reference_program::ReferenceProgram;
+    use reference::bench::program::BenchProgram;
 
     /// How many answers to these scripts have this text from this place on.
     fn answers(scripts: &[Script], place: usize, text: &str) -> usize {
         let count = |script: &Script| {
-            let mut program = Program::default();
+            let mut program = BenchProgram::default();
             let answers = script.lines().map(|line| program.answer(line));
             answers
                 .filter(|answer| answer[place..].starts_with(text.as_bytes()))

@@ -1,14 +1,14 @@
 //! A bench of the reference that writes its own script.
 
+use crate::reference_program::ReferenceProgram;
 use crate::script::Script;
 use crate::sessions::{request, Taken};
-use crate::subject::Subject;
 use cases::bench::deliver;
 use cases::random::Random;
 use cases::records::waiting;
 use cases::sample::message;
 use reference::bench::book::PLACES;
-use reference::bench::program::Program;
+use reference::bench::program::BenchProgram;
 use reference::bench::Side;
 use reference::request::{CONNECT, END_LISTENING, SEND, TIMER};
 use reference::{line, State};
@@ -16,7 +16,7 @@ use reference::{line, State};
 /// A bench, all that it was asked, and how far each end's deliveries have come.
 #[derive(Default)]
 pub struct Writer {
-    program: Program,
+    program: BenchProgram,
     pub script: Script,
     taken: [Taken; 2],
 }
@@ -107,7 +107,7 @@ impl Writer {
     fn line(&mut self, bytes: &[u8]) -> u8 {
         let line = line::write(bytes);
         self.script.push_line(&line);
-        Program::number(&self.program.answer(&line))
+        BenchProgram::number(&self.program.answer(&line))
     }
 
     /// The state of this end.

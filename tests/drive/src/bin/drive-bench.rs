@@ -1,5 +1,5 @@
-//! Runs a line program for a bench on generated scripts, and compares its answers with those of
-//! the reference, byte for byte.
+//! Runs a bench program on generated scripts, and compares its answers with those of the reference,
+//! byte for byte.
 //!
 //! The command line names the program. Numbers 7, 9, 11 and 12 are never expected: the bench
 //! starts fresh, its own frames are right, and no script is long enough to use up numbers.
@@ -8,14 +8,14 @@ use cases::group::{Group, Score};
 use drive::bench::{full, odd, replay, sessions};
 use drive::comparison::Comparison;
 use drive::{altered, program, typed};
-use reference::bench::program::Program;
+use reference::bench::program::BenchProgram;
 use std::process::ExitCode;
 
 /// So many lines are typed.
 const TYPED: usize = 600;
-/// So many sessions get faults, and so many with full books.
+/// So many sessions get faults, and so many whose books are filled.
 const ALTERED: u64 = 16;
-/// So many lines has each of the first.
+/// So many lines has each session with faults whose book is not filled.
 const LINES: usize = 800;
 /// So many steps of the step table are met at least. Others need frames that no end sends.
 const STEPS: usize = 185;
@@ -24,8 +24,8 @@ fn main() -> ExitCode {
     let Some(program) = program::named("drive-bench PROGRAM") else {
         return ExitCode::FAILURE;
     };
-    let typed = typed::group::<Program>(&program, &sessions::session(1_600, TYPED));
-    let mut comparison = Comparison::<Program>::new(program);
+    let typed = typed::group::<BenchProgram>(&program, &sessions::session(1_600, TYPED));
+    let mut comparison = Comparison::<BenchProgram>::new(program);
     let sources = (1_300..1_300 + ALTERED)
         .flat_map(|seed| [sessions::session(seed, LINES), full::long(seed)]);
     let groups = [

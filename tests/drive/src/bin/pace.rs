@@ -1,8 +1,8 @@
-//! How many lines a second line programs answer: each runs the same long script from a file into
+//! How many lines a second programs answer: each runs the same long script from a file into
 //! nothing, in turns.
 //!
-//! The command line names the sort of the programs, `line` (one end) or `bench`, then the programs,
-//! and one to compare with last.
+//! The command line names the sort of the programs, `line` or `bench`, then the programs, and one
+//! to compare with last.
 
 use drive::script::Script;
 use drive::{bench, sessions};

@@ -1,4 +1,4 @@
-//! The bench's line program: two fresh ends and an empty book, asked line by line.
+//! The bench program: two fresh ends and an empty book, asked line by line.
 
 use super::book::{Place, BOOK, PLACE};
 use super::Side;
@@ -8,14 +8,14 @@ use crate::program::append_answer;
 use crate::record::RECORD;
 use crate::stream::Lines;
 
-/// A line program, which holds a bench.
-pub struct Program {
+/// The bench program, which holds a bench.
+pub struct BenchProgram {
     records: [[u8; RECORD]; 2],
     book: Vec<u8>,
     count: usize,
 }
 
-impl Default for Program {
+impl Default for BenchProgram {
     /// A program with fresh ends and an empty book.
     fn default() -> Self {
         Self {
@@ -26,7 +26,7 @@ impl Default for Program {
     }
 }
 
-impl Program {
+impl BenchProgram {
     /// The record of this end.
     pub fn record(&self, side: Side) -> &[u8; RECORD] {
         &self.records[side.index()]
@@ -43,7 +43,7 @@ impl Program {
     }
 }
 
-impl Lines for Program {
+impl Lines for BenchProgram {
     fn line(&mut self, line: &[u8], output: &mut Vec<u8>) {
         let mut frame = [0; LONGEST_FRAME];
         let [a, b] = &mut self.records;
@@ -62,7 +62,7 @@ mod tests {
 
     fn output(input: &str) -> String {
         let mut output = Vec::new();
-        run(Program::default(), input.as_bytes(), &mut output).unwrap();
+        run(BenchProgram::default(), input.as_bytes(), &mut output).unwrap();
         String::from_utf8(output).unwrap()
     }
 
@@ -85,8 +85,8 @@ mod tests {
 
     #[test]
     fn the_story_of_a_refused_call() {
-        let input = include_str!("../../../../examples/story.txt");
-        let answers = include_str!("../../../../examples/story-answers.txt");
+        let input = include_str!("../../../../examples/story.in");
+        let answers = include_str!("../../../../examples/story.out");
         assert_eq!(output(input), answers);
     }
 
@@ -139,7 +139,7 @@ mod tests {
 
     #[test]
     fn a_full_book_refuses_what_sends() {
-        let mut program = Program::default();
+        let mut program = BenchProgram::default();
         let mut say = |line: &str| {
             let mut answer = Vec::new();
             program.line(line.as_bytes(), &mut answer);

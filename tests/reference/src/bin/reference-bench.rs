@@ -1,9 +1,9 @@
-//! The bench's line program: reads standard input to its end, answers on standard output.
+//! The bench program of the reference: reads standard input to its end, answers on standard output.
 
-use reference::bench::program::Program;
+use reference::bench::program::BenchProgram;
 use reference::stream::run;
 use std::io::{stdin, stdout, Result};
 
 fn main() -> Result<()> {
-    run(Program::default(), stdin().lock(), stdout().lock())
+    run(BenchProgram::default(), stdin().lock(), stdout().lock())
 }

@@ -1,9 +1,9 @@
-//! The line program: reads standard input to its end, answers on standard output.
+//! The line program of the reference: reads standard input to its end, answers on standard output.
 
-use reference::program::Program;
+use reference::program::LineProgram;
 use reference::stream::run;
 use std::io::{stdin, stdout, Result};
 
 fn main() -> Result<()> {
-    run(Program::default(), stdin().lock(), stdout().lock())
+    run(LineProgram::default(), stdin().lock(), stdout().lock())
 }

@@ -57,7 +57,7 @@ impl Lent {
         self
     }
 
-    /// The same with a book of this count whose further places hold a frame of A's first end.
+    /// The same with a book of this count whose further places hold the first call of A.
     pub fn filled(mut self, count: usize) -> Self {
         let crao = place(Side::A, &signal(Crao, 1, 0));
         let (places, _) = self.book.as_chunks_mut::<PLACE>();

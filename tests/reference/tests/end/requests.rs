@@ -86,10 +86,10 @@ fn the_timer_sends_the_oldest_block() {
 
 #[test]
 fn a_sent_block_joins_as_number_t() {
-    let record = open(9, 4, &[b"first"]);
-    let right = Effect::silent(open(10, 4, &[b"first", b"second"]));
-    let right = right.frame(data(5, 3, 9, b"second"));
-    assert_eq!(request(record, &send(b"second")), right);
+    let record = open(9, 4, &[b"older"]);
+    let right = Effect::silent(open(10, 4, &[b"older", b"younger"]));
+    let right = right.frame(data(5, 3, 9, b"younger"));
+    assert_eq!(request(record, &send(b"younger")), right);
 }
 
 #[test]

@@ -3,9 +3,10 @@
 
 use crate::measure::{compare, Both};
 use crate::sample::{record, BLOCK};
-use cases::bench::{Bench, Lent, Named, Reference, Reply};
+use cases::bench::{Bench, Lent, Named, Reply};
 use cases::sample::message;
-use compare::first::First;
+use cases::Reference;
+use compare::proved::Proved;
 use reference::bench::book::{place, PLACES};
 use reference::bench::Side;
 use reference::frame::{ACK, DATA, LONGEST_FRAME};
@@ -21,7 +22,7 @@ const QUESTIONS: u32 = 100;
 const SENT: u32 = PLACES as u32 / 2;
 
 /// A bench and a line for it.
-struct Desk {
+struct Case {
     records: [[u8; RECORD]; 2],
     book: Vec<u8>,
     count: usize,
@@ -29,7 +30,7 @@ struct Desk {
     out: [u8; LONGEST_FRAME],
 }
 
-impl Desk {
+impl Case {
     /// Two open ends. Of the blocks that A sent so many wait, and so many were handed up by B. The
     /// book holds each DATA and the ACK after it, up to this count.
     fn new(waiting: usize, handed_up: u32, count: usize, line: &str) -> Self {
@@ -64,22 +65,22 @@ impl Desk {
     }
 
     /// Asks the question so.
-    fn ask(&mut self, name: fn([&[u8]; 2], &[u8], usize) -> Named) {
+    fn ask(&mut self, some_frame: fn([&[u8]; 2], &[u8], usize) -> Named) {
         let [a, b] = black_box(&self.records);
-        black_box(name([a, b], black_box(&self.book), self.count));
+        black_box(some_frame([a, b], black_box(&self.book), self.count));
     }
 }
 
 /// A line.
-const LINE: Both<Desk> = [
-    |desk| desk.take(First::line),
-    |desk| desk.take(Reference::line),
-];
+const LINE: Both<Case> = Both {
+    proved: |case| case.take(Proved::line),
+    reference: |case| case.take(Reference::line),
+};
 /// The question.
-const QUESTION: Both<Desk> = [
-    |desk| desk.ask(First::name),
-    |desk| desk.ask(Reference::name),
-];
+const QUESTION: Both<Case> = Both {
+    proved: |case| case.ask(Proved::some_frame),
+    reference: |case| case.ask(Reference::some_frame),
+};
 
 /// Measures typical lines, and the question on a full book.
 pub fn measure() {
@@ -91,14 +92,14 @@ pub fn measure() {
         ("bench: refused by 2", 0, SENT, PLACES - 1, "zz"),
         ("bench: refused by 14", 1, SENT, PLACES, "5045"),
     ] {
-        let mut desk = Desk::new(waiting, handed_up, count, line);
-        compare(name, LINES, &mut desk, LINE);
+        let mut case = Case::new(waiting, handed_up, count, line);
+        compare(name, LINES, &mut case, LINE);
     }
     for (name, waiting) in [
         ("question: none of 512 frames", 0),
         ("question: the last of 512 frames", 1),
     ] {
-        let mut desk = Desk::new(waiting, SENT, PLACES, "");
-        compare(name, QUESTIONS, &mut desk, QUESTION);
+        let mut case = Case::new(waiting, SENT, PLACES, "");
+        compare(name, QUESTIONS, &mut case, QUESTION);
     }
 }

@@ -1,10 +1,12 @@
-//! The calls of an end. Each call gets its record anew, a copy of 538 bytes that both pay.
+//! The calls of an end. Each call gets its record anew, a copy of 538 bytes that both
+//! implementations pay.
 
 use crate::measure::{self, Both};
 use crate::sample::{record, BLOCK};
-use cases::lent::{End, Reference, Reply};
+use cases::end::{End, Reply};
 use cases::sample::message;
-use compare::first::First;
+use cases::Reference;
+use compare::proved::Proved;
 use reference::frame::LONGEST_FRAME;
 use reference::record::RECORD;
 use reference::State;
@@ -14,13 +16,13 @@ use std::hint::black_box;
 const BATCH: u32 = 20_000;
 
 /// A record and what is asked of it.
-struct Call {
+struct Case {
     record: [u8; RECORD],
     message: Vec<u8>,
     out: [u8; LONGEST_FRAME],
 }
 
-impl Call {
+impl Case {
     /// Makes the call so.
     fn make(&mut self, call: fn(&mut [u8], &[u8], &mut [u8]) -> Reply) {
         let mut record = *black_box(&self.record);
@@ -30,15 +32,15 @@ impl Call {
 }
 
 /// A frame that arrives.
-const RECEIVE: Both<Call> = [
-    |call| call.make(First::receive),
-    |call| call.make(Reference::receive),
-];
+const RECEIVE: Both<Case> = Both {
+    proved: |case| case.make(Proved::receive),
+    reference: |case| case.make(Reference::receive),
+};
 /// A request.
-const REQUEST: Both<Call> = [
-    |call| call.make(First::request),
-    |call| call.make(Reference::request),
-];
+const REQUEST: Both<Case> = Both {
+    proved: |case| case.make(Proved::request),
+    reference: |case| case.make(Reference::request),
+};
 
 /// Measures typical calls.
 pub fn measure() {
@@ -70,13 +72,13 @@ pub fn measure() {
 }
 
 /// Measures the call of an end with this record.
-fn compare(name: &str, record: [u8; RECORD], message: Vec<u8>, both: Both<Call>) {
-    let mut call = Call {
+fn compare(name: &str, record: [u8; RECORD], message: Vec<u8>, both: Both<Case>) {
+    let mut case = Case {
         record,
         message,
         out: [0; LONGEST_FRAME],
     };
-    measure::compare(name, BATCH, &mut call, both);
+    measure::compare(name, BATCH, &mut case, both);
 }
 
 /// A frame with s = 7 and r = 1, as the records expect them, and where it has them this number and

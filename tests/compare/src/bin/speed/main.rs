@@ -1,4 +1,4 @@
-//! How long calls on lent buffers take, beside the reference.
+//! How long the proved implementation's calls take, beside the reference's.
 
 mod bench;
 mod end;

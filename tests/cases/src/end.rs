@@ -2,17 +2,17 @@
 //! byte of every buffer.
 
 mod call;
-mod end;
+mod implementation;
 #[cfg(test)]
 mod tests;
 
-pub use end::{End, Reference, Reply};
+pub use implementation::{End, Reply};
 
 use crate::alter::alter;
 use crate::coverage::Coverage;
 use crate::group::{Group, Score};
 use crate::random::Random;
-use crate::records::{any, sound};
+use crate::records::{any, sound, BLOCKS};
 use crate::{near, sample};
 use call::{Buffers, Call};
 use reference::record::RECORD;
@@ -21,8 +21,6 @@ use reference::request::TIMER;
 const FRESH: usize = 2_000;
 const REQUESTS: usize = 50_000;
 const FRAMES: usize = 100_000;
-/// So many bytes of a record stand before the blocks.
-const HEAD: usize = 26;
 
 /// Compares the generated calls, so many rounds of them, and reports them.
 pub fn compare<E: End>(rounds: usize) -> Score {
@@ -83,8 +81,8 @@ fn frames<E: End>(rounds: usize, coverage: &mut Coverage) -> Group {
 fn every_byte<E: End>() -> Group {
     let mut group = Group::new("records with one byte altered", &[0, 12]);
     let mut random = Random::new(33);
-    let head = (0..HEAD).flat_map(|place| (0..=u8::MAX).map(move |byte| (place, byte)));
-    let blocks = (HEAD..RECORD).flat_map(|place| [0, 1, 128, 255].map(|byte| (place, byte)));
+    let head = (0..BLOCKS).flat_map(|place| (0..=u8::MAX).map(move |byte| (place, byte)));
+    let blocks = (BLOCKS..RECORD).flat_map(|place| [0, 1, 128, 255].map(|byte| (place, byte)));
     for (place, byte) in head.chain(blocks) {
         let mut record = sound(&mut random);
         record[place] = byte;

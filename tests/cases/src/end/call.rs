@@ -1,9 +1,10 @@
 //! One call, the buffers lent to it, and what it answers and leaves there.
 
-use super::end::{End, Reference, Reply};
+use super::implementation::{End, Reply};
 use crate::group::Group;
 use crate::guarded::Guarded;
 use crate::random::Random;
+use crate::Reference;
 use reference::frame::LONGEST_FRAME;
 
 /// The calls of one end.

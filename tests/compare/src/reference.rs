@@ -1,14 +1,12 @@
-//! The second implementation: the reference, lent the same buffers and numbers.
+//! The codec of the reference, lent the same buffers and numbers.
 
 use crate::codec::{Codec, Fields};
+use cases::Reference;
 use reference::buffer::{ask_room, put};
 use reference::frame::{Body, Signal, ACK, DATA, LONGEST_FRAME};
 use reference::{line, refusal, Block, Frame, Message, Refusal, Request};
 
-/// The second implementation.
-pub struct Second;
-
-impl Codec for Second {
+impl Codec for Reference {
     fn read_line(line: &[u8], out: &mut [u8], length: &mut usize) -> u8 {
         let bytes = ask_room(out, LONGEST_FRAME).and_then(|()| line::read(line));
         refusal::number(bytes.map(|bytes| *length = put(out, &bytes)))

@@ -1,16 +1,17 @@
 //! The calls that an implementation of a bench offers.
 
-use crate::lent;
+use crate::end;
+use crate::Reference;
 use reference::bench;
 use reference::refusal;
 
-/// One implementation.
+/// One implementation of a bench.
 pub trait Bench {
     /// A bench line, without its line feed.
     fn line(lent: Lent, line: &[u8]) -> Reply;
-    /// Names some frame in the book whose delivery now would be accepted and change the
-    /// receiver's record.
-    fn name(records: [&[u8]; 2], book: &[u8], count: usize) -> Named;
+    /// The question: names some frame in the book whose delivery now would be accepted and change
+    /// the receiver's record.
+    fn some_frame(records: [&[u8]; 2], book: &[u8], count: usize) -> Named;
 }
 
 /// What is lent to a bench line.
@@ -31,7 +32,7 @@ pub struct Reply {
     pub side: u8,
     /// The number, that end's state and numbers, and what its call did. The block stands in the
     /// book.
-    pub end: lent::Reply,
+    pub end: end::Reply,
     /// How many frames the book holds after the line.
     pub count: usize,
 }
@@ -45,21 +46,18 @@ pub struct Named {
     pub frame: Option<usize>,
 }
 
-/// The reference.
-pub struct Reference;
-
 impl Bench for Reference {
     fn line(lent: Lent, line: &[u8]) -> Reply {
         let start = lent.book.as_ptr();
         let answer = bench::line(lent.records, lent.book, lent.count, line, lent.out);
         Reply {
             side: answer.side as u8,
-            end: lent::Reply::of(&answer.end, start),
+            end: end::Reply::of(&answer.end, start),
             count: answer.count,
         }
     }
 
-    fn name(records: [&[u8]; 2], book: &[u8], count: usize) -> Named {
+    fn some_frame(records: [&[u8]; 2], book: &[u8], count: usize) -> Named {
         let named = bench::some_frame(records, book, count);
         Named {
             number: refusal::number(named),

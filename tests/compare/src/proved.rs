@@ -1,4 +1,4 @@
-//! The first implementation, called through its C interface.
+//! The proved implementation, and its codec through the calls for C.
 
 use crate::codec::{Codec, Fields};
 
@@ -37,12 +37,12 @@ extern "C" {
     ) -> u8;
 }
 
-/// The first implementation.
-pub struct First;
+/// The proved implementation, written in Rattle.
+pub struct Proved;
 
 // SAFETY of all calls: each pointer comes from a reference that lives as long as the call, and
 // each length is that of its slice.
-impl Codec for First {
+impl Codec for Proved {
     fn read_line(line: &[u8], out: &mut [u8], length: &mut usize) -> u8 {
         unsafe {
             codec_read_line(

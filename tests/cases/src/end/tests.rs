@@ -1,6 +1,7 @@
 //! The comparison finds what is wrong, and nothing else.
 
-use super::{compare, End, Reference, Reply};
+use super::{compare, End, Reply};
+use crate::Reference;
 use reference::frame::LONGEST_FRAME;
 use reference::record::{Record, RECORD};
 use reference::Frame;

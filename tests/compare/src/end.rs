@@ -1,10 +1,10 @@
-//! The calls of the first implementation on lent buffers, through its C interface.
+//! One end of the proved implementation, through its calls for C.
 
-use crate::first::First;
-use cases::lent::{End, Reply};
+use crate::proved::Proved;
+use cases::end::{End, Reply};
 
 /// Where the block of a DATA starts.
-const BLOCK: usize = 14;
+const BLOCK_START: usize = 14;
 
 extern "C" {
     fn dock_fresh(record: *mut u8, record_len: usize) -> u8;
@@ -41,7 +41,7 @@ extern "C" {
 
 // SAFETY of all calls: each pointer comes from a reference that lives as long as the call, and
 // each length is that of its slice.
-impl End for First {
+impl End for Proved {
     fn fresh(record: &mut [u8]) -> u8 {
         unsafe { dock_fresh(record.as_mut_ptr(), record.len()) }
     }
@@ -86,7 +86,7 @@ impl End for First {
             )
         };
         if block > 0 {
-            reply.block = BLOCK..BLOCK.wrapping_add(block);
+            reply.block = BLOCK_START..BLOCK_START.wrapping_add(block);
         }
         reply
     }

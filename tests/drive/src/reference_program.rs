@@ -1,11 +1,13 @@
 //! The programs of the reference that others are compared with.
 
+use reference::bench::program::BenchProgram;
+use reference::line;
+use reference::program::LineProgram;
 use reference::record::RECORD;
 use reference::stream::Lines;
-use reference::{bench, line, program};
 
 /// A program of the reference, as it starts.
-pub trait Subject: Lines + Default {
+pub trait ReferenceProgram: Lines + Default {
     /// So many characters of an answer line stand before its number.
     const LEAD: usize;
 
@@ -26,8 +28,7 @@ pub trait Subject: Lines + Default {
     }
 }
 
-/// The line program for one end.
-impl Subject for program::Program {
+impl ReferenceProgram for LineProgram {
     const LEAD: usize = 0;
 
     fn meeting(&self, line: &[u8]) -> Option<(&[u8; RECORD], Vec<u8>)> {
@@ -36,8 +37,7 @@ impl Subject for program::Program {
     }
 }
 
-/// The line program for a bench.
-impl Subject for bench::program::Program {
+impl ReferenceProgram for BenchProgram {
     const LEAD: usize = 2;
 
     fn meeting(&self, line: &[u8]) -> Option<(&[u8; RECORD], Vec<u8>)> {
@@ -51,7 +51,7 @@ mod tests {
     use super::*;
 
     /// The messages that this program meets with these lines, where it meets any.
-    fn messages<P: Subject>(lines: &[&str]) -> Vec<Option<Vec<u8>>> {
+    fn messages<P: ReferenceProgram>(lines: &[&str]) -> Vec<Option<Vec<u8>>> {
         let mut program = P::default();
         let lines = lines.iter().map(|line| {
             let meeting = program.meeting(line.as_bytes());
@@ -64,14 +64,14 @@ mod tests {
 
     #[test]
     fn one_end_meets_what_is_on_the_line() {
-        let found = messages::<program::Program>(&["40", "ff", "zz"]);
+        let found = messages::<LineProgram>(&["40", "ff", "zz"]);
         assert_eq!(found, [Some(vec![0x40]), Some(vec![0xff]), None]);
     }
 
     #[test]
     fn a_bench_meets_requests_and_frames_of_the_book() {
         let lines = ["520000", "5140", "520000", "520001", "zz", "53"];
-        let found = messages::<bench::program::Program>(&lines);
+        let found = messages::<BenchProgram>(&lines);
         let crao = vec![1, 0, 0, 0, 1, 0, 0, 0, 0];
         let rej = vec![4, 0, 0, 0, 0, 0, 0, 0, 1];
         let right = [None, Some(vec![0x40]), Some(crao), Some(rej), None, None];
@@ -80,8 +80,7 @@ mod tests {
 
     #[test]
     fn the_number_stands_after_the_lead() {
-        type Bench = bench::program::Program;
-        assert_eq!(program::Program::number(b"8204000000000100000007"), 2);
-        assert_eq!(Bench::number(b"508d00000000000000000000"), 13);
+        assert_eq!(LineProgram::number(b"8204000000000100000007"), 2);
+        assert_eq!(BenchProgram::number(b"508d00000000000000000000"), 13);
     }
 }

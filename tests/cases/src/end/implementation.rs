@@ -1,9 +1,10 @@
-//! The calls that an implementation offers.
+//! The calls that an implementation of an end offers.
 
+use crate::Reference;
 use reference::{call, Answer, Block};
 use std::ops::Range;
 
-/// One implementation.
+/// One implementation of an end.
 pub trait End {
     /// Makes the record that of a fresh end; answers 0, or the number of the refusal.
     fn fresh(record: &mut [u8]) -> u8;
@@ -26,9 +27,6 @@ pub struct Reply {
     /// Where the block handed up stands in the received frame, 0..0 for none.
     pub block: Range<usize>,
 }
-
-/// The reference.
-pub struct Reference;
 
 impl End for Reference {
     fn fresh(record: &mut [u8]) -> u8 {
