@@ -1,30 +1,34 @@
 /*
- * The dock link: one end of a connection, and a bench of two, for programs in C.
+ * The dock link: one end of a connection, and a bench of two, for programs in C and C++.
  *
  * An end is a record of 538 bytes that the host keeps and lends to each call. Frames come and go as bytes: the host carries them to
  * the other end, over a mesh that may lose, repeat and reorder them, and decides when to make a timer call. Nothing is allocated, and
- * nothing is kept between calls but the record; on a bench, the two records, the book and its count. What is lent to one call must
- * not overlap.
+ * nothing is kept between calls but the record; on a bench, the two records, the book and its count. docs/PROTOCOL.md says what an end
+ * does.
  *
- * Link with the static library that has the call (built by `rt staticlib NAME`):
- *   link         dock_fresh, dock_request, dock_receive
- *   bench_line   dock_bench
- *   bench_query  dock_some_frame
+ * There are two ways to call it. The inline functions (dock_ask, dock_hear and those after them) take a struct that holds the buffers
+ * of an end, and answer a struct: start there. Below them are the plain calls, which take numbers and byte buffers alone. Whatever bytes
+ * they get, both refuse what is wrong and never stop. The inline functions check nothing that the calls check, and neither can check
+ * what C does not tell: a null pointer, a length that is not the buffer's, and buffers of one call that overlap are the host's fault.
+ *
+ * Link with libdock.a (built by `rt staticlib dock`), which has every call.
  */
 #ifndef DOCK_H
 #define DOCK_H
 
 #include <stddef.h>
 #include <stdint.h>
+#include <string.h>
 
 #ifdef __cplusplus
 extern "C" {
 #endif
 
-#define DOCK_RECORD 538  /* bytes of a record */
-#define DOCK_FRAME 78    /* bytes of the longest frame, and of the buffer for a frame out */
-#define DOCK_BLOCK 64    /* bytes of the longest block */
-#define DOCK_BLOCK_AT 14 /* where the block of a received DATA frame starts */
+#define DOCK_RECORD 538    /* bytes of a record */
+#define DOCK_WAITING_AT 17 /* where a record has w, the number of blocks that wait for their acknowledgement */
+#define DOCK_FRAME 78      /* bytes of the longest frame, and of the buffer for a frame out */
+#define DOCK_BLOCK 64      /* bytes of the longest block */
+#define DOCK_BLOCK_AT 14   /* where the block of a received DATA frame starts */
 
 #define DOCK_BOOK 40960   /* bytes of a book */
 #define DOCK_PLACES 512   /* places of a book */
@@ -35,20 +39,20 @@ extern "C" {
  * that tell how the end stands: no byte of a record, of the book or of the buffer for a frame. 1 and 2, 13 and 14 are the bench's. */
 enum {
     DOCK_OK = 0,
-    DOCK_CHARACTERS = 1, /* the line has not 2 to 156 characters, an even number */
-    DOCK_DIGITS = 2,     /* a character of the line is none of 0-9, a-f */
-    DOCK_KIND = 3,       /* the kind is not known to this call */
-    DOCK_FIXED = 4,      /* the fixed part is missing, or more follows where there is no block */
-    DOCK_COUNT = 5,      /* the count byte is not 1 to 64 */
-    DOCK_LENGTH = 6,     /* not exactly that many bytes after the count */
-    DOCK_NUMBERS = 7,    /* s, r or the number of a DATA is out of range */
-    DOCK_STATE = 8,      /* the state does not allow the request */
-    DOCK_LAST = 9,       /* no number is left */
-    DOCK_FULL = 10,      /* eight blocks wait already */
-    DOCK_BUFFER = 11,    /* a lent buffer is too small */
-    DOCK_UNSOUND = 12,   /* a record is not sound, or the book's count is above 512 */
-    DOCK_ABSENT = 13,    /* the book does not hold that frame */
-    DOCK_BOOK_FULL = 14  /* the book has no place left for the frame to send */
+    DOCK_BAD_LENGTH = 1,     /* the line has not 2 to 156 characters, an even number */
+    DOCK_BAD_DIGIT = 2,      /* a character of the line is none of 0-9, a-f */
+    DOCK_UNKNOWN_KIND = 3,   /* the kind is not known to this call */
+    DOCK_BAD_SIZE = 4,       /* the fixed part is missing, or more follows where there is no block */
+    DOCK_BAD_COUNT = 5,      /* the count byte is not 1 to 64 */
+    DOCK_BAD_BLOCK = 6,      /* not exactly that many bytes after the count */
+    DOCK_BAD_NUMBER = 7,     /* s, r or the number of a DATA is out of range */
+    DOCK_WRONG_STATE = 8,    /* the state does not allow the request */
+    DOCK_NO_NUMBER_LEFT = 9, /* no number is left */
+    DOCK_QUEUE_FULL = 10,    /* eight blocks wait already */
+    DOCK_SHORT_BUFFER = 11,  /* a lent buffer is too small */
+    DOCK_UNSOUND = 12,       /* a record is not sound, or the book's count is above 512 */
+    DOCK_NO_SUCH_FRAME = 13, /* the book does not hold that frame */
+    DOCK_BOOK_FULL = 14      /* the book has no place left for the frame to send */
 };
 
 /* The states. */
@@ -56,6 +60,9 @@ enum { DOCK_CLOSED, DOCK_LISTENING, DOCK_CALLING, DOCK_ANSWERING, DOCK_OPEN, DOC
 
 /* The notices. */
 enum { DOCK_NONE, DOCK_CONNECTED, DOCK_REJECTED, DOCK_CLOSED_BY_PARTNER, DOCK_CLOSE_FINISHED, DOCK_HANDED_UP };
+
+/* The first byte of a frame. */
+enum { DOCK_CRAO = 0x01, DOCK_CRPO, DOCK_CRACK, DOCK_REJ, DOCK_RESET, DOCK_DR, DOCK_DRACK, DOCK_DATA, DOCK_ACK };
 
 /* The first byte of a request. A send has a count byte and its block after it, the others are that byte alone. */
 enum { DOCK_CONNECT = 0x40, DOCK_LISTEN, DOCK_END_LISTENING, DOCK_CLOSE, DOCK_SEND, DOCK_TIMER };
@@ -65,6 +72,10 @@ enum { DOCK_A, DOCK_B };
 
 /* The first byte of a bench line: a request of A, of B, or the delivery of a frame. */
 enum { DOCK_REQUEST_A = 0x50, DOCK_REQUEST_B, DOCK_DELIVER };
+
+/*
+ * The plain calls.
+ */
 
 /* Makes the record that of a fresh end: closed, both numbers 0. Answers 0, or 11 where the buffer is too small. */
 uint8_t dock_fresh(uint8_t *record, size_t record_len);
@@ -108,6 +119,162 @@ uint8_t dock_bench(uint8_t *a, size_t a_len, uint8_t *b, size_t b_len, uint8_t *
  */
 uint8_t dock_some_frame(const uint8_t *a, size_t a_len, const uint8_t *b, size_t b_len, const uint8_t *book, size_t book_len,
                         size_t count, size_t *frame);
+
+/*
+ * What a host writes: an end with its buffers, and one answer for every call. Later editions add fields to both.
+ */
+
+/* What a call answers. The frame to send stands in the end's own buffer until that end's next call; the block handed up stands in the
+ * frame that was received, on a bench in the book. */
+typedef struct dock_answer {
+    uint8_t number;          /* 0, or the number of the refusal (DOCK_UNKNOWN_KIND, ..) */
+    uint8_t end;             /* on a bench the end that the answer is about, DOCK_A or DOCK_B; else 0 */
+    uint8_t state;           /* how the end stands now (DOCK_OPEN, ..) */
+    uint8_t notice;          /* what happened (DOCK_CONNECTED, ..), 0 for nothing */
+    uint32_t local;          /* L, the end's own incarnation number */
+    uint32_t remote;         /* D, its partner's; 0: not known */
+    size_t sent;             /* the length of the frame to send, 0 for none */
+    const uint8_t *sent_at;  /* where it stands */
+    size_t block;            /* the length of the block handed up, 0 for none */
+    const uint8_t *block_at; /* where it stands, a null pointer for none */
+} dock_answer;
+
+/* One end: its record, and the buffer for the frame that it sends. */
+typedef struct dock_end {
+    uint8_t record[DOCK_RECORD];
+    uint8_t out[DOCK_FRAME];
+} dock_end;
+
+/* Makes it a fresh end. Every end starts so. */
+static inline void dock_init(dock_end *end) {
+    (void)dock_fresh(end->record, sizeof end->record);
+}
+
+/* A request, of these bytes. */
+static inline dock_answer dock_ask(dock_end *end, const uint8_t *request, size_t request_len) {
+    dock_answer a;
+    a.number = dock_request(end->record, sizeof end->record, request, request_len, end->out, sizeof end->out, &a.state, &a.notice,
+                            &a.local, &a.remote, &a.sent);
+    a.end = DOCK_A;
+    a.sent_at = end->out;
+    a.block = 0;
+    a.block_at = NULL;
+    return a;
+}
+
+/* A frame that arrived. */
+static inline dock_answer dock_hear(dock_end *end, const uint8_t *frame, size_t frame_len) {
+    dock_answer a;
+    a.number = dock_receive(end->record, sizeof end->record, frame, frame_len, end->out, sizeof end->out, &a.state, &a.notice, &a.local,
+                            &a.remote, &a.sent, &a.block);
+    a.end = DOCK_A;
+    a.sent_at = end->out;
+    a.block_at = a.block > 0 ? frame + DOCK_BLOCK_AT : NULL;
+    return a;
+}
+
+/* A request that is its first byte alone: DOCK_CONNECT, DOCK_LISTEN, DOCK_END_LISTENING, DOCK_CLOSE or DOCK_TIMER. */
+static inline dock_answer dock_ask_kind(dock_end *end, uint8_t kind) {
+    return dock_ask(end, &kind, 1);
+}
+
+/* Sends a block of 1 to 64 bytes; a block of another length is refused by 5. */
+static inline dock_answer dock_send(dock_end *end, const uint8_t *block, size_t block_len) {
+    uint8_t request[2 + DOCK_BLOCK];
+    size_t kept = block_len < DOCK_BLOCK ? block_len : DOCK_BLOCK;
+    request[0] = DOCK_SEND;
+    request[1] = (uint8_t)(block_len < UINT8_MAX ? block_len : UINT8_MAX);
+    if (kept > 0)
+        memcpy(request + 2, block, kept);
+    return dock_ask(end, request, 2 + kept);
+}
+
+/* How many of its blocks wait for their acknowledgement. With none left the partner has heard all. */
+static inline unsigned dock_waiting(const dock_end *end) {
+    return end->record[DOCK_WAITING_AT];
+}
+
+/* A bench: two ends, and the book of every frame that they sent. */
+typedef struct dock_pair {
+    uint8_t record[2][DOCK_RECORD]; /* of DOCK_A and of DOCK_B */
+    uint8_t book[DOCK_BOOK];
+    size_t count; /* places of the book in use */
+    uint8_t out[DOCK_FRAME];
+} dock_pair;
+
+/* Makes both fresh ends, and the book empty. */
+static inline void dock_pair_init(dock_pair *pair) {
+    (void)dock_fresh(pair->record[DOCK_A], sizeof pair->record[DOCK_A]);
+    (void)dock_fresh(pair->record[DOCK_B], sizeof pair->record[DOCK_B]);
+    pair->count = 0;
+}
+
+/* A bench line, of these characters. */
+static inline dock_answer dock_pair_line(dock_pair *pair, const char *line, size_t line_len) {
+    dock_answer a;
+    size_t at;
+    a.number = dock_bench(pair->record[DOCK_A], sizeof pair->record[DOCK_A], pair->record[DOCK_B], sizeof pair->record[DOCK_B],
+                          pair->book, sizeof pair->book, &pair->count, (const uint8_t *)line, line_len, pair->out, sizeof pair->out,
+                          &a.end, &a.state, &a.notice, &a.local, &a.remote, &a.sent, &at, &a.block);
+    a.sent_at = pair->out;
+    a.block_at = a.block > 0 ? pair->book + at : NULL;
+    return a;
+}
+
+/* Some frame whose delivery would change a record, or DOCK_NO_FRAME. */
+static inline size_t dock_pair_some_frame(const dock_pair *pair) {
+    size_t frame;
+    (void)dock_some_frame(pair->record[DOCK_A], sizeof pair->record[DOCK_A], pair->record[DOCK_B], sizeof pair->record[DOCK_B],
+                          pair->book, sizeof pair->book, pair->count, &frame);
+    return frame;
+}
+
+/*
+ * Names for messages. A number that means nothing is "unknown".
+ */
+
+/* What a call answered: a short phrase. */
+static inline const char *dock_number_name(unsigned number) {
+    static const char *const names[] = {"ok",
+                                        "line of a wrong length",
+                                        "character that is no digit",
+                                        "unknown kind",
+                                        "fixed part of a wrong size",
+                                        "count that is not 1 to 64",
+                                        "block of another length than its count",
+                                        "number out of range",
+                                        "request not allowed in this state",
+                                        "no number left",
+                                        "eight blocks wait already",
+                                        "buffer too small",
+                                        "record not sound",
+                                        "no such frame in the book",
+                                        "book full"};
+    return number < sizeof names / sizeof names[0] ? names[number] : "unknown";
+}
+
+/* How an end stands. */
+static inline const char *dock_state_name(unsigned state) {
+    static const char *const names[] = {"closed", "listening", "calling", "answering", "open", "closing"};
+    return state < sizeof names / sizeof names[0] ? names[state] : "unknown";
+}
+
+/* What happened. */
+static inline const char *dock_notice_name(unsigned notice) {
+    static const char *const names[] = {"none", "connected", "rejected", "closed by partner", "close finished", "block handed up"};
+    return notice < sizeof names / sizeof names[0] ? names[notice] : "unknown";
+}
+
+/* The first byte of a frame or a request. */
+static inline const char *dock_kind_name(unsigned kind) {
+    static const char *const frames[] = {"CRAO", "CRPO", "CRACK", "REJ", "RESET", "DR", "DRACK", "DATA", "ACK"};
+    static const char *const requests[] = {"connect", "listen", "end listening", "close", "send", "timer"};
+    if (kind - DOCK_CRAO < sizeof frames / sizeof frames[0])
+        return frames[kind - DOCK_CRAO];
+    if (kind - DOCK_CONNECT < sizeof requests / sizeof requests[0])
+        return requests[kind - DOCK_CONNECT];
+    return "unknown";
+}
 
 #ifdef __cplusplus
 }
