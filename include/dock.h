@@ -11,7 +11,7 @@
  * they get, both refuse what is wrong and never stop. The inline functions check nothing that the calls check, and neither can check
  * what C does not tell: a null pointer, a length that is not the buffer's, and buffers of one call that overlap are the host's fault.
  *
- * Link with libdock.a (built by `rt staticlib dock`), which has every call.
+ * Link with lib/libdock.a (built by bin/build library), which has every call.
  */
 #ifndef DOCK_H
 #define DOCK_H

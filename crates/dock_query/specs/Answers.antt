@@ -1,26 +1,13 @@
--- What the calls for C answer, in numbers.
+-- What the question answers for C, in numbers.
 use Prim.Native.Nat.{ℕ}
 use mathlib.Core.Path.{_≡_}
 use Rattle.bench_log.specs.Log.{places}
 use Rattle.bench_spec.specs.Bench.{Bench}
-use Rattle.bench_call.specs.declared.BenchAnswer.{BenchAnswer}
 use Rattle.bench_query.specs.declared.Found.{Found}
 use Rattle.bench_query.specs.declared.Found.the-variants.{Frame, Nothing, Refused}
 use Rattle.bench_query.specs.Found.{Answers}
 
--- a bench line
-abbrev pub benchAnswerIn : ℕ → ℕ → ℕ → ℕ → ℕ → ℕ → ℕ → ℕ → ℕ → ℕ → BenchAnswer
-benchAnswerIn number end state notice local remote sent at block count =
-    record {
-      end = end;
-      status = record { number = number; state = state; notice = notice; local = local; remote = remote };
-      sent = sent;
-      at = at;
-      block = block;
-      count = count;
-    }
-
--- The question: the number, and the frame's number, which is below 512 where there is one.
+-- The number, and the frame's number, which is below 512 where there is one.
 unfoldable pub numberIn : Found → ℕ
 numberIn (Frame n) = 0
 numberIn Nothing = 0

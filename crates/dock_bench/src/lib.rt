@@ -1,0 +1,39 @@
+// The bench line for C, on numbers and byte buffers alone; include/dock.h declares it.
+ghost use Rattle.bench_spec.specs.Bench.{benchOf};
+ghost use Rattle.bench_line.specs.Performed.{LinePerformed};
+ghost use Rattle.dock_bench.specs.Answers.{benchAnswerIn};
+
+// Plays a bench line, which is given without its line feed. Answers the number; the count, the end that the answer is about, its state,
+// notice, L and D, the length of the frame sent, and where in the log the block handed up stands and its length, go to the numbers lent.
+#[no_mangle]
+pub extern "C" fn dock_bench(
+    a: &mut [u8],
+    b: &mut [u8],
+    log: &mut [u8],
+    count: &mut usize,
+    line: &[u8],
+    out: &mut [u8],
+    end: &mut u8,
+    state: &mut u8,
+    notice: &mut u8,
+    local: &mut u32,
+    remote: &mut u32,
+    sent: &mut usize,
+    at: &mut usize,
+    block: &mut usize,
+) -> u8
+    ensures { λ r. ⌜ LinePerformed (benchOf (now (a .entry)) (now (b .entry)) (now (log .entry)) (now (count .entry))) (now (line .entry)) (now (out .entry)) (now (a .exit)) (now (b .exit)) (now (log .exit)) (now (out .exit)) (benchAnswerIn r (now (end .exit)) (now (state .exit)) (now (notice .exit)) (now (local .exit)) (now (remote .exit)) (now (sent .exit)) (now (at .exit)) (now (block .exit)) (now (count .exit))) ⌝ }
+{
+    let r = bench_line::perform(a, b, log, *count, line, out);
+    *count = r.count;
+    *end = r.end;
+    let told = r.status;
+    *state = told.state;
+    *notice = told.notice;
+    *local = told.local;
+    *remote = told.remote;
+    *sent = r.sent;
+    *at = r.at;
+    *block = r.block;
+    told.number
+}

@@ -1,0 +1,32 @@
+// The question of the bench for C, on numbers and byte buffers alone; include/dock.h declares it.
+use bench_query::Found;
+ghost use Rattle.bench_spec.specs.Bench.{benchOf};
+ghost use Rattle.dock_query.specs.Answers.{FrameNamed};
+
+// Answers the number; the frame's goes to the last, 512 where there is none.
+#[no_mangle]
+pub extern "C" fn dock_some_frame(
+    a: &[u8],
+    b: &[u8],
+    log: &[u8],
+    count: usize,
+    frame: &mut usize,
+) -> u8
+    ensures { λ r. ⌜ FrameNamed (benchOf (now (a .entry)) (now (b .entry)) (now (log .entry)) count) r (now (frame .exit)) ⌝ }
+{
+    let found = bench_query::some_frame(a, b, log, count);
+    match found {
+        Found::Frame(n) => {
+            *frame = n;
+            0
+        }
+        Found::Nothing => {
+            *frame = bench_log::PLACES;
+            0
+        }
+        Found::Refused(number) => {
+            *frame = bench_log::PLACES;
+            number
+        }
+    }
+}
