@@ -130,12 +130,12 @@ fn lengthened(list: &[usize]) -> Vec<Vec<usize>> {
 fn either_of_two(lists: &[Together]) -> impl Iterator<Item = Condition> + '_ {
     let of_length = |length| lists.iter().filter(move |list| list.len() == length);
     let lengths = [(1, 1), (1, 2), (2, 1), (2, 2)];
-    lengths.into_iter().flat_map(move |(first, second)| {
+    lengths.into_iter().flat_map(move |(one_long, other_long)| {
         let pairs = move |one: &Together| {
             let one = one.clone();
-            of_length(second).map(move |other| Condition(vec![one.clone(), other.clone()]))
+            of_length(other_long).map(move |other| Condition(vec![one.clone(), other.clone()]))
         };
-        of_length(first).flat_map(pairs)
+        of_length(one_long).flat_map(pairs)
     })
 }
 
