@@ -5,8 +5,8 @@ use Rattle.link.specs.declared.Answer.{Answer}
 use Rattle.link.specs.Lent.{answerOf}
 use Rattle.link.proofs.Answers.{with-block, none-up}
 use borrow.Author.Needs.{needs}
-use Rattle.dock_end.proofs.dock_request.Statement.{statement}
-use Rattle.dock_end.proofs.dock_request.Tie as tie
+use Rattle.c_end.proofs.dock_request.Statement.{statement}
+use Rattle.c_end.proofs.dock_request.Tie as tie
 
 returns : tie.Need-returns
 unfolding answerOf

@@ -1,7 +1,7 @@
 // The bench line for C, on numbers and byte buffers alone; include/dock.h declares it.
 ghost use Rattle.bench_spec.specs.Bench.{benchOf};
 ghost use Rattle.bench_line.specs.Performed.{LinePerformed};
-ghost use Rattle.dock_bench.specs.Answers.{benchAnswerIn};
+ghost use Rattle.c_bench.specs.Answers.{benchAnswerIn};
 
 // Plays a bench line, which is given without its line feed. Answers the number; the count, the end that the answer is about, its state,
 // notice, L and D, the length of the frame sent, and where in the log the block handed up stands and its length, go to the numbers lent.

@@ -1,8 +1,8 @@
 use mathlib.Core.Path.{refl}
 use borrow.Author.Needs.{needs}
-use Rattle.dock_query.specs.Answers.{numberIn, frameIn}
-use Rattle.dock_query.proofs.dock_some_frame.Statement.{statement}
-use Rattle.dock_query.proofs.dock_some_frame.Tie as tie
+use Rattle.c_query.specs.Answers.{numberIn, frameIn}
+use Rattle.c_query.proofs.dock_some_frame.Statement.{statement}
+use Rattle.c_query.proofs.dock_some_frame.Tie as tie
 
 enum-told : tie.Need-enum-told
 enum-told c = search needs
