@@ -42,7 +42,7 @@ pub const LADDERS: [Ladder; 2] = [
     Ladder {
         file: "refused-call.svg",
         title: "A refused call",
-        lines: "5140 520000 520001 5040 520000 520003 520004",
+        lines: include_str!("../../../examples/story.in"),
     },
 ];
 
