@@ -40,7 +40,7 @@ extern "C" {
 enum {
     DOCK_OK = 0,
     DOCK_BAD_LENGTH = 1,     /* the line has not 2 to 156 characters, an even number */
-    DOCK_BAD_DIGIT = 2,      /* a character of the line is none of 0-9, a-f */
+    DOCK_BAD_DIGIT = 2,      /* a character of the line is none of 0-9, A-F, a-f */
     DOCK_UNKNOWN_KIND = 3,   /* the kind is not known to this call */
     DOCK_BAD_SIZE = 4,       /* the fixed part is missing, or more follows where there is no block */
     DOCK_BAD_COUNT = 5,      /* the count byte is not 1 to 64 */
@@ -99,8 +99,8 @@ uint8_t dock_receive(uint8_t *record, size_t record_len, const uint8_t *frame, s
                      uint8_t *state, uint8_t *notice, uint32_t *local, uint32_t *remote, size_t *sent, size_t *block);
 
 /*
- * A bench line: text in lower-case hexadecimal, without its line feed. 50 or 51 and a request: end A or B. 52 and a number of 2
- * bytes: delivers that frame of the book, counted from 0, to the end that did not send it.
+ * A bench line: text in hexadecimal, its letters in either case, without its line feed. 50 or 51 and a request: end A or B. 52 and a
+ * number of 2 bytes: delivers that frame of the book, counted from 0, to the end that did not send it.
  *
  * Takes the records of A and B, a book of at least 40,960 bytes, how many of its places are in use (0 for an empty book), the line
  * and a buffer of at least 78 bytes for a frame out. On success the record of one end is the new one; the frame sent, if there is

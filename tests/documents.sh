@@ -19,7 +19,7 @@ same() {
 rows() {
     awk -F' *[|] *' -v section="## $2" '
         /^## / { inside = ($0 == section) }
-        inside && /^[|] `[0-9a-z]+` [|].*`/ { print $2, $(NF - 2), $(NF - 1) }' "$1" | tr -d '`'
+        inside && /^[|] `[0-9A-Za-z]+` [|].*`/ { print $2, $(NF - 2), $(NF - 1) }' "$1" | tr -d '`'
 }
 
 # shown PROGRAM NAME FILE SECTION: a section's lines get the answers that it shows.

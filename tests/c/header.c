@@ -122,6 +122,7 @@ static void test_bench(void) {
     expect(a.end == DOCK_B && is_open(&a), "B opens");
     expect(line(&pair, "50440361626").number == DOCK_BAD_LENGTH, "a line has an even number of digits");
     expect(line(&pair, "5044036162zz").number == DOCK_BAD_DIGIT, "z is no digit");
+    expect(line(&pair, "52FFfF").number == DOCK_NO_SUCH_FRAME, "letters are digits in either case");
     expect(line(&pair, "504403616263").number == DOCK_OK && pair.count == 4, "A sends a block");
     a = line(&pair, "520003");
     expect(a.end == DOCK_B && a.notice == DOCK_HANDED_UP && a.block == 3 && memcmp(a.block_at, "abc", 3) == 0, "B has it");

@@ -7,7 +7,8 @@ use lib.Dec.{leb}
 use lib.ListN.{length}
 use Rattle.octets.specs.Test.{when, first, Outcome, ok, outcome}
 use Rattle.octets.specs.Sizes.{longestFrame}
-use Rattle.hex.specs.Line.{unhex}
+use Rattle.hex.specs.Line.{unhex, normal}
+use Rattle.hex.proofs.Normal.{asked-alike, unhex-normal}
 use Rattle.link.specs.Lent.{freshRecord}
 use Rattle.bench_spec.specs.Bench.{Bench, benchOf, bufferQuestions, soundQuestions, At, octetsAsk, lineAsks, comes, endOf, benchAfter}
 use Rattle.bench_answer.specs.Text.{answerRoom, benchText, askedWith}
@@ -16,6 +17,7 @@ use Rattle.line_split.proofs.Long.{asks-cut}
 use Rattle.line_io.specs.declared.Place.{Place}
 use Rattle.line_io.specs.Answering.{Cuts, inputText}
 use Rattle.line_io.specs.Program.{Ran, Over, concat}
+use Rattle.line_io.proofs.Answers.{input-normal}
 use Rattle.line_io.proofs.Steps.{free, free-room}
 use Rattle.line_io.proofs.Program.{program-run}
 use Rattle.bench.specs.Ends.{bothEnds, freshBench}
@@ -30,6 +32,18 @@ cuts =
       next = λ w l. ap (λ (q : Outcome At). benchAfter (endOf q) w (comes w q)) (same w l);
       says = λ w l. ap (benchText w) (same w l);
     }
+
+-- A line counts as its normal form, so an input is answered in either case with the same text.
+either-case : (w : Bench) (l : List ℕ) → lineAsks w (normal l) longestFrame ≡ lineAsks w l longestFrame
+unfolding lineAsks
+either-case w l = rw (asked-alike l, unhex-normal l) refl
+
+pub either-case-text : (input : List ℕ) → inputText bothEnds freshBench (normal input) ≡ inputText bothEnds freshBench input
+either-case-text =
+    input-normal bothEnds
+    (λ w l. ap (λ (q : Outcome At). benchAfter (endOf q) w (comes w q)) (either-case w l))
+    (λ w l. ap (benchText w) (either-case w l))
+    freshBench
 
 -- where there is room for an answer, the line is asked
 pub asks-with : (w : Bench) (line out : List ℕ) (filled : ℕ) → filled + answerRoom ≤ length out → askedWith w line (free out filled) ≡ ok (lineAsks w line longestFrame)

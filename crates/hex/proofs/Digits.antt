@@ -2,7 +2,7 @@
 use Prim.Native.Nat.{ℕ, zero, suc, _+_, _-_, _*_, _/_, _%_, _<_, _≤_}
 use mathlib.Core.Path.{_≡_, refl, sym, ap, ap₂, _∙_}
 use mathlib.Core.Logic.{⊎-elim}
-use mathlib.Core.Bool.{Bool, true, _&&_, and-comm, and-assoc, or-true}
+use mathlib.Core.Bool.{Bool, true, false, _&&_, _||_, and-comm, and-assoc, or-true}
 use mathlib.Core.List.{List, [], _∷_, _++_}
 use native.Mathlib.Nat.{div-add-mod'}
 use native.Mathlib.Omega.{arith}
@@ -12,10 +12,10 @@ use borrow.Author.Tests.{eqb-true}
 use lib.Arith.{digits-div, digits-mod}
 use lib.ListN.{length, take, getD}
 use Rattle.octets.specs.Sizes.{longestFrame}
-use Rattle.octets.specs.Test.{inRange}
+use Rattle.octets.specs.Test.{when, ifLt, inRange}
 use Rattle.octets.specs.Octets.{Octets}
-use Rattle.octets.proofs.Test.{if-lt, lt-yes, lt-no, both, either, within, in-range}
-use Rattle.hex.specs.Line.{digit, isDigit, value, hex, unhex, all, lengthOk}
+use Rattle.octets.proofs.Test.{if-lt, lt-yes, lt-no, both, either, within, in-range, below-range, above-range}
+use Rattle.hex.specs.Line.{digit, isCapital, isDigit, value, hex, unhex, small, normal, all, lengthOk}
 
 pub digit-low : (n : ℕ) → n < 10 → digit n ≡ 48 + n
 unfolding digit
@@ -25,29 +25,35 @@ pub digit-high : (n : ℕ) → 10 ≤ n → digit n ≡ 87 + n
 unfolding digit
 digit-high n h = lt-no n 10 (48 + n) (87 + n) h
 
-pub value-low : (c : ℕ) → c < 97 → value c ≡ c - 48
+pub value-figure : (c : ℕ) → c < 65 → value c ≡ c - 48
 unfolding value
-value-low c h = lt-yes c 97 (c - 48) (c - 87) h
+value-figure c h = lt-yes c 65 (c - 48) (ifLt c 97 (c - 55) (c - 87)) h
 
-pub value-high : (c : ℕ) → 97 ≤ c → value c ≡ c - 87
+pub value-capital : (c : ℕ) → 65 ≤ c → c < 97 → value c ≡ c - 55
 unfolding value
-value-high c h = lt-no c 97 (c - 48) (c - 87) h
+value-capital c h g = lt-no c 65 (c - 48) (ifLt c 97 (c - 55) (c - 87)) h ∙ lt-yes c 97 (c - 55) (c - 87) g
 
--- a number's digit is a digit, and stands for that number
-record Shown (n c : ℕ) : Type 0 where
-  is : isDigit c ≡ true
-  back : value c ≡ n
+pub value-small : (c : ℕ) → 97 ≤ c → value c ≡ c - 87
+unfolding value
+value-small c h = lt-no c 65 (c - 48) (ifLt c 97 (c - 55) (c - 87)) (omega arith) ∙ lt-no c 97 (c - 55) (c - 87) h
 
-shown : (n : ℕ) → n < 16 → Shown n (digit n)
-unfolding digit isDigit
-shown n h =
-    if-lt (Shown n) n 10
-    (λ l. record { is = rw (in-range 48 57 (48 + n) (omega arith) (omega arith)) refl; back = value-low (48 + n) (omega arith) ∙ omega arith })
-    (λ l. record { is = rw (in-range 97 102 (87 + n) (omega arith) (omega arith)) (or-true (inRange 48 57 (87 + n))); back = value-high (87 + n) (omega arith) ∙ omega arith })
+-- capitals, and all other characters
+pub capital-range : (c : ℕ) → isCapital c ≡ true → (65 ≤ c) × (c ≤ 70)
+unfolding isCapital
+capital-range c t = within 65 70 c t
 
--- a digit is in one of two ranges
+pub before-capitals : (c : ℕ) → c < 65 → isCapital c ≡ false
+unfolding isCapital
+before-capitals c h = below-range 65 70 c h
+
+pub after-capitals : (c : ℕ) → 70 < c → isCapital c ≡ false
+unfolding isCapital
+after-capitals c h = above-range 65 70 c h
+
+-- a digit is in one of three ranges
 data Digit (c : ℕ) : Type 0 where
   figure : 48 ≤ c → c ≤ 57 → Digit c
+  capital : isCapital c ≡ true → Digit c
   letter : 97 ≤ c → c ≤ 102 → Digit c
 
 is-digit : (c : ℕ) → isDigit c ≡ true → Digit c
@@ -55,32 +61,81 @@ unfolding isDigit
 is-digit c h =
     ⊎-elim
     (λ (t : inRange 48 57 c ≡ true). figure (within 48 57 c t .0) (within 48 57 c t .1))
+    (λ (u : (isCapital c || inRange 97 102 c) ≡ true).
+    ⊎-elim
+    (λ (t : isCapital c ≡ true). capital t)
     (λ (t : inRange 97 102 c ≡ true). letter (within 97 102 c t .0) (within 97 102 c t .1))
-    (either (inRange 48 57 c) (inRange 97 102 c) h)
+    (either (isCapital c) (inRange 97 102 c) u))
+    (either (inRange 48 57 c) (isCapital c || inRange 97 102 c) h)
 
--- a digit's number is below 16, and its digit is that digit
+pub figure-digit : (c : ℕ) → 48 ≤ c → c ≤ 57 → isDigit c ≡ true
+unfolding isDigit
+figure-digit c h g = rw (in-range 48 57 c h g) refl
+
+pub capital-digit : (c : ℕ) → isCapital c ≡ true → isDigit c ≡ true
+unfolding isDigit
+capital-digit c h = rw h (or-true (inRange 48 57 c))
+
+pub letter-digit : (c : ℕ) → 97 ≤ c → c ≤ 102 → isDigit c ≡ true
+unfolding isDigit
+letter-digit c h g = rw (in-range 97 102 c h g, or-true (isCapital c)) (or-true (inRange 48 57 c))
+
+-- a number's digit is a digit and no capital, and stands for that number
+pub record Shown (n c : ℕ) : Type 0 where
+  pub is : isDigit c ≡ true
+  pub plain : isCapital c ≡ false
+  pub back : value c ≡ n
+
+pub shown : (n : ℕ) → n < 16 → Shown n (digit n)
+unfolding digit
+shown n h =
+    if-lt (Shown n) n 10
+    (λ l. record {
+      is = figure-digit (48 + n) (omega arith) (omega arith);
+      plain = before-capitals (48 + n) (omega arith);
+      back = value-figure (48 + n) (omega arith) ∙ omega arith;
+    })
+    (λ l. record {
+      is = letter-digit (87 + n) (omega arith) (omega arith);
+      plain = after-capitals (87 + n) (omega arith);
+      back = value-small (87 + n) (omega arith) ∙ omega arith;
+    })
+
+-- A digit's number is below 16, and its digit is that digit, made small. It is what the code makes of the character's halves.
 pub record Known (c v : ℕ) : Type 0 where
-  pub small : v < 16
-  pub back : digit v ≡ c
+  pub below : v < 16
+  pub back : digit v ≡ small c
+  pub halves : c % 16 + 9 * (c / 64) ≡ v
 
 pub known : (c : ℕ) → isDigit c ≡ true → Known c (value c)
-unfolding value
-known c h = if-lt (Known c) c 97 (λ l. low l (is-digit c h)) (λ l. high l (is-digit c h))
+unfolding small when
+known c h = by (is-digit c h)
   where
-    low : c < 97 → Digit c → Known c (c - 48)
-    low l (figure a b) = record { small = omega arith; back = digit-low (c - 48) (omega arith) ∙ omega arith }
-    low l (letter a b) = absurd (omega arith)
-
-    high : 97 ≤ c → Digit c → Known c (c - 87)
-    high l (figure a b) = absurd (omega arith)
-    high l (letter a b) = record { small = omega arith; back = digit-high (c - 87) (omega arith) ∙ omega arith }
-
-pub no-less : (c : ℕ) → isDigit c ≡ true → 48 ≤ c
-no-less c h = least (is-digit c h)
-  where
-    least : Digit c → 48 ≤ c
-    least (figure a b) = a
-    least (letter a b) = omega arith
+    by : Digit c → Known c (value c)
+    by (figure a b) =
+        rw (value-figure c (omega arith))
+        (record {
+          below = omega arith;
+          back = digit-low (c - 48) (omega arith) ∙ rw (before-capitals c (omega arith)) (omega arith);
+          halves = omega arith;
+        })
+    by (capital t) =
+        let r = capital-range c t in
+        let a : 65 ≤ c = r .0 in
+        let b : c ≤ 70 = r .1 in
+        rw (value-capital c a (omega arith))
+        (record {
+          below = omega arith;
+          back = digit-high (c - 55) (omega arith) ∙ rw t (omega arith);
+          halves = omega arith;
+        })
+    by (letter a b) =
+        rw (value-small c (omega arith))
+        (record {
+          below = omega arith;
+          back = digit-high (c - 87) (omega arith) ∙ rw (after-capitals c (omega arith)) (omega arith);
+          halves = omega arith;
+        })
 
 -- a test of every character, one character more
 pub all-more : (p : ℕ → Bool) (s : List ℕ) (i : ℕ) → i < length s → all p (take (i + 1) s) ≡ (all p (take i s) && p (getD s i 0))
@@ -155,7 +210,7 @@ hex-digits [] o = refl
 hex-digits (b ∷ s) o = rw (shown (b / 16) (omega (arith, o 0)) .is, shown (b % 16) (omega arith) .is) (hex-digits s (λ i. o (suc i)))
 
 -- writing what was read
-pub hex-unhex : (n : ℕ) (l : List ℕ) → length l ≡ 2 * n → all isDigit l ≡ true → hex (unhex l) ≡ l
+pub hex-unhex : (n : ℕ) (l : List ℕ) → length l ≡ 2 * n → all isDigit l ≡ true → hex (unhex l) ≡ normal l
 unfolding hex unhex all
 hex-unhex zero [] h t = refl
 hex-unhex zero (x ∷ l) h t = absurd (omega arith)
@@ -166,8 +221,8 @@ hex-unhex (suc n) (x ∷ y ∷ l) h t =
     let ty = both (isDigit y) (all isDigit l) (tx .1) in
     let kx = known x (tx .0) in
     let ky = known y (ty .0) in
-    rw (digits-div (value x) (ky .small), digits-mod (value x) (ky .small), kx .back, ky .back)
-    (ap (λ (r : List ℕ). x ∷ y ∷ r) (hex-unhex n l (omega arith) (ty .1)))
+    rw (digits-div (value x) (ky .below), digits-mod (value x) (ky .below), kx .back, ky .back)
+    (ap (λ (r : List ℕ). small x ∷ small y ∷ r) (hex-unhex n l (omega arith) (ty .1)))
 
 -- what question 1 asks
 pub record Even (n : ℕ) : Type 0 where

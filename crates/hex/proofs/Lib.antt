@@ -1,3 +1,4 @@
 pub mod Digits
 pub mod RoundTrip
+pub mod Normal
 pub mod Asked

@@ -1,4 +1,4 @@
--- A written line reads as its octets; a readable line, written again, is the same line; the edges.
+-- A written line reads as its octets; a readable line, written again, is its normal form; the edges.
 use Prim.Native.Nat.{ℕ, _*_, _/_, _%_, _≤_}
 use mathlib.Core.Path.{_≡_, refl, sym, ap, _∙_}
 use mathlib.Core.Bool.{true}
@@ -7,10 +7,10 @@ use native.Mathlib.Omega.{arith}
 use borrow.Author.Tests.{eq-eqb}
 use lib.ListN.{length, replicate}
 use Rattle.octets.specs.Sizes.{longestFrame}
-use Rattle.octets.specs.Test.{inRange, first, when, outcome, ok}
+use Rattle.octets.specs.Test.{ifLt, inRange, first, when, outcome, refused, ok}
 use Rattle.octets.specs.Octets.{Octets}
 use Rattle.octets.proofs.Test.{accepted, all-yes, in-range}
-use Rattle.hex.specs.Line.{isDigit, hex, unhex, all, lengthOk, lineQuestions, readLine}
+use Rattle.hex.specs.Line.{isCapital, isDigit, value, hex, unhex, normal, all, lengthOk, lineQuestions, readLine}
 use Rattle.hex.proofs.Digits.{right-length, length-hex, hex-digits, unhex-hex, hex-unhex}
 
 even-length : (n : ℕ) → 1 ≤ n → n ≤ longestFrame → lengthOk (2 * n) ≡ true
@@ -24,8 +24,8 @@ written-reads s o h g =
     let e : lengthOk (length (hex s)) ≡ true = ap lengthOk (length-hex s) ∙ even-length (length s) h g in
     simp (e, hex-digits s o) (ap ok (unhex-hex s o))
 
--- a readable line, written again, is the same line
-pub read-writes : (l : List ℕ) {s : List ℕ} → readLine l ≡ ok s → hex s ≡ l
+-- a readable line, written again, is its normal form
+pub read-writes : (l : List ℕ) {s : List ℕ} → readLine l ≡ ok s → hex s ≡ normal l
 unfolding readLine
 read-writes l h =
     let a = accepted (first (lineQuestions l)) (unhex l) h in
@@ -40,5 +40,20 @@ pub edges : (first (lineQuestions (replicate 156 48)) ≡ 0)
     × ((first (lineQuestions []) ≡ 1)
     × ((first (lineQuestions (replicate 156 122)) ≡ 2)
     × (first (lineQuestions (replicate 155 122)) ≡ 1)))))
-unfolding first when lengthOk inRange all isDigit
+unfolding first when lengthOk inRange all isDigit isCapital
 edges = (refl, (refl, (refl, (refl, (refl, refl)))))
+
+-- The edges of the three ranges: 09, AF, af and Af pass, each with its number; the six neighbours / : @ G ` g do not, in either place.
+abbrev pub Refused2 : ℕ → Type 0
+Refused2 c = (readLine (c ∷ 48 ∷ []) ≡ refused 2) × (readLine (48 ∷ c ∷ []) ≡ refused 2)
+
+pub ranges : (readLine (48 ∷ 57 ∷ []) ≡ ok (9 ∷ []))
+    × ((readLine (65 ∷ 70 ∷ []) ≡ ok (175 ∷ []))
+    × ((readLine (97 ∷ 102 ∷ []) ≡ ok (175 ∷ []))
+    × (readLine (65 ∷ 102 ∷ []) ≡ ok (175 ∷ []))))
+unfolding readLine first when outcome lengthOk inRange all isDigit isCapital unhex value ifLt
+ranges = (refl, (refl, (refl, refl)))
+
+pub neighbours : Refused2 47 × (Refused2 58 × (Refused2 64 × (Refused2 71 × (Refused2 96 × Refused2 103))))
+unfolding readLine first when outcome lengthOk inRange all isDigit isCapital
+neighbours = ((refl, refl), ((refl, refl), ((refl, refl), ((refl, refl), ((refl, refl), (refl, refl))))))

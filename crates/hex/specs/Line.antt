@@ -1,11 +1,12 @@
--- A line of text and the octets that it stands for: lower-case hexadecimal (document 01, "Frames"; questions 1 and 2).
+-- A line of text and the octets that it stands for: hexadecimal, written in small letters and read in either case (document 01, "Frames"; questions 1 and
+-- 2; document 02, N1).
 use Prim.Native.Nat.{ℕ, _+_, _-_, _*_, _/_, _%_}
-use mathlib.Core.Bool.{Bool, true, _&&_, _||_}
-use mathlib.Core.List.{List, [], _∷_}
+use mathlib.Core.Bool.{Bool, true, _&&_, _||_, not}
+use mathlib.Core.List.{List, [], _∷_, map}
 use lib.ListN.{length}
 use lib.Dec.{leb, eqb}
 use Rattle.octets.specs.Sizes.{longestFrame}
-use Rattle.octets.specs.Test.{ifLt, inRange, Question, first, Outcome, refused, ok, outcome}
+use Rattle.octets.specs.Test.{when, ifLt, inRange, Question, first, Outcome, refused, ok, outcome}
 use Rattle.hex.specs.declared.Line.{Line}
 use Rattle.hex.specs.declared.Line.the-variants.{Decoded, Refused}
 
@@ -13,13 +14,17 @@ use Rattle.hex.specs.declared.Line.the-variants.{Decoded, Refused}
 unfoldable pub digit : ℕ → ℕ
 digit n = ifLt n 10 (48 + n) (87 + n)
 
--- is the character one of 0-9, a-f?
+-- is the character one of A-F?
+unfoldable pub isCapital : ℕ → Bool
+isCapital c = inRange 65 70 c
+
+-- is the character one of 0-9, A-F, a-f?
 unfoldable pub isDigit : ℕ → Bool
-isDigit c = inRange 48 57 c || inRange 97 102 c
+isDigit c = inRange 48 57 c || (isCapital c || inRange 97 102 c)
 
 -- the number that a digit stands for
 unfoldable pub value : ℕ → ℕ
-value c = ifLt c 97 (c - 48) (c - 87)
+value c = ifLt c 65 (c - 48) (ifLt c 97 (c - 55) (c - 87))
 
 -- the digits of octets, the high half of each first
 unfoldable pub hex : List ℕ → List ℕ
@@ -32,9 +37,20 @@ unhex [] = []
 unhex (x ∷ []) = []
 unhex (x ∷ y ∷ l) = (value x * 16 + value y) ∷ unhex l
 
+-- a capital made small
+unfoldable pub small : ℕ → ℕ
+small c = when (isCapital c) (c + 32) c
+
+-- the normal form of a line, which is what its octets are written as: its capitals made small
+abbrev pub normal : List ℕ → List ℕ
+normal l = map small l
+
 unfoldable pub all : (ℕ → Bool) → List ℕ → Bool
 all p [] = true
 all p (c ∷ l) = p c && all p l
+
+abbrev pub noCapitals : List ℕ → Bool
+noCapitals l = all (λ (c : ℕ). not (isCapital c)) l
 
 -- has the line 2 to 156 characters, two for each octet of the longest frame, and an even number?
 unfoldable pub lengthOk : ℕ → Bool

@@ -40,10 +40,11 @@ pub fn write(s: &[u8], out: &mut [u8])
     }
 }
 
+// Question 2 of one character: a digit, with letters of either case.
 fn is_digit(c: u8) -> bool
     ensures { λ r. ⌜ r ≡ isDigit c ⌝ }
 {
-    ((b'0' <= c) & (c <= b'9')) | ((b'a' <= c) & (c <= b'f'))
+    ((b'0' <= c) & (c <= b'9')) | (((b'A' <= c) & (c <= b'F')) | ((b'a' <= c) & (c <= b'f')))
 }
 
 fn all_digits(line: &[u8]) -> bool
@@ -52,21 +53,20 @@ fn all_digits(line: &[u8]) -> bool
     let mut yes = true;
     let mut i = 0;
     while i < line.len() {
-        yes = yes & is_digit(line[i]);
+        let c = line[i];
+        yes = yes & is_digit(c);
         i += 1;
     }
     yes
 }
 
-// The number that a digit stands for.
+// The number that a digit stands for: the low four bits of its character, and nine more for a letter, since those of A and of a are 1. All letters, and no
+// figure, are 64 or above.
 fn to_value(c: u8) -> u8
     requires { ⌜ isDigit c ≡ true ⌝ }
     ensures { λ r. ⌜ (r ≡ value c) × (r < 16) ⌝ }
 {
-    if c < b'a' {
-        return c - b'0';
-    }
-    c - LETTERS
+    c % 16 + 9 * (c / 64)
 }
 
 // Writes the octets that the digits of line stand for to the start of out.

@@ -6,7 +6,8 @@ use borrow.Author.Tests.{le-leb}
 use lib.Dec.{leb}
 use lib.ListN.{length}
 use Rattle.octets.specs.Test.{when, first, ok, outcome}
-use Rattle.hex.specs.Line.{unhex}
+use Rattle.hex.specs.Line.{unhex, normal}
+use Rattle.hex.proofs.Normal.{asked-alike, unhex-normal}
 use Rattle.call_spec.specs.Calls.{performed, recordAfter}
 use Rattle.link.specs.Record.{format}
 use Rattle.link.specs.Lent.{freshRecord}
@@ -18,6 +19,7 @@ use Rattle.line_split.proofs.Long.{asks-cut}
 use Rattle.line_io.specs.declared.Place.{Place}
 use Rattle.line_io.specs.Answering.{Cuts, inputText}
 use Rattle.line_io.specs.Program.{Ran, Over, concat}
+use Rattle.line_io.proofs.Answers.{input-normal}
 use Rattle.line_io.proofs.Steps.{free, free-room}
 use Rattle.line_io.proofs.Program.{program-run}
 use Rattle.line.specs.Ends.{oneEnd}
@@ -28,6 +30,14 @@ same rec l = asks-cut ((11, leb (format .size) (length rec)) ∷ (12, format .so
 
 pub cuts : Cuts oneEnd
 cuts = record { next = λ rec l. ap (recordAfter format rec) (same rec l); says = λ rec l. ap (text rec) (same rec l) }
+
+-- A line counts as its normal form, so an input is answered in either case with the same text.
+either-case : (rec l : List ℕ) → lineOutcome rec (normal l) ≡ lineOutcome rec l
+unfolding lineOutcome
+either-case rec l = rw (asked-alike l, unhex-normal l) refl
+
+pub either-case-text : (input : List ℕ) → inputText oneEnd freshRecord (normal input) ≡ inputText oneEnd freshRecord input
+either-case-text = input-normal oneEnd (λ rec l. ap (recordAfter format rec) (either-case rec l)) (λ rec l. ap (text rec) (either-case rec l)) freshRecord
 
 -- where there is room for an answer, the line is asked
 pub asks : (rec line out : List ℕ) (filled : ℕ) → filled + answerRoom ≤ length out → inRoom rec line (free out filled) ≡ ok (lineOutcome rec line)

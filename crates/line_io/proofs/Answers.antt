@@ -1,11 +1,13 @@
--- The answers to lines that come in pieces, and are cut.
+-- The answers to lines that come in pieces, are cut, or have capitals.
 use Prim.Native.Nat.{ℕ}
 use mathlib.Core.Path.{_≡_, refl, sym, ap, _∙_}
 use mathlib.Core.List.{List, [], _∷_, _++_, append-assoc, map}
 use native.Mathlib.Omega.{arith}
 use lib.ListN.{length}
+use Rattle.hex.specs.Line.{normal}
 use Rattle.line_split.specs.Split.{ended, begun, last, linesOf, cut}
 use Rattle.line_split.proofs.Split.{ended-append, begun-append, ended-cut, begun-cut, cut-cut}
+use Rattle.line_split.proofs.Case.{lines-normal}
 use Rattle.line_io.specs.Answering.{Answering, Cuts, stateAfter, answers, inputText}
 
 module _ (a : Answering) where
@@ -33,16 +35,25 @@ pub record Fed (a : Answering) (s : a .State) (kept used : List ℕ) (s′ : a .
   pub part : kept′ ≡ cut (begun kept used)
   pub told : text ≡ answers a s (ended kept used)
 
-module _ {a : Answering} (c : Cuts a) where
-  pub answers-cut : (s : a .State) (ls : List (List ℕ)) → answers a s (map cut ls) ≡ answers a s ls
-  unfolding answers
-  answers-cut s [] = refl
-  answers-cut s (l ∷ ls) = rw (c .says s l, c .next s l, answers-cut (a .next s l) ls) refl
-
-  pub after-cut : (s : a .State) (ls : List (List ℕ)) → stateAfter a s (map cut ls) ≡ stateAfter a s ls
+-- Where a line counts as what f makes of it, so do many.
+module _ (a : Answering) (f : List ℕ → List ℕ) (next : (s : a .State) (l : List ℕ) → a .next s (f l) ≡ a .next s l) where
+  pub after-each : (s : a .State) (ls : List (List ℕ)) → stateAfter a s (map f ls) ≡ stateAfter a s ls
   unfolding stateAfter
-  after-cut s [] = refl
-  after-cut s (l ∷ ls) = ap (λ (t : a .State). stateAfter a t (map cut ls)) (c .next s l) ∙ after-cut (a .next s l) ls
+  after-each s [] = refl
+  after-each s (l ∷ ls) = ap (λ (t : a .State). stateAfter a t (map f ls)) (next s l) ∙ after-each (a .next s l) ls
+
+  pub answers-each : ((s : a .State) (l : List ℕ) → a .says s (f l) ≡ a .says s l) → (s : a .State) (ls : List (List ℕ))
+      → answers a s (map f ls) ≡ answers a s ls
+  unfolding answers
+  answers-each says s [] = refl
+  answers-each says s (l ∷ ls) = rw (says s l, next s l, answers-each says (a .next s l) ls) refl
+
+module _ {a : Answering} (c : Cuts a) where
+  pub after-cut : (s : a .State) (ls : List (List ℕ)) → stateAfter a s (map cut ls) ≡ stateAfter a s ls
+  after-cut = after-each a cut (c .next)
+
+  pub answers-cut : (s : a .State) (ls : List (List ℕ)) → answers a s (map cut ls) ≡ answers a s ls
+  answers-cut = answers-each a cut (c .next) (c .says)
 
   -- lines of which the same is kept
   answers-alike : (s : a .State) (k l : List (List ℕ)) → map cut k ≡ map cut l → answers a s k ≡ answers a s l
@@ -71,3 +82,9 @@ module _ {a : Answering} (c : Cuts a) where
   fed-whole {s = s} {x = x} f =
       rw (f .told, f .state, f .part, answers-append a s (ended [] x) (last (begun [] x)))
       (ap (λ (z : List ℕ). answers a s (ended [] x) ++ z) (answers-alike _ _ _ (last-alike (cut (begun [] x)) (begun [] x) (cut-cut (begun [] x)))))
+
+-- where each line counts as its normal form, so does the input
+pub input-normal : (a : Answering) → ((s : a .State) (l : List ℕ) → a .next s (normal l) ≡ a .next s l)
+    → ((s : a .State) (l : List ℕ) → a .says s (normal l) ≡ a .says s l) → (s : a .State) (input : List ℕ) → inputText a s (normal input) ≡ inputText a s input
+unfolding inputText
+input-normal a next says s input = ap (answers a s) (lines-normal input) ∙ answers-each a normal next says s (linesOf input)

@@ -14,19 +14,19 @@ use Rattle.line_split.specs.Split.{ended, begun, last, linesOf, longestK
 
 -- one character more: a line feed, and any other
 module _ (part : List ℕ) (c : ℕ) (s : List ℕ) where
-  ended-feed : c ≡ lineFeed → ended part (c ∷ s) ≡ part ∷ ended [] s
+  pub ended-feed : c ≡ lineFeed → ended part (c ∷ s) ≡ part ∷ ended [] s
   unfolding ended
   ended-feed e = eq-yes c lineFeed _ _ e
 
-  ended-other : c ≢ lineFeed → ended part (c ∷ s) ≡ ended (part ++ (c ∷ [])) s
+  pub ended-other : c ≢ lineFeed → ended part (c ∷ s) ≡ ended (part ++ (c ∷ [])) s
   unfolding ended
   ended-other e = eq-no c lineFeed _ _ e
 
-  begun-feed : c ≡ lineFeed → begun part (c ∷ s) ≡ begun [] s
+  pub begun-feed : c ≡ lineFeed → begun part (c ∷ s) ≡ begun [] s
   unfolding begun
   begun-feed e = eq-yes c lineFeed _ _ e
 
-  begun-other : c ≢ lineFeed → begun part (c ∷ s) ≡ begun (part ++ (c ∷ [])) s
+  pub begun-other : c ≢ lineFeed → begun part (c ∷ s) ≡ begun (part ++ (c ∷ [])) s
   unfolding begun
   begun-other e = eq-no c lineFeed _ _ e
 

@@ -2,7 +2,7 @@
 // 1: the line has not 2 to 156 characters, an even number.
 pub const BAD_LENGTH: u8 = 1;
 
-// 2: a character is none of 0-9, a-f.
+// 2: a character is none of 0-9, A-F, a-f.
 pub const BAD_DIGIT: u8 = 2;
 
 // 3: the call does not know the kind.

@@ -1,7 +1,7 @@
 //! Reading and writing lines.
 
 use crate::call::Call;
-use cases::alter::damage;
+use cases::alter::{capitals, damage};
 use cases::group::Group;
 use cases::hex::Hex;
 use cases::random::Random;
@@ -91,7 +91,8 @@ fn every_length() -> impl Iterator<Item = Vec<u8>> {
         .flat_map(move |length| [hex_digits(&mut random, length), vec![b'z'; length]])
 }
 
-/// Lines of any length, mostly readable ones, with no or a few wrong characters.
+/// Lines of any length, mostly readable ones, a fifth with capitals, with no or a few wrong
+/// characters.
 fn random_lines() -> impl Iterator<Item = Vec<u8>> {
     let mut random = Random::new(5);
     (0..RANDOM_LINES).map(move |_| {
@@ -101,6 +102,7 @@ fn random_lines() -> impl Iterator<Item = Vec<u8>> {
             _ => 2 * random.within(1..=LONGEST_FRAME),
         };
         let mut line = hex_digits(&mut random, length);
+        capitals(&mut random, &mut line);
         for _ in 0..random.pick(&[0, 0, 0, 1, 2, 5]) {
             damage(&mut random, &mut line);
         }

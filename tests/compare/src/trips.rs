@@ -3,6 +3,7 @@
 use crate::codec::{Codec, Fields};
 use crate::messages;
 use crate::proved::Proved;
+use cases::alter::capitals;
 use cases::group::Group;
 use cases::hex::Hex;
 use cases::random::Random;
@@ -48,15 +49,16 @@ fn frames_written_and_read() -> Group {
     group
 }
 
-/// A line whose bytes are written again is the same line.
+/// A line whose bytes are written again is the same line with its capitals made small.
 fn lines_read_and_written() -> Group {
     let mut group = Group::new("lines read and written again", &[0]);
     let mut random = Random::new(20);
     for _ in 0..RANDOM_LINES {
         let length = 2 * random.within(1..=LONGEST_FRAME);
-        let line = hex_digits(&mut random, length);
+        let mut line = hex_digits(&mut random, length);
+        capitals(&mut random, &mut line);
         let end = read_line(&line).and_then(|bytes| write_line(&bytes.0));
-        check(&mut group, Hex(line), end);
+        check(&mut group, Hex(line.to_ascii_lowercase()), end);
     }
     group
 }

@@ -36,7 +36,9 @@ fn altered(seed: u64, source: &Script) -> Script {
     let mut script = Script::default();
     for line in source.lines() {
         match random.within(0..=7) {
-            0 => script.push(&with_fault(&mut random, line)),
+            0 => {
+                script.push(&with_fault(&mut random, line));
+            }
             1 => script.push_line(&damaged(&mut random, line)),
             2 => {
                 script.push(&with_fault(&mut random, line));

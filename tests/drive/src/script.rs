@@ -1,5 +1,7 @@
 //! Scripts: the whole input of a program.
 
+use cases::alter::capitals;
+use cases::random::Random;
 use reference::line;
 
 /// The bytes that a program reads.
@@ -7,9 +9,14 @@ use reference::line;
 pub struct Script(pub Vec<u8>);
 
 impl Script {
-    /// Appends a frame or request as a line.
-    pub fn push(&mut self, message: &[u8]) {
-        self.push_line(&line::write(message));
+    /// Appends a frame or request as a line, a fifth of them with capitals as their place in the
+    /// script decides. Gives the line.
+    pub fn push(&mut self, message: &[u8]) -> &[u8] {
+        let start = self.0.len();
+        let mut line = line::write(message);
+        capitals(&mut Random::new(start as u64), &mut line);
+        self.push_line(&line);
+        &self.0[start..start + line.len()]
     }
 
     /// Appends a line as it is.
@@ -61,9 +68,21 @@ mod tests {
     #[test]
     fn messages_become_lines() {
         let mut script = Script::default();
-        script.push(&[0x40]);
-        script.push(&[0x44, 1, 0xff]);
-        assert_eq!(script.0, b"40\n4401ff\n");
-        assert_eq!(script.unfinished().0, b"40\n4401ff");
+        assert_eq!(script.push(&[0x40]), b"40");
+        assert!(script
+            .push(&[0x44, 1, 0xff])
+            .eq_ignore_ascii_case(b"4401ff"));
+        assert!(script.0.eq_ignore_ascii_case(b"40\n4401ff\n"));
+        assert!(script.unfinished().0.eq_ignore_ascii_case(b"40\n4401ff"));
+    }
+
+    #[test]
+    fn a_fifth_of_the_messages_has_capitals() {
+        let mut script = Script::default();
+        for _ in 0..10_000 {
+            script.push(&[0xab, 0xcd, 0xef]);
+        }
+        let small = script.lines().filter(|line| line == b"abcdef").count();
+        assert!((7_800..8_200).contains(&small), "{small}");
     }
 }

@@ -1,4 +1,5 @@
-//! Lines: bytes as lower-case hexadecimal. The line feed is not part of them.
+//! Lines: bytes in hexadecimal, read in either case and written in small letters. The line feed is
+//! not part of them.
 
 use crate::frame::LONGEST_FRAME;
 use crate::Refusal;
@@ -61,6 +62,7 @@ fn ask_length(line: &[u8]) -> Result<(), Refusal> {
 fn digit(character: u8) -> Result<u8, Refusal> {
     match character {
         b'0'..=b'9' => Ok(character - b'0'),
+        b'A'..=b'F' => Ok(character - b'A' + 10),
         b'a'..=b'f' => Ok(character - b'a' + 10),
         _ => Err(Refusal::LineCharacter),
     }
@@ -109,12 +111,33 @@ mod tests {
     }
 
     #[test]
-    fn only_the_sixteen_digits_pass() {
+    fn only_the_sixteen_digits_pass_with_letters_of_either_case() {
         for character in 0..=u8::MAX {
-            let is_digit = DIGITS.contains(&character);
-            assert_eq!(read(&[character, b'0']).is_ok(), is_digit);
-            assert_eq!(read(&[b'0', character]).is_ok(), is_digit);
+            let small = character.to_ascii_lowercase();
+            let value = (0..16).find(|&value: &u8| DIGITS[usize::from(value)] == small);
+            let wanted = |byte: Option<u8>| byte.map(|byte| vec![byte]);
+            assert_eq!(
+                read(&[character, b'0']).ok(),
+                wanted(value.map(|value| value << 4))
+            );
+            assert_eq!(read(&[b'0', character]).ok(), wanted(value));
         }
+    }
+
+    #[test]
+    fn the_neighbours_of_the_digits_are_refused() {
+        for character in *b"/:@G`g" {
+            for line in [[character, b'0'], [b'0', character]] {
+                assert_eq!(read(&line), Err(Refusal::LineCharacter));
+            }
+        }
+    }
+
+    #[test]
+    fn cases_may_be_mixed_and_what_is_written_is_small() {
+        let bytes = read(b"0aBcDEfF4A").unwrap();
+        assert_eq!(bytes, [0x0a, 0xbc, 0xde, 0xff, 0x4a]);
+        assert_eq!(write(&bytes), b"0abcdeff4a");
     }
 
     #[test]

@@ -6,7 +6,7 @@
 pub enum Refusal {
     /// The line has not 2 to 156 characters, an even number.
     LineLength = 1,
-    /// A character of the line is none of 0-9, a-f.
+    /// A character of the line is none of 0-9, A-F, a-f.
     LineCharacter = 2,
     /// The kind is not known to the call.
     Kind = 3,

@@ -1,6 +1,6 @@
 //! Scenes: two sound records and a book, right or damaged, and lines for them.
 
-use crate::alter::{alter, damage};
+use crate::alter::{alter, capitals, damage};
 use crate::near;
 use crate::random::Random;
 use crate::records::sound;
@@ -112,9 +112,11 @@ impl Scene {
         }
     }
 
-    /// A line for this scene, now and then with wrong characters or a wrong length.
+    /// A line for this scene, in a fifth of the cases with capitals, now and then with wrong
+    /// characters or a wrong length.
     pub fn line(&self, random: &mut Random) -> Vec<u8> {
         let mut line = line::write(&self.bytes(random));
+        capitals(random, &mut line);
         match random.within(0..=31) {
             0 | 1 => damage(random, &mut line),
             2 => line.truncate(random.within(0..=line.len())),

@@ -281,23 +281,40 @@ struct Misreading<const FAULT: u8>;
 const ASKS_1_BEFORE_12: u8 = 0;
 const ASKS_2_BEFORE_1: u8 = 1;
 const TELLS_OF_B_AS_2_REFUSES: u8 = 2;
-const TAKES_CAPITALS: u8 = 3;
+const REFUSES_CAPITALS: u8 = 3;
 const TAKES_158_DIGITS: u8 = 4;
 const CUTS_THE_LENGTH: u8 = 5;
+const REFUSES_A_SECOND_CAPITAL: u8 = 6;
+const TAKES_G: u8 = 7;
+const TAKES_THE_AT_SIGN: u8 = 8;
+const TAKES_THE_BACKQUOTE: u8 = 9;
+const READS_A_AS_11: u8 = 10;
+
+/// The line with this character in place of that one.
+fn replaced(line: &[u8], wrong: u8, right: u8) -> Vec<u8> {
+    let character = |&character: &u8| if character == wrong { right } else { character };
+    line.iter().map(character).collect()
+}
 
 impl<const FAULT: u8> Bench for Misreading<FAULT> {
     fn line(lent: Lent, line: &[u8]) -> Reply {
-        let is_digit = |character: &u8| matches!(character, b'0'..=b'9' | b'a'..=b'f');
-        let lower = line.to_ascii_lowercase();
+        let is_capital = |character: &u8| matches!(character, b'A'..=b'F');
         let mut reply = match FAULT {
-            TAKES_CAPITALS => Reference::line(lent, &lower),
+            REFUSES_CAPITALS if line.iter().any(is_capital) => Reference::line(lent, b"zz"),
+            REFUSES_A_SECOND_CAPITAL if line.iter().skip(1).step_by(2).any(is_capital) => {
+                Reference::line(lent, b"zz")
+            }
+            TAKES_G => Reference::line(lent, &replaced(line, b'G', b'0')),
+            TAKES_THE_AT_SIGN => Reference::line(lent, &replaced(line, b'@', b'0')),
+            TAKES_THE_BACKQUOTE => Reference::line(lent, &replaced(line, b'`', b'0')),
+            READS_A_AS_11 => Reference::line(lent, &replaced(line, b'A', b'B')),
             TAKES_158_DIGITS if line.len() == 158 => Reference::line(lent, &line[..156]),
             CUTS_THE_LENGTH => Reference::line(lent, &line[..line.len() & 0xffff]),
             _ => Reference::line(lent, line),
         };
         match FAULT {
             ASKS_1_BEFORE_12 if line.len() % 2 == 1 => reply.end.number = 1,
-            ASKS_2_BEFORE_1 if reply.end.number == 1 && !line.iter().all(is_digit) => {
+            ASKS_2_BEFORE_1 if reply.end.number == 1 && !line.iter().all(u8::is_ascii_hexdigit) => {
                 reply.end.number = 2;
             }
             TELLS_OF_B_AS_2_REFUSES if reply.end.number == 2 && line.starts_with(b"51") => {
@@ -319,7 +336,12 @@ fn every_fault_of_reading_is_found() {
         failed::<Misreading<ASKS_1_BEFORE_12>>(),
         failed::<Misreading<ASKS_2_BEFORE_1>>(),
         failed::<Misreading<TELLS_OF_B_AS_2_REFUSES>>(),
-        failed::<Misreading<TAKES_CAPITALS>>(),
+        failed::<Misreading<REFUSES_CAPITALS>>(),
+        failed::<Misreading<REFUSES_A_SECOND_CAPITAL>>(),
+        failed::<Misreading<TAKES_G>>(),
+        failed::<Misreading<TAKES_THE_AT_SIGN>>(),
+        failed::<Misreading<TAKES_THE_BACKQUOTE>>(),
+        failed::<Misreading<READS_A_AS_11>>(),
         failed::<Misreading<TAKES_158_DIGITS>>(),
         failed::<Misreading<CUTS_THE_LENGTH>>(),
     ];

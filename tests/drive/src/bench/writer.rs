@@ -11,7 +11,7 @@ use reference::bench::book::PLACES;
 use reference::bench::program::BenchProgram;
 use reference::bench::Side;
 use reference::request::{CONNECT, END_LISTENING, SEND, TIMER};
-use reference::{line, State};
+use reference::State;
 
 /// A bench, all that it was asked, and how far each end's deliveries have come.
 #[derive(Default)]
@@ -105,9 +105,8 @@ impl Writer {
 
     /// Adds the line to the script; gives the number of its answer.
     fn line(&mut self, bytes: &[u8]) -> u8 {
-        let line = line::write(bytes);
-        self.script.push_line(&line);
-        BenchProgram::number(&self.program.answer(&line))
+        let line = self.script.push(bytes);
+        BenchProgram::number(&self.program.answer(line))
     }
 
     /// The state of this end.
