@@ -1,5 +1,5 @@
 /*
- * Two ends in one program, over a mesh that loses, repeats and reorders frames.
+ * Two ends in one program, over a mesh that loses, repeats and reorders frames. What comes early is held, and collected in its turn.
  * Expect: both connect, each hears the other's whole text, and both close (host.out). The mesh is the same in every run.
  */
 #include <stdio.h>
@@ -67,7 +67,7 @@ static void ask(struct host *h, struct host *other, uint8_t kind) {
     follow(h, other, &a);
 }
 
-/* Some frame on its way arrives, in no order; one in three stays and will arrive again. */
+/* Some frame on its way arrives, in no order; one in three stays and will arrive again. After a block come those held for their turn. */
 static void arrive(struct host *h, struct host *other) {
     if (h->coming_len == 0)
         return;
@@ -81,6 +81,10 @@ static void arrive(struct host *h, struct host *other) {
         exit(1);
     }
     follow(h, other, &a);
+    while (a.block > 0) {
+        a = dock_collect(&h->end);
+        follow(h, other, &a);
+    }
 }
 
 /* The next part of the text, as long as there is room for it. */

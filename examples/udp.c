@@ -2,13 +2,17 @@
  * A host over a real network: two processes, one end each, speak UDP with each other and make their timer calls by a clock.
  * Expect: both connect, each hears the other's whole file as it was sent, and both close (udp.out), whatever the network does.
  *
- *     udp [SEED [BLOCKS [LOSS]]]     udp alone is udp 1 10000 20
+ *     udp [--forget] [--steps] [SEED [BLOCKS [LOSS]]]     udp alone is udp 1 1000 20
  *
  * The stock room listens and the dock connects. Then each sends the other a file, both at the same time, with up to eight blocks on
  * their way; when both have heard all of it the dock closes. Between them, on the loopback address, stands a relay that loses, repeats
  * and reorders their frames. SEED makes the files and the relay's choices, BLOCKS is the length of each file in blocks (the last is a
- * short one), LOSS says how many frames of a hundred are lost. Standard output is the same in every run with as many BLOCKS; what
- * varies goes to standard error. The status is 0 only if all was as expected.
+ * short one), LOSS says how many frames of a hundred are lost. Standard output is the same in every run with as many BLOCKS; the counts
+ * go to standard error. The status is 0 only if all was as expected.
+ *
+ * An end holds the blocks that come before their turn. What that is worth is seen from the blocks sent again, with and without
+ * --forget: with it, ends forget such blocks, as they once did. With --steps there is no network, but one process in which the hosts
+ * and the relay take turns, and time is the number of turns: so the counts are the same in every run too, however busy the machine is.
  *
  * Part 1 is the host: it is there to be copied. Part 2 is the relay, for which a terminal has its network, and Part 3 starts them and
  * compares the files.
@@ -40,9 +44,8 @@
  * frame lost, and the link mends it: so no error of send or recv ends a host. Only its limits do.
  */
 
-/* All times are in milliseconds. */
-#define TIMEOUT 2            /* until a timer call: longer than a frame and its acknowledgement take, which on loopback is soon */
-#define COPIES 2             /* timer calls at a time: where one frame in five is lost, a frame more is cheaper than a timeout more */
+/* All times are in milliseconds (with --steps, in steps). */
+#define TIMEOUT 4            /* until a timer call: longer than a frame and its acknowledgement take, even if both are delayed */
 #define LINGER 1000          /* one whom its partner closed goes on answering until it has heard nothing for so long */
 #define SILENCE 30000        /* the partner is gone if nothing was heard for so long */
 #define CLOSE_TRIES 5000     /* timer calls of a closing end; then it gives up, and that is a failure */
@@ -58,12 +61,12 @@ struct host {
     FILE *file;  /* what it has to send */
     FILE *heard; /* where goes what it hears */
     FILE *told;  /* where it tells its notices */
+    dock_answer (*hear)(dock_end *end, const uint8_t *frame, size_t len); /* dock_hear; Part 3 has another one, for comparison */
 
     /* How it stands. */
     dock_end end;
     uint8_t state;
     unsigned waiting; /* how many blocks wait for their acknowledgement */
-    unsigned mending; /* how many of them, the oldest, were lost as far as is known, and have to be sent again */
     uint8_t next[DOCK_BLOCK];
     size_t next_len;     /* the block to be sent next; length 0: none is left */
     uint64_t due, bytes; /* the length of the partner's file, and how much of it was heard */
@@ -75,7 +78,8 @@ struct host {
     const char *trouble; /* or else, why the host gives up */
 
     /* For those who want to know. */
-    unsigned long frames, again, timeouts, close_tries, refused;
+    unsigned long frames, first, again; /* frames sent; blocks among them that were sent for the first time, and again */
+    unsigned long collected, close_tries, refused;
 };
 
 static int64_t clock_now(void) {
@@ -185,24 +189,12 @@ static void ask(struct host *h, uint8_t kind) {
 /*
  * When to send again.
  *
- * In the open state a timer call sends the oldest waiting block again, and no other. A receiver takes blocks in their order only: it
- * drops those that come before their turn. So where a block is lost, those after it that were on their way are lost too, up to seven,
- * and each has to be sent again by a timer call of its own, which can be made when it has become the oldest. The rule:
+ * When the deadline has passed and nothing moved, a timer call. In the open state that sends the oldest waiting block again, and no
+ * other; and no other is needed: what came after it is held at the partner's end. When the oldest arrives they all come up with it, as
+ * far as the next one that was lost. So a block lost costs one block sent again, and a host need not hold back new ones meanwhile.
  *
- * - When the deadline has passed and nothing moved, all blocks that wait are taken for lost (mending = waiting): a timer call.
- * - When an acknowledgement lets blocks go, they are mended. If some of the lost ones are left: a timer call at once.
- * - While some are left no new blocks are sent, as they would be dropped.
- *
- * Without the second line each block would cost a timeout of its own. A timer call that comes too early does no harm: it costs a frame.
+ * A timer call that comes too early does no harm: it costs a frame.
  */
-static void timer_call(struct host *h) {
-    h->deadline = h->now + TIMEOUT;
-    for (int i = 0; i < COPIES; i++) {
-        h->again += h->state == DOCK_OPEN;
-        h->close_tries += h->state == DOCK_CLOSING;
-        ask(h, DOCK_TIMER);
-    }
-}
 
 /* In these states a timer call sends something. */
 static int needs_timer(const struct host *h) {
@@ -212,31 +204,34 @@ static int needs_timer(const struct host *h) {
 static void look_at_clock(struct host *h) {
     if (!needs_timer(h) || h->now < h->deadline)
         return;
-    h->timeouts++;
-    h->mending = h->waiting;
-    timer_call(h);
+    h->deadline = h->now + TIMEOUT;
+    h->again += h->state == DOCK_OPEN;
+    h->close_tries += h->state == DOCK_CLOSING;
+    ask(h, DOCK_TIMER);
 }
 
-/* A datagram arrived. One that is no frame is refused and changes nothing: a host counts it, and goes on. */
+/* A datagram arrived. One that is no frame is refused and changes nothing: a host counts it, and goes on. A block that was handed up
+ * may have been what held ones waited for; the end does not hand them up by itself, so they are collected until there are no more. */
 static void hear(struct host *h, const uint8_t *frame, size_t len) {
-    unsigned waiting = h->waiting;
-    dock_answer a = dock_hear(&h->end, frame, len);
+    dock_answer a = h->hear(&h->end, frame, len);
     h->refused += a.number != DOCK_OK;
     obey(h, &a);
-    unsigned gone = waiting - h->waiting;
-    h->mending -= gone < h->mending ? gone : h->mending;
-    if (gone > 0 && h->mending > 0)
-        timer_call(h);
+    while (a.block > 0) {
+        a = dock_collect(&h->end);
+        h->collected += a.block > 0;
+        obey(h, &a);
+    }
 }
 
 /* Sends as much of the file as there is room for. A block that finds none stays the next one. */
 static void send_more(struct host *h) {
-    while (h->state == DOCK_OPEN && h->mending == 0 && h->next_len > 0 && h->trouble == NULL) {
+    while (h->state == DOCK_OPEN && h->next_len > 0 && h->trouble == NULL) {
         dock_answer a = dock_send(&h->end, h->next, h->next_len);
         if (a.number == DOCK_QUEUE_FULL)
             return;
         if (a.number != DOCK_OK)
             h->trouble = dock_number_name(a.number);
+        h->first++;
         obey(h, &a);
         read_next(h);
     }
@@ -248,15 +243,18 @@ static void close_if_done(struct host *h) {
         ask(h, DOCK_CLOSE);
 }
 
-/* Waits for a frame, until the timer call is due, and reads those that have come. The buffer has one byte more than a frame, so that a
- * datagram that is too long is not taken for a frame, cut short. */
-static void wait_and_hear(struct host *h) {
-    uint8_t frame[DOCK_FRAME + 1];
+/* Sleeps until a frame is there or the timer call is due. */
+static void wait_for_frame(const struct host *h) {
     struct pollfd p = {.fd = h->socket, .events = POLLIN};
     int64_t left = needs_timer(h) ? h->deadline - clock_now() : LINGER / 4;
-    int ready = poll(&p, 1, left > 0 ? (int)left : 0);
-    h->now = clock_now();
-    for (int i = 0; ready > 0 && i < AT_ONCE; i++) {
+    (void)poll(&p, 1, left > 0 ? (int)left : 0);
+}
+
+/* Reads the frames that have come. The buffer has one byte more than a frame, so that a datagram that is too long is not taken for a
+ * frame, cut short. */
+static void hear_all(struct host *h) {
+    uint8_t frame[DOCK_FRAME + 1];
+    for (int i = 0; i < AT_ONCE; i++) {
         ssize_t len = recv(h->socket, frame, sizeof frame, 0);
         if (len < 0) /* no more is there, or the partner is not */
             return;
@@ -281,32 +279,36 @@ static void look_at_limits(struct host *h) {
         h->trouble = "it took too many frames";
 }
 
-/* In numbers, for those who want to know. */
-static void report(const struct host *h) {
-    fprintf(stderr, "%s: %lu frames sent, %lu blocks sent again, %lu timeouts, %lu frames refused, %.1f s%s%s\n", h->name, h->frames,
-            h->again, h->timeouts, h->refused, (double)(h->now - h->began) / 1000, h->trouble ? "; gave up: " : "",
-            h->trouble ? h->trouble : "");
-}
-
-/* A whole connection, from a fresh end on. Answers whether all went well. A terminal makes its end fresh once in its life, and keeps
- * the record from then on, also while it is switched off: the numbers in it are what keeps old frames out. */
-static int run_host(struct host *h) {
+/* A host begins with a fresh end. A terminal makes its end fresh once in its life, and keeps the record from then on, also while it is
+ * switched off: the numbers in it are what keeps old frames out. */
+static void start_host(struct host *h, int64_t now) {
     dock_init(&h->end);
-    h->now = h->began = h->heard_at = clock_now();
+    h->now = h->began = h->heard_at = now;
     start_file(h);
     ask(h, h->calls ? DOCK_CONNECT : DOCK_LISTEN);
-    while (!h->finished && h->trouble == NULL) {
-        wait_and_hear(h);
-        look_at_clock(h);
-        send_more(h);
-        close_if_done(h);
-        look_at_limits(h);
+}
+
+/* What a host does again and again. */
+static void host_turn(struct host *h, int64_t now) {
+    h->now = now;
+    hear_all(h);
+    look_at_clock(h);
+    send_more(h);
+    close_if_done(h);
+    look_at_limits(h);
+}
+
+static int is_done(const struct host *h) {
+    return h->finished || h->trouble != NULL;
+}
+
+/* A whole connection. */
+static void run_host(struct host *h) {
+    start_host(h, clock_now());
+    while (!is_done(h)) {
+        wait_for_frame(h);
+        host_turn(h, clock_now());
     }
-    fprintf(h->told, "%s: heard %" PRIu64 " bytes in %" PRIu64 " blocks\n", h->name, h->bytes, h->blocks);
-    if (fflush(h->heard) != 0 || fflush(h->told) != 0)
-        h->trouble = "what was heard cannot be written";
-    report(h);
-    return h->trouble == NULL;
 }
 
 /*
@@ -315,14 +317,13 @@ static int run_host(struct host *h) {
  * It has a socket for each host and passes on to the other what the one sends, badly.
  */
 
-#define REPEATED 5   /* of a hundred frames that are not lost */
-#define HELD_BACK 25 /* of a hundred of them, too */
-#define PASSED_BY 7  /* a frame that is held back is let go after so many later ones at most, */
-#define HOLD_TIME 3  /* or after so long: nothing is held for ever */
-#define NAP 20       /* the longest time that the relay sleeps */
+#define REPEATED 5  /* of a hundred frames that are not lost */
+#define DELAYED 25  /* of a hundred of them, too */
+#define PASSED_BY 7 /* a delayed frame goes after so many later ones at most, */
+#define DELAY 1     /* or after so long: nothing is delayed for ever */
+#define NAP 20      /* the longest time that the relay sleeps */
 
-/* A frame that is held back. */
-struct held {
+struct delayed {
     uint8_t bytes[DOCK_FRAME + 1];
     size_t len;
     uint32_t after; /* how many later ones have still to come */
@@ -330,94 +331,103 @@ struct held {
     int overtaken; /* a later one has passed it */
 };
 
-/* From one host to the other. What is held back stands in the order in which it came: those of the last PASSED_BY frames, and one. */
+/* From one host to the other. What is delayed stands in the order in which it came: those of the last PASSED_BY frames, and one. */
 struct direction {
     int from, to;
-    struct held held[PASSED_BY + 1];
-    size_t held_len;
+    uint64_t seed;
+    struct delayed delayed[PASSED_BY + 1];
+    size_t delayed_len;
 };
 
 struct relay {
     struct direction directions[2];
     uint32_t loss;
+    int64_t now;
     unsigned long taken, lost, repeated, reordered;
 };
 
-static uint64_t seed;
-
 /* A number below n. */
-static uint32_t below(uint32_t n) {
-    seed ^= seed << 13;
-    seed ^= seed >> 7;
-    seed ^= seed << 17;
-    return (uint32_t)(seed >> 32) % n;
+static uint32_t below(uint64_t *seed, uint32_t n) {
+    *seed ^= *seed << 13;
+    *seed ^= *seed >> 7;
+    *seed ^= *seed << 17;
+    return (uint32_t)(*seed >> 32) % n;
 }
 
-/* Sends a frame on. It overtakes those that came before it and are held: the first so many. */
+/* Sends a frame on. It overtakes those that came before it and are delayed: the first so many. */
 static void pass_on(struct direction *d, const uint8_t *bytes, size_t len, size_t before) {
     for (size_t i = 0; i < before; i++)
-        d->held[i].overtaken = 1;
+        d->delayed[i].overtaken = 1;
     (void)send(d->to, bytes, len, 0);
 }
 
-static void hold_back(struct direction *d, const uint8_t *bytes, size_t len) {
-    struct held *f = &d->held[d->held_len++];
+static void delay(struct direction *d, const uint8_t *bytes, size_t len, uint32_t after, int64_t deadline) {
+    struct delayed *f = &d->delayed[d->delayed_len++];
     memcpy(f->bytes, bytes, len);
     f->len = len;
-    f->after = 1 + below(PASSED_BY);
-    f->deadline = clock_now() + HOLD_TIME;
+    f->after = after;
+    f->deadline = deadline;
     f->overtaken = 0;
 }
 
 /* Those whose time has come go. */
 static void let_go(struct relay *r, struct direction *d) {
-    int64_t now = clock_now();
     size_t kept = 0;
-    for (size_t i = 0; i < d->held_len; i++) {
-        struct held f = d->held[i];
-        if (f.after > 0 && now < f.deadline) {
-            d->held[kept++] = f;
+    for (size_t i = 0; i < d->delayed_len; i++) {
+        struct delayed f = d->delayed[i];
+        if (f.after > 0 && r->now < f.deadline) {
+            d->delayed[kept++] = f;
             continue;
         }
         pass_on(d, f.bytes, f.len, kept);
         r->reordered += f.overtaken != 0;
     }
-    d->held_len = kept;
+    d->delayed_len = kept;
 }
 
-/* A frame came from one host: it is lost, or goes to the other once or twice, now or later. */
+/* A frame came from one host: it is lost, or goes to the other once or twice, now or later. Its fate is drawn whole, also where it is
+ * lost, so that the nth frame of a direction has the same fate in every run with this SEED, whatever the hosts do otherwise. */
 static void take_frame(struct relay *r, struct direction *d, const uint8_t *bytes, size_t len) {
+    int lost = below(&d->seed, 100) < r->loss;
+    int repeated = below(&d->seed, 100) < REPEATED;
+    int delayed = below(&d->seed, 100) < DELAYED;
+    uint32_t after = 1 + below(&d->seed, PASSED_BY);
     r->taken++;
-    for (size_t i = 0; i < d->held_len; i++)
-        d->held[i].after--;
-    if (below(100) < r->loss) {
+    for (size_t i = 0; i < d->delayed_len; i++)
+        d->delayed[i].after--;
+    if (lost) {
         r->lost++;
     } else {
-        if (below(100) < REPEATED) {
+        if (repeated) {
             r->repeated++;
-            pass_on(d, bytes, len, d->held_len);
+            pass_on(d, bytes, len, d->delayed_len);
         }
-        if (below(100) < HELD_BACK)
-            hold_back(d, bytes, len);
+        if (delayed)
+            delay(d, bytes, len, after, r->now + DELAY);
         else
-            pass_on(d, bytes, len, d->held_len);
+            pass_on(d, bytes, len, d->delayed_len);
     }
     let_go(r, d);
 }
 
-/* Waits a little for frames, takes those that have come, and lets go what was held back for long enough. */
-static void relay_turn(struct relay *r) {
+/* Sleeps until a frame is there, but not for long. */
+static void wait_for_frames(const struct relay *r) {
     struct pollfd p[2];
-    uint8_t bytes[DOCK_FRAME + 1];
-    int holds = 0;
+    int delays = 0;
     for (int i = 0; i < 2; i++) {
         p[i] = (struct pollfd){.fd = r->directions[i].from, .events = POLLIN};
-        holds |= r->directions[i].held_len > 0;
+        delays |= r->directions[i].delayed_len > 0;
     }
-    int ready = poll(p, 2, holds ? 1 : NAP);
+    (void)poll(p, 2, delays ? DELAY : NAP);
+}
+
+/* Takes the frames that have come, and lets go what was delayed for long enough. */
+static void relay_turn(struct relay *r, int64_t now) {
+    uint8_t bytes[DOCK_FRAME + 1];
+    r->now = now;
     for (int i = 0; i < 2; i++) {
         struct direction *d = &r->directions[i];
-        for (int k = 0; ready > 0 && p[i].revents != 0 && k < AT_ONCE; k++) {
+        for (int k = 0; k < AT_ONCE; k++) {
             ssize_t len = recv(d->from, bytes, sizeof bytes, 0);
             if (len < 0) /* no more is there, or the host has ended */
                 break;
@@ -432,13 +442,21 @@ static void relay_turn(struct relay *r) {
  */
 
 #define GRACE 10000 /* beyond a host's own limit; then it is stopped */
-#define ENOUGH 5000 /* frames from which on the share of those lost is near what was asked for */
+#define ENOUGH 4000 /* frames from which on the share of those lost is near what was asked for */
 #define NEAR 5      /* so many of a hundred */
+#define MANY 500    /* blocks of which some come before their turn */
 
-/* One host's process, and what the test has of it. */
+/* How the program was called. */
+struct options {
+    int forget, steps;
+    uint64_t seed, blocks, loss;
+};
+
+/* One host, and what the test has of it. */
 struct side {
     const char *name;
     int calls;
+    uint64_t seed;   /* of its file, and of what the relay does with its frames */
     int host, relay; /* the sockets, of the host and of the relay that faces it */
     FILE *sent, *heard, *told;
     pid_t pid; /* 0: it has ended, or was never started */
@@ -457,23 +475,38 @@ static int read_number(const char *text, uint64_t low, uint64_t high, uint64_t *
 }
 
 /* The last block is 17 bytes shorter than the others. */
-static int fill_file(FILE *f, uint64_t blocks) {
+static int fill_file(FILE *f, uint64_t blocks, uint64_t *seed) {
     for (uint64_t left = blocks * DOCK_BLOCK - 17; left > 0; left--)
-        if (putc((int)below(256), f) == EOF)
+        if (putc((int)below(seed, 256), f) == EOF)
             return 0;
     return fflush(f) == 0;
 }
 
-/* Sockets and files of one side. All are there before a process is started, so that both know the ports of the relay. */
-static int prepare(struct side *s, uint64_t blocks) {
+/* The two sockets of a side, over the network. */
+static int join_by_network(struct side *s) {
     struct sockaddr_in host, relay;
     s->host = open_socket(&host);
     s->relay = open_socket(&relay);
+    return s->host >= 0 && s->relay >= 0 && face(s->host, &relay) == 0 && face(s->relay, &host) == 0;
+}
+
+/* The same without a network: what is sent is there at once, so that nothing depends on how busy the machine is. */
+static int join_by_pair(struct side *s) {
+    int pair[2];
+    if (socketpair(AF_UNIX, SOCK_DGRAM, 0, pair) != 0)
+        return 0;
+    s->host = pair[0];
+    s->relay = pair[1];
+    return fcntl(s->host, F_SETFL, O_NONBLOCK) == 0 && fcntl(s->relay, F_SETFL, O_NONBLOCK) == 0;
+}
+
+/* Sockets and files of one side. All are there before a process is started, so that both know the ports of the relay. */
+static int prepare(struct side *s, const struct options *o) {
     s->sent = tmpfile();
     s->heard = tmpfile();
     s->told = tmpfile();
-    return s->host >= 0 && s->relay >= 0 && s->sent != NULL && s->heard != NULL && s->told != NULL && face(s->host, &relay) == 0 &&
-           face(s->relay, &host) == 0 && fill_file(s->sent, blocks);
+    return s->sent != NULL && s->heard != NULL && s->told != NULL && fill_file(s->sent, o->blocks, &s->seed) &&
+           (o->steps ? join_by_pair(s) : join_by_network(s));
 }
 
 static void close_socket(int *s) {
@@ -491,23 +524,58 @@ static void release(struct side *s) {
             fclose(files[i]);
 }
 
+/* For comparison: hears as an end did before ends held blocks. It acknowledged a block that came before its turn, and forgot it. The
+ * acknowledgement is still the same; so that stays, and the record of an end that was handed such a block is put back as it was. (Any
+ * other DATA that hands up nothing changes no record.) */
+static dock_answer hear_and_forget(dock_end *end, const uint8_t *frame, size_t len) {
+    uint8_t record[DOCK_RECORD];
+    memcpy(record, end->record, sizeof record);
+    dock_answer a = dock_hear(end, frame, len);
+    if (a.number == DOCK_OK && frame[0] == DOCK_DATA && a.block == 0)
+        memcpy(end->record, record, sizeof record);
+    return a;
+}
+
+static struct host make_host(const struct side *s, const struct options *o) {
+    return (struct host){.name = s->name,
+                         .calls = s->calls,
+                         .socket = s->host,
+                         .file = s->sent,
+                         .heard = s->heard,
+                         .told = s->told,
+                         .hear = o->forget ? hear_and_forget : dock_hear};
+}
+
+/* A host has ended, and tells its counts. Was it as it should be? All blocks came up, over this relay nothing but frames arrived, and
+ * some blocks were collected, unless the ends forget them. */
+static int judge(struct host *h, const struct options *o) {
+    fprintf(h->told, "%s: heard %" PRIu64 " bytes in %" PRIu64 " blocks\n", h->name, h->bytes, h->blocks);
+    if (fflush(h->heard) != 0 || fflush(h->told) != 0)
+        h->trouble = "what was heard cannot be written";
+    fprintf(stderr, "%s: %lu frames sent, %lu blocks among them, %lu of these again; %lu blocks collected; time %" PRId64 "%s%s\n",
+            h->name, h->frames, h->first + h->again, h->again, h->collected, h->now - h->began, h->trouble ? "; gave up: " : "",
+            h->trouble ? h->trouble : "");
+    return h->trouble == NULL && h->blocks == o->blocks + 1 && h->refused == 0 &&
+           (o->forget ? h->collected == 0 : h->collected > 0 || o->blocks < MANY);
+}
+
 /* What the child does. It keeps none of the relay's sockets and not the other host's: a socket is gone when its one owner ends. */
-static int be_host(struct side *sides, int mine) {
-    struct side *s = &sides[mine];
-    struct host h = {.name = s->name, .calls = s->calls, .socket = s->host, .file = s->sent, .heard = s->heard, .told = s->told};
+static int be_host(struct side *sides, int mine, const struct options *o) {
+    struct host h = make_host(&sides[mine], o);
     close_socket(&sides[0].relay);
     close_socket(&sides[1].relay);
     close_socket(&sides[1 - mine].host);
-    int well = run_host(&h) && h.refused == 0; /* over this relay nothing but frames arrives */
+    run_host(&h);
+    int well = judge(&h, o);
     release(&sides[0]);
     release(&sides[1]);
     return well;
 }
 
-static void start(struct side *sides, int which) {
+static void start(struct side *sides, int which, const struct options *o) {
     pid_t pid = fork();
     if (pid == 0)
-        exit(be_host(sides, which) ? 0 : 1);
+        exit(be_host(sides, which, o) ? 0 : 1);
     if (pid < 0)
         perror("fork");
     else
@@ -575,20 +643,47 @@ static int bad_enough(const struct relay *r) {
     return r->taken < ENOUGH || (lost > (double)r->loss - NEAR && lost < (double)r->loss + NEAR && r->repeated > 0 && r->reordered > 0);
 }
 
-/* Starts both hosts, is the relay until both have ended, and says how it went. */
-static int run_test(struct side *sides, uint32_t loss) {
-    struct relay relay = {.loss = loss};
+/* Starts both hosts, and is the relay until both have ended. */
+static void run_processes(struct side *sides, struct relay *relay, const struct options *o) {
     int64_t limit = clock_now() + LIMIT_TIME + GRACE;
+    for (int i = 0; i < 2; i++)
+        start(sides, i, o);
+    for (int i = 0; i < 2; i++)
+        close_socket(&sides[i].host);
+    while (anyone_runs(sides, limit)) {
+        wait_for_frames(relay);
+        relay_turn(relay, clock_now());
+    }
+}
+
+/* Both hosts and the relay in turns. A turn of all three is a step, and nobody sleeps. */
+static void run_steps(struct side *sides, struct relay *relay, const struct options *o) {
+    struct host hosts[2] = {make_host(&sides[0], o), make_host(&sides[1], o)};
+    for (int i = 0; i < 2; i++)
+        start_host(&hosts[i], 0);
+    for (int64_t now = 1; !is_done(&hosts[0]) || !is_done(&hosts[1]); now++) {
+        for (int i = 0; i < 2; i++)
+            if (!is_done(&hosts[i]))
+                host_turn(&hosts[i], now);
+        relay_turn(relay, now);
+    }
+    for (int i = 0; i < 2; i++)
+        sides[i].well = judge(&hosts[i], o);
+}
+
+/* Runs it all, and says how it went. */
+static int run_test(struct side *sides, const struct options *o) {
+    struct relay relay = {.loss = (uint32_t)o->loss};
     int well = 1;
     for (int i = 0; i < 2; i++) {
         relay.directions[i].from = sides[i].relay;
         relay.directions[i].to = sides[1 - i].relay;
-        start(sides, i);
+        relay.directions[i].seed = sides[i].seed;
     }
-    for (int i = 0; i < 2; i++)
-        close_socket(&sides[i].host);
-    while (anyone_runs(sides, limit))
-        relay_turn(&relay);
+    if (o->steps)
+        run_steps(sides, &relay, o);
+    else
+        run_processes(sides, &relay, o);
     for (int i = 0; i < 2; i++)
         print_told(sides[i].told);
     for (int i = 0; i < 2; i++) {
@@ -604,21 +699,35 @@ static int run_test(struct side *sides, uint32_t loss) {
     return well && fflush(stdout) == 0 && !ferror(stdout);
 }
 
+static int read_options(int argc, char **argv, struct options *o) {
+    int i = 1;
+    for (; i < argc && argv[i][0] == '-'; i++) {
+        int forget = strcmp(argv[i], "--forget") == 0, steps = strcmp(argv[i], "--steps") == 0;
+        o->forget |= forget;
+        o->steps |= steps;
+        if (!forget && !steps)
+            return 0;
+    }
+    return argc - i <= 3 && (argc - i < 1 || read_number(argv[i], 0, UINT32_MAX, &o->seed)) &&
+           (argc - i < 2 || read_number(argv[i + 1], 1, 1000000, &o->blocks)) &&
+           (argc - i < 3 || read_number(argv[i + 2], 0, 90, &o->loss));
+}
+
 int main(int argc, char **argv) {
     struct side sides[2] = {{.name = "dock", .calls = 1, .host = -1, .relay = -1}, {.name = "stock room", .host = -1, .relay = -1}};
-    uint64_t number = 1, blocks = 10000, loss = 20;
+    struct options o = {.seed = 1, .blocks = 1000, .loss = 20};
     int well = 0;
-    if (argc > 4 || (argc > 1 && !read_number(argv[1], 0, UINT32_MAX, &number)) ||
-        (argc > 2 && !read_number(argv[2], 1, 1000000, &blocks)) || (argc > 3 && !read_number(argv[3], 0, 90, &loss))) {
-        fprintf(stderr, "usage: udp [SEED [BLOCKS [LOSS]]], BLOCKS from 1 to 1000000, LOSS from 0 to 90\n");
+    if (!read_options(argc, argv, &o)) {
+        fprintf(stderr, "usage: udp [--forget] [--steps] [SEED [BLOCKS [LOSS]]], BLOCKS from 1 to 1000000, LOSS from 0 to 90\n");
         return 2;
     }
     /* Whoever started this may have set it to be ignored: then the end of a child would not be told. */
     signal(SIGCHLD, SIG_DFL);
     /* Far apart for numbers that are near each other, and never 0. */
-    seed = (number + 1) * 0x9e3779b97f4a7c15;
-    if (prepare(&sides[0], blocks) && prepare(&sides[1], blocks))
-        well = run_test(sides, (uint32_t)loss);
+    for (uint64_t i = 0; i < 2; i++)
+        sides[i].seed = (2 * o.seed + 1 + i) * 0x9e3779b97f4a7c15;
+    if (prepare(&sides[0], &o) && prepare(&sides[1], &o))
+        well = run_test(sides, &o);
     else
         perror("udp");
     release(&sides[0]);

@@ -67,7 +67,7 @@ static void arrive(struct bench *bench) {
 }
 
 /* Delivers what still matters, and counts it. The walk ends: the book has 512 places, and without a further frame in it an end can only
- * finish what it began: its call, its close, the waiting of its blocks. */
+ * finish what it began: its call, its close, the waiting of its blocks, the blocks that it hears or holds. */
 static unsigned walk(struct bench *bench) {
     unsigned deliveries = 0;
     size_t frame;

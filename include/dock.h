@@ -1,7 +1,7 @@
 /*
  * The dock link: one end of a connection, and a bench of two, for programs in C and C++.
  *
- * An end is a record of 538 bytes that the host keeps and lends to each call. Frames come and go as bytes: the host carries them to
+ * An end is a record of 1,058 bytes that the host keeps and lends to each call. Frames come and go as bytes: the host carries them to
  * the other end, over a mesh that may lose, repeat and reorder them, and decides when to make a timer call. Nothing is allocated, and
  * nothing is kept between calls but the record; on a bench, the two records, the book and its count. docs/PROTOCOL.md says what an end
  * does.
@@ -24,10 +24,10 @@
 extern "C" {
 #endif
 
-#define DOCK_RECORD 538    /* bytes of a record */
+#define DOCK_RECORD 1058   /* bytes of a record */
 #define DOCK_WAITING_AT 17 /* where a record has w, the number of blocks that wait for their acknowledgement */
 #define DOCK_FRAME 78      /* bytes of the longest frame, and of the buffer for a frame out */
-#define DOCK_BLOCK 64      /* bytes of the longest block */
+#define DOCK_BLOCK 64      /* bytes of the longest block, and of the buffer for a collected one */
 #define DOCK_BLOCK_AT 14   /* where the block of a received DATA frame starts */
 
 #define DOCK_BOOK 40960   /* bytes of a book */
@@ -36,7 +36,8 @@ extern "C" {
 #define DOCK_NO_FRAME 512 /* the number that names no frame of a book */
 
 /* What a call answers: 0, or the number of the first question whose answer was no. A refused call writes nothing but the numbers
- * that tell how the end stands: no byte of a record, of the book or of the buffer for a frame. 1 and 2, 13 and 14 are the bench's. */
+ * that tell how the end stands: no byte of a record, of the book or of the buffers for a frame and a block. 1 and 2, 13 and 14 are the
+ * bench's. */
 enum {
     DOCK_OK = 0,
     DOCK_BAD_LENGTH = 1,     /* the line has not 2 to 156 characters, an even number */
@@ -65,7 +66,7 @@ enum { DOCK_NONE, DOCK_CONNECTED, DOCK_REJECTED, DOCK_CLOSED_BY_PARTNER, DOCK_CL
 enum { DOCK_CRAO = 0x01, DOCK_CRPO, DOCK_CRACK, DOCK_REJ, DOCK_RESET, DOCK_DR, DOCK_DRACK, DOCK_DATA, DOCK_ACK };
 
 /* The first byte of a request. A send has a count byte and its block after it, the others are that byte alone. */
-enum { DOCK_CONNECT = 0x40, DOCK_LISTEN, DOCK_END_LISTENING, DOCK_CLOSE, DOCK_SEND, DOCK_TIMER };
+enum { DOCK_CONNECT = 0x40, DOCK_LISTEN, DOCK_END_LISTENING, DOCK_CLOSE, DOCK_SEND, DOCK_TIMER, DOCK_COLLECT };
 
 /* The ends of a bench, and the sender byte of a place. */
 enum { DOCK_A, DOCK_B };
@@ -83,17 +84,20 @@ uint8_t dock_fresh(uint8_t *record, size_t record_len);
 /*
  * A request, the timer call among them.
  *
- * Takes the record, the request's bytes and a buffer of at least 78 bytes for a frame out. On success the record is the new one, and
- * the frame to send, if there is one, stands at the start of the buffer; no other byte is written.
+ * Takes the record, the request's bytes, a buffer of at least 78 bytes for a frame out and one, up, of at least 64 bytes for a block
+ * that is collected; both are asked for whatever the request is. On success the record is the new one, the frame to send, if there is
+ * one, stands at the start of out, and the block handed up, if there is one, at the start of up; no other byte is written.
  * state, local and remote tell how the end stands after the call (0 where the record's buffer is too small), notice is the notice
- * (0 after a refusal), sent the length of the frame to send (0 for none).
+ * (0 after a refusal), sent the length of the frame to send and block that of the block handed up (0 for none).
  */
 uint8_t dock_request(uint8_t *record, size_t record_len, const uint8_t *request, size_t request_len, uint8_t *out, size_t out_len,
-                     uint8_t *state, uint8_t *notice, uint32_t *local, uint32_t *remote, size_t *sent);
+                     uint8_t *up, size_t up_len, uint8_t *state, uint8_t *notice, uint32_t *local, uint32_t *remote, size_t *sent,
+                     size_t *block);
 
 /*
- * Receives a frame. As dock_request, and block tells the length of the block handed up (0 for none): it is not copied, but stands in
- * the caller's own frame, from DOCK_BLOCK_AT on.
+ * Receives a frame. As dock_request, but for up: a block handed up is not copied, it stands in the caller's own frame, from
+ * DOCK_BLOCK_AT on. A block that comes before its turn, by seven at most, is held in the record, and handed up by a collect when it is
+ * its turn.
  */
 uint8_t dock_receive(uint8_t *record, size_t record_len, const uint8_t *frame, size_t frame_len, uint8_t *out, size_t out_len,
                      uint8_t *state, uint8_t *notice, uint32_t *local, uint32_t *remote, size_t *sent, size_t *block);
@@ -102,16 +106,17 @@ uint8_t dock_receive(uint8_t *record, size_t record_len, const uint8_t *frame, s
  * A bench line: text in hexadecimal, its letters in either case, without its line feed. 50 or 51 and a request: end A or B. 52 and a
  * number of 2 bytes: delivers that frame of the book, counted from 0, to the end that did not send it.
  *
- * Takes the records of A and B, a book of at least 40,960 bytes, how many of its places are in use (0 for an empty book), the line
- * and a buffer of at least 78 bytes for a frame out. On success the record of one end is the new one; the frame sent, if there is
- * one, stands at the start of the buffer and in the next place of the book, and the count is one more; no other byte is written.
+ * Takes the records of A and B, a book of at least 40,960 bytes, how many of its places are in use (0 for an empty book), the line,
+ * a buffer of at least 78 bytes for a frame out and one, up, of at least 64 bytes for a block that is collected. On success the record
+ * of one end is the new one; the frame sent, if there is one, stands at the start of out and in the next place of the book, and the
+ * count is one more; a collected block stands at the start of up; no other byte is written.
  * end is the end that the answer is about, and state, local and remote tell how it stands after the line (0 where its record's buffer
- * is too small). notice and sent are as those of dock_request. block is the length of the block handed up (0 for none): it is not
- * copied, but stands in the book, from at on (0 for none).
+ * is too small). notice and sent are as those of dock_request. block is the length of the block handed up (0 for none). One that was
+ * delivered is not copied, but stands in the book, from at on; for a collected one, and for none, at is 0.
  */
 uint8_t dock_bench(uint8_t *a, size_t a_len, uint8_t *b, size_t b_len, uint8_t *book, size_t book_len, size_t *count,
-                   const uint8_t *line, size_t line_len, uint8_t *out, size_t out_len, uint8_t *end, uint8_t *state, uint8_t *notice,
-                   uint32_t *local, uint32_t *remote, size_t *sent, size_t *at, size_t *block);
+                   const uint8_t *line, size_t line_len, uint8_t *out, size_t out_len, uint8_t *up, size_t up_len, uint8_t *end,
+                   uint8_t *state, uint8_t *notice, uint32_t *local, uint32_t *remote, size_t *sent, size_t *at, size_t *block);
 
 /*
  * Names some frame in the book whose delivery now would be accepted and change the receiver's record: frame is its number, counted
@@ -125,7 +130,7 @@ uint8_t dock_some_frame(const uint8_t *a, size_t a_len, const uint8_t *b, size_t
  */
 
 /* What a call answers. The frame to send stands in the end's own buffer until that end's next call; the block handed up stands in the
- * frame that was received, on a bench in the book. */
+ * frame that was received, on a bench in the book, and one that is collected in the end's own buffer, until its next call too. */
 typedef struct dock_answer {
     uint8_t number;          /* 0, or the number of the refusal (DOCK_UNKNOWN_KIND, ..) */
     uint8_t end;             /* on a bench the end that the answer is about, DOCK_A or DOCK_B; else 0 */
@@ -139,10 +144,11 @@ typedef struct dock_answer {
     const uint8_t *block_at; /* where it stands, a null pointer for none */
 } dock_answer;
 
-/* One end: its record, and the buffer for the frame that it sends. */
+/* One end: its record, the buffer for the frame that it sends, and the one for a block that is collected. */
 typedef struct dock_end {
     uint8_t record[DOCK_RECORD];
     uint8_t out[DOCK_FRAME];
+    uint8_t up[DOCK_BLOCK];
 } dock_end;
 
 /* Makes it a fresh end. Every end starts so. */
@@ -153,12 +159,11 @@ static inline void dock_init(dock_end *end) {
 /* A request, of these bytes. */
 static inline dock_answer dock_ask(dock_end *end, const uint8_t *request, size_t request_len) {
     dock_answer a;
-    a.number = dock_request(end->record, sizeof end->record, request, request_len, end->out, sizeof end->out, &a.state, &a.notice,
-                            &a.local, &a.remote, &a.sent);
+    a.number = dock_request(end->record, sizeof end->record, request, request_len, end->out, sizeof end->out, end->up, sizeof end->up,
+                            &a.state, &a.notice, &a.local, &a.remote, &a.sent, &a.block);
     a.end = DOCK_A;
     a.sent_at = end->out;
-    a.block = 0;
-    a.block_at = NULL;
+    a.block_at = a.block > 0 ? end->up : NULL;
     return a;
 }
 
@@ -173,7 +178,7 @@ static inline dock_answer dock_hear(dock_end *end, const uint8_t *frame, size_t 
     return a;
 }
 
-/* A request that is its first byte alone: DOCK_CONNECT, DOCK_LISTEN, DOCK_END_LISTENING, DOCK_CLOSE or DOCK_TIMER. */
+/* A request that is its first byte alone: DOCK_CONNECT, DOCK_LISTEN, DOCK_END_LISTENING, DOCK_CLOSE, DOCK_TIMER or DOCK_COLLECT. */
 static inline dock_answer dock_ask_kind(dock_end *end, uint8_t kind) {
     return dock_ask(end, &kind, 1);
 }
@@ -189,6 +194,12 @@ static inline dock_answer dock_send(dock_end *end, const uint8_t *block, size_t 
     return dock_ask(end, request, 2 + kept);
 }
 
+/* Collects the next block, if it came before its turn and is held. An end does not hand up what it holds by itself: whenever an answer
+ * has a block, collect until one has none. An answer with a block has its acknowledgement to send, one without sends nothing. */
+static inline dock_answer dock_collect(dock_end *end) {
+    return dock_ask_kind(end, DOCK_COLLECT);
+}
+
 /* How many of its blocks wait for their acknowledgement. With none left the partner has heard all. */
 static inline unsigned dock_waiting(const dock_end *end) {
     return end->record[DOCK_WAITING_AT];
@@ -200,6 +211,7 @@ typedef struct dock_pair {
     uint8_t book[DOCK_BOOK];
     size_t count; /* places of the book in use */
     uint8_t out[DOCK_FRAME];
+    uint8_t up[DOCK_BLOCK];
 } dock_pair;
 
 /* Makes both fresh ends, and the book empty. */
@@ -215,9 +227,9 @@ static inline dock_answer dock_pair_line(dock_pair *pair, const char *line, size
     size_t at;
     a.number = dock_bench(pair->record[DOCK_A], sizeof pair->record[DOCK_A], pair->record[DOCK_B], sizeof pair->record[DOCK_B],
                           pair->book, sizeof pair->book, &pair->count, (const uint8_t *)line, line_len, pair->out, sizeof pair->out,
-                          &a.end, &a.state, &a.notice, &a.local, &a.remote, &a.sent, &at, &a.block);
+                          pair->up, sizeof pair->up, &a.end, &a.state, &a.notice, &a.local, &a.remote, &a.sent, &at, &a.block);
     a.sent_at = pair->out;
-    a.block_at = a.block > 0 ? pair->book + at : NULL;
+    a.block_at = a.block == 0 ? NULL : at > 0 ? pair->book + at : pair->up;
     return a;
 }
 
@@ -268,7 +280,7 @@ static inline const char *dock_notice_name(unsigned notice) {
 /* The first byte of a frame or a request. */
 static inline const char *dock_kind_name(unsigned kind) {
     static const char *const frames[] = {"CRAO", "CRPO", "CRACK", "REJ", "RESET", "DR", "DRACK", "DATA", "ACK"};
-    static const char *const requests[] = {"connect", "listen", "end listening", "close", "send", "timer"};
+    static const char *const requests[] = {"connect", "listen", "end listening", "close", "send", "timer", "collect"};
     if (kind - DOCK_CRAO < sizeof frames / sizeof frames[0])
         return frames[kind - DOCK_CRAO];
     if (kind - DOCK_CONNECT < sizeof requests / sizeof requests[0])

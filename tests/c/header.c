@@ -35,7 +35,9 @@ static int is_open(const dock_answer *a) {
 static void test_opening(dock_end *caller, dock_end *listener) {
     dock_init(caller);
     dock_init(listener);
-    dock_answer a = dock_ask_kind(listener, DOCK_LISTEN);
+    dock_answer a = dock_collect(listener);
+    expect(a.number == DOCK_WRONG_STATE && a.state == DOCK_CLOSED && is_silent(&a), "a closed end does not collect");
+    a = dock_ask_kind(listener, DOCK_LISTEN);
     expect(a.number == DOCK_OK && a.state == DOCK_LISTENING && a.local == 1 && is_silent(&a), "a fresh end listens");
     a = dock_ask_kind(caller, DOCK_CONNECT);
     expect(a.state == DOCK_CALLING && a.sent == 9 && a.sent_at == caller->out && a.sent_at[0] == DOCK_CRAO, "a fresh end calls");
@@ -63,6 +65,39 @@ static void test_blocks(dock_end *from, dock_end *to) {
         a = dock_hear(from, a.sent_at, a.sent);
         expect(a.number == DOCK_OK && is_silent(&a) && dock_waiting(from) == 0, "it is acknowledged");
     }
+}
+
+/* The eight blocks that wait arrive in some order: one comes up as it arrives, and the others are held, and collected. */
+static void test_overtaking(dock_end *from, dock_end *to) {
+    static const size_t order[] = {3, 7, 1, 0, 6, 2, 5, 4};
+    uint8_t block[DOCK_BLOCK], frame[8][DOCK_FRAME];
+    size_t sent[8];
+    for (size_t i = 0; i < 8; i++) {
+        memset(block, (int)(100 + i), sizeof block);
+        dock_answer a = dock_send(from, block, 1 + 9 * i);
+        expect(a.number == DOCK_OK && a.block == 0, "a block is sent");
+        sent[i] = a.sent;
+        memcpy(frame[i], a.sent_at, a.sent);
+    }
+    dock_answer a = dock_collect(to);
+    expect(a.number == DOCK_OK && is_silent(&a), "nothing is held");
+    for (size_t i = 0; i < 8; i++) {
+        a = dock_hear(to, frame[order[i]], sent[order[i]]);
+        expect(a.number == DOCK_OK && (a.block > 0) == (order[i] == 0), "the next one is handed up, the others are held");
+    }
+    for (size_t i = 1; i < 8; i++) {
+        memset(block, (int)(100 + i), sizeof block);
+        memset(to->up, 0, sizeof to->up);
+        a = dock_collect(to);
+        expect(a.notice == DOCK_HANDED_UP && a.block == 1 + 9 * i && a.block_at == to->up, "a held block is collected");
+        expect(memcmp(to->up, block, a.block) == 0, "it has the same bytes");
+        expect(a.block == sizeof to->up || to->up[a.block] == 0, "and no others are written");
+        expect(a.sent == 13 && a.sent_at == to->out && a.sent_at[0] == DOCK_ACK, "its acknowledgement is to be sent");
+    }
+    a = dock_hear(from, a.sent_at, a.sent);
+    expect(dock_waiting(from) == 0, "all eight are acknowledged");
+    a = dock_collect(to);
+    expect(a.number == DOCK_OK && is_silent(&a), "no more is held");
 }
 
 /* A refusal tells its number and how the end stands, and changes nothing. */
@@ -127,6 +162,17 @@ static void test_bench(void) {
     a = line(&pair, "520003");
     expect(a.end == DOCK_B && a.notice == DOCK_HANDED_UP && a.block == 3 && memcmp(a.block_at, "abc", 3) == 0, "B has it");
     expect(a.block_at == pair.book + 3 * DOCK_PLACE + 2 + DOCK_BLOCK_AT, "it stands in the book");
+    expect(line(&pair, "50440164").number == DOCK_OK && line(&pair, "50440165").number == DOCK_OK, "A sends two more");
+    expect(dock_pair_some_frame(&pair) != DOCK_NO_FRAME, "both matter");
+    a = line(&pair, "520006");
+    expect(a.end == DOCK_B && a.block == 0 && a.sent == 13, "the second arrives first, and is held");
+    a = line(&pair, "5146");
+    expect(a.number == DOCK_OK && a.end == DOCK_B && is_silent(&a), "it is not collected yet");
+    a = line(&pair, "520005");
+    expect(a.block == 1 && a.block_at == pair.book + 5 * DOCK_PLACE + 2 + DOCK_BLOCK_AT, "the first comes up from the book");
+    a = line(&pair, "5146");
+    expect(a.notice == DOCK_HANDED_UP && a.block == 1 && a.block_at == pair.up && pair.up[0] == 'e', "the second is collected");
+    expect(a.sent == 13 && a.sent_at == pair.out && pair.count == 10, "and acknowledged");
     a = line(&pair, "520200");
     expect(a.number == DOCK_NO_SUCH_FRAME && a.end == DOCK_A && is_silent(&a), "the book holds no frame 512");
 }
@@ -142,9 +188,9 @@ static void test_names(void) {
     expect(same_text(dock_notice_name(DOCK_NONE), "none") && same_text(dock_notice_name(DOCK_HANDED_UP), "block handed up"), "the notices");
     expect(same_text(dock_notice_name(6), "unknown"), "no notice 6");
     expect(same_text(dock_kind_name(DOCK_CRAO), "CRAO") && same_text(dock_kind_name(DOCK_ACK), "ACK"), "the frames");
-    expect(same_text(dock_kind_name(DOCK_CONNECT), "connect") && same_text(dock_kind_name(DOCK_TIMER), "timer"), "the requests");
+    expect(same_text(dock_kind_name(DOCK_CONNECT), "connect") && same_text(dock_kind_name(DOCK_COLLECT), "collect"), "the requests");
     expect(same_text(dock_kind_name(0), "unknown") && same_text(dock_kind_name(0x0a), "unknown"), "the neighbours of the frames");
-    expect(same_text(dock_kind_name(0x3f), "unknown") && same_text(dock_kind_name(0x46), "unknown"), "the neighbours of the requests");
+    expect(same_text(dock_kind_name(0x3f), "unknown") && same_text(dock_kind_name(0x47), "unknown"), "the neighbours of the requests");
 }
 
 int main(void) {
@@ -152,6 +198,8 @@ int main(void) {
     test_opening(&caller, &listener);
     test_blocks(&caller, &listener);
     test_blocks(&listener, &caller);
+    test_overtaking(&caller, &listener);
+    test_overtaking(&listener, &caller);
     test_refusals(&caller);
     test_window(&caller);
     test_unsound(&caller);

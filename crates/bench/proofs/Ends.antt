@@ -1,16 +1,16 @@
 -- What answers a line on the bench, and the program's theorem.
 use Prim.Native.Nat.{ℕ, _+_, _≤_}
 use mathlib.Core.Path.{_≡_, refl, ap}
-use mathlib.Core.List.{List, [], _∷_}
+use mathlib.Core.List.{List, []}
 use borrow.Author.Tests.{le-leb}
-use lib.Dec.{leb}
 use lib.ListN.{length}
 use Rattle.octets.specs.Test.{when, first, Outcome, ok, outcome}
-use Rattle.octets.specs.Sizes.{longestFrame}
+use Rattle.octets.specs.Sizes.{longestFrame, longestBlock}
+use Rattle.call_spec.specs.Calls.{rooms}
 use Rattle.hex.specs.Line.{unhex, normal}
 use Rattle.hex.proofs.Normal.{asked-alike, unhex-normal}
 use Rattle.link.specs.Lent.{freshRecord}
-use Rattle.bench_spec.specs.Bench.{Bench, benchOf, bufferQuestions, soundQuestions, At, octetsAsk, lineAsks, comes, endOf, benchAfter}
+use Rattle.bench_spec.specs.Bench.{Bench, benchOf, bufferQuestions, roomQuestions, soundQuestions, At, octetsAsk, lineAsks, comes, endOf, benchAfter}
 use Rattle.bench_answer.specs.Text.{answerRoom, benchText, askedWith}
 use Rattle.line_split.specs.Split.{cut}
 use Rattle.line_split.proofs.Long.{asks-cut}
@@ -22,9 +22,9 @@ use Rattle.line_io.proofs.Steps.{free, free-room}
 use Rattle.line_io.proofs.Program.{program-run}
 use Rattle.bench.specs.Ends.{bothEnds, freshBench}
 
-same : (w : Bench) (l : List ℕ) → lineAsks w (cut l) longestFrame ≡ lineAsks w l longestFrame
+same : (w : Bench) (l : List ℕ) → lineAsks w (cut l) (rooms longestFrame longestBlock) ≡ lineAsks w l (rooms longestFrame longestBlock)
 unfolding lineAsks
-same w l = asks-cut (bufferQuestions w ((11, leb longestFrame longestFrame) ∷ soundQuestions w [])) tt (λ (x : List ℕ). octetsAsk w (unhex x) longestFrame) l
+same w l = asks-cut (bufferQuestions w (roomQuestions (rooms longestFrame longestBlock) (soundQuestions w []))) tt (λ (x : List ℕ). octetsAsk w (unhex x) (rooms longestFrame longestBlock)) l
 
 pub cuts : Cuts bothEnds
 cuts =
@@ -34,7 +34,7 @@ cuts =
     }
 
 -- A line counts as its normal form, so an input is answered in either case with the same text.
-either-case : (w : Bench) (l : List ℕ) → lineAsks w (normal l) longestFrame ≡ lineAsks w l longestFrame
+either-case : (w : Bench) (l : List ℕ) → lineAsks w (normal l) (rooms longestFrame longestBlock) ≡ lineAsks w l (rooms longestFrame longestBlock)
 unfolding lineAsks
 either-case w l = rw (asked-alike l, unhex-normal l) refl
 
@@ -46,7 +46,7 @@ either-case-text =
     freshBench
 
 -- where there is room for an answer, the line is asked
-pub asks-with : (w : Bench) (line out : List ℕ) (filled : ℕ) → filled + answerRoom ≤ length out → askedWith w line (free out filled) ≡ ok (lineAsks w line longestFrame)
+pub asks-with : (w : Bench) (line out : List ℕ) (filled : ℕ) → filled + answerRoom ≤ length out → askedWith w line (free out filled) ≡ ok (lineAsks w line (rooms longestFrame longestBlock))
 unfolding askedWith first when outcome
 asks-with w line out filled h = rw (le-leb answerRoom (length (free out filled)) (free-room out filled answerRoom h)) refl
 

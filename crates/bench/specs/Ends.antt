@@ -1,6 +1,7 @@
 -- What answers the lines of the bench program: two ends and the log.
 use lib.ListN.{replicate}
-use Rattle.octets.specs.Sizes.{longestFrame}
+use Rattle.octets.specs.Sizes.{longestFrame, longestBlock}
+use Rattle.call_spec.specs.Calls.{rooms}
 use Rattle.link.specs.Lent.{freshRecord}
 use Rattle.bench_log.specs.Log.{logSize}
 use Rattle.bench_spec.specs.Bench.{Bench, benchOf, lineAsks, comes, endOf, benchAfter}
@@ -12,8 +13,8 @@ abbrev pub bothEnds : Answering
 bothEnds =
     record {
       State = Bench;
-      next = λ w line. benchAfter (endOf (lineAsks w line longestFrame)) w (comes w (lineAsks w line longestFrame));
-      says = λ w line. benchText w (lineAsks w line longestFrame);
+      next = λ w line. benchAfter (endOf (lineAsks w line (rooms longestFrame longestBlock))) w (comes w (lineAsks w line (rooms longestFrame longestBlock)));
+      says = λ w line. benchText w (lineAsks w line (rooms longestFrame longestBlock));
     }
 
 -- what it begins with: fresh ends and an empty log

@@ -1,25 +1,26 @@
 -- From what a bench line answers to its text.
 use Prim.Native.Nat.{ℕ, _+_, _-_, _*_, _≤_, _<_}
 use mathlib.Core.Path.{_≡_, refl, sym, ap, _∙_}
-use mathlib.Core.Logic.{⊎-elim}
 use mathlib.Core.Bool.{Bool, true, false}
 use mathlib.Core.List.{List, [], _∷_, _++_}
 use native.Mathlib.Omega.{arith}
 use borrow.Author.Tests.{le-leb, lt-leb}
-use lib.ListN.{length, take, drop, replicate, length-take, length-drop}
-use Rattle.frame.specs.Layout.{dataBlockAt}
+use lib.ListN.{length, take, drop, replicate, length-take}
+use Rattle.frame.specs.Frame.{Block}
+use Rattle.protocol.specs.Table.{Step}
 use Rattle.octets.specs.Sizes.{longestFrame, longestBlock}
 use Rattle.octets.specs.Test.{when, first, Outcome, refused, ok, outcome, mapped, andThen}
 use Rattle.octets.specs.Octets.{field, left}
-use Rattle.octets.proofs.Test.{if-eq, by-eq, eq-yes}
+use Rattle.octets.proofs.Test.{if-eq}
 use Rattle.octets.proofs.Outcomes.{after-question}
 use Rattle.hex.specs.Line.{unhex}
 use Rattle.frame.specs.Read.{kindOf}
 use Rattle.call_spec.specs.declared.Call.the-variants.{Request, Receive}
-use Rattle.call_spec.specs.Calls.{Arguments, given}
+use Rattle.call_spec.specs.Calls.{Arguments, Rooms, rooms, given, performed}
 use Rattle.call_spec.specs.Answers.{blockOf}
 use Rattle.link.specs.Lent.{statusOf, sentOf}
-use Rattle.link.proofs.Answers.{sent-fits, sent-taken}
+use Rattle.link.specs.Record.{format}
+use Rattle.link.proofs.Answers.{sent-fits, sent-taken, received-short, collected-short}
 use Rattle.bench_log.specs.Log.{placeSize, senderAt, lengthAt, frameLogged, holds}
 use Rattle.bench_log.proofs.Log.{held}
 use Rattle.answer_text.specs.declared.Output.{Output}
@@ -28,9 +29,8 @@ use Rattle.answer_text.specs.Text.{textOf, outputOf, Begins}
 use Rattle.answer_text.proofs.Outputs.{output-fits}
 use Rattle.bench_spec.specs.Bench.{Bench, benchOf, recordAt, At, delivery, octetsAsk, lineAsks, callOutcome, comes, endOf, requestOfA, requestOfB, deliver}
 use Rattle.bench_call.specs.declared.BenchAnswer.{BenchAnswer}
-use Rattle.bench_call.specs.Answer.{benchAnswerOf}
-use Rattle.bench_call.proofs.Does.{no-block}
-use Rattle.bench_call.proofs.Handed.{call-from}
+use Rattle.bench_call.specs.Answer.{blockAt, benchAnswerOf}
+use Rattle.bench_call.proofs.Does.{with-14}
 use Rattle.bench_order.specs.Performed.{Performed}
 use Rattle.bench_answer.specs.Text.{lead, benchText, answerRoom, askedWith, benchIn, BenchAnswered}
 use Rattle.bench_answer.specs.Internal.{BenchGives}
@@ -50,12 +50,15 @@ module _ (w : Bench) where
   unfolding endOf comes andThen
   fine-call i c h k = record { end = h; block = k }
 
-  fine-request : (i : ℕ) (s : List ℕ) (room : ℕ) → i ≤ 1 → Fine (ok (i, given Request s room))
-  fine-request i s room h = fine-call i (given Request s room) h (omega (arith, no-block (recordAt i w) (w .count) s room))
+  short-14 : (i : ℕ) (c : Arguments) → length (blockOf (performed format (recordAt i w) c)) ≤ longestBlock → length (blockOf (callOutcome (recordAt i w) (w .count) c)) ≤ longestBlock
+  unfolding blockOf
+  short-14 i c h = with-14 (λ (o : Outcome Step). length (blockOf o) ≤ longestBlock) (λ n. omega arith) (recordAt i w) (w .count) c h
 
-  received : (i : ℕ) (s : List ℕ) (room : ℕ) → length s ≤ longestFrame → length (blockOf (callOutcome (recordAt i w) (w .count) (given Receive s room))) ≤ longestBlock
-  received i s room h =
-      ⊎-elim (λ e. omega (arith, ap length e)) (λ e. omega (arith, ap length e, length-drop dataBlockAt s)) (call-from (recordAt i w) (w .count) (given Receive s room))
+  fine-request : (i : ℕ) (s : List ℕ) (room : Rooms) → i ≤ 1 → Fine (ok (i, given Request s room))
+  fine-request i s room h = fine-call i (given Request s room) h (short-14 i (given Request s room) (collected-short (recordAt i w) s room))
+
+  received : (i : ℕ) (s : List ℕ) (room : Rooms) → length s ≤ longestFrame → length (blockOf (callOutcome (recordAt i w) (w .count) (given Receive s room))) ≤ longestBlock
+  received i s room h = short-14 i (given Receive s room) (received-short (recordAt i w) s room h)
 
   frame-short : (n : ℕ) → lengthAt n (w .log) ≤ longestFrame → length (frameLogged n (w .log)) ≤ longestFrame
   unfolding frameLogged
@@ -66,29 +69,32 @@ module _ (w : Bench) where
   fine-outcome true x h = h refl
   fine-outcome false x h = fine-refused 13
 
-  fine-delivery : (n room : ℕ) → Fine (delivery w n room)
+  fine-delivery : (n : ℕ) (room : Rooms) → Fine (delivery w n room)
   unfolding delivery
   fine-delivery n room =
       fine-outcome (holds (w .count) n (w .log)) _ (λ z.
       fine-call (1 - senderAt n (w .log)) _ (omega arith) (received (1 - senderAt n (w .log)) (frameLogged n (w .log)) room (frame-short n (held (w .count) n (w .log) z .short))))
 
-  fine-octets : (s : List ℕ) (room : ℕ) → Fine (octetsAsk w s room)
+  fine-octets : (s : List ℕ) (room : Rooms) → Fine (octetsAsk w s room)
   unfolding octetsAsk
   fine-octets s room =
       if-eq Fine (kindOf s) requestOfA (λ _. fine-request 0 (drop 1 s) room (omega arith)) (λ _.
       if-eq Fine (kindOf s) requestOfB (λ _. fine-request 1 (drop 1 s) room (omega arith)) (λ _.
       if-eq Fine (kindOf s) deliver (λ _. after-question Fine fine-refused _ _ (fine-delivery (field 2 1 s) room)) (λ _. fine-refused 3)))
 
-  pub fine : (line : List ℕ) (room : ℕ) → Fine (lineAsks w line room)
+  pub fine : (line : List ℕ) (room : Rooms) → Fine (lineAsks w line room)
   unfolding lineAsks
   fine line room = after-question Fine fine-refused _ _ (fine-octets (unhex line) room)
 
--- the buffer for a frame
+-- the buffers for a frame and for a block
 abbrev frames : List ℕ
 frames = replicate longestFrame 0
 
+abbrev blocks : List ℕ
+blocks = replicate longestBlock 0
+
 -- what a line's answer says of its text
-module _ {w : Bench} {q : Outcome At} {n : ℕ} {a b log frame : List ℕ} {r : BenchAnswer} (p : Performed w q n frames a b log frame r) where
+module _ {w : Bench} {q : Outcome At} {start : ℕ} {a b log frame up : List ℕ} {r : BenchAnswer} (p : Performed w q start frames blocks a b log frame up r) where
   end-is : r .end ≡ endOf q
   unfolding benchAnswerOf
   end-is = ap (λ (x : BenchAnswer). x .end) (p .answer)
@@ -97,32 +103,28 @@ module _ {w : Bench} {q : Outcome At} {n : ℕ} {a b log frame : List ℕ} {r : 
   unfolding benchAnswerOf
   block-is = ap (λ (x : BenchAnswer). x .block) (p .answer)
 
-  at-none : r .block ≡ 0 → r .at ≡ 0
-  unfolding benchAnswerOf
-  at-none z = ap (λ (x : BenchAnswer). x .at) (p .answer) ∙ eq-yes (length (blockOf (comes w q))) 0 0 _ (sym block-is ∙ z)
-
   sent-is : r .sent ≡ sentOf (comes w q)
   unfolding benchAnswerOf
   sent-is = ap (λ (x : BenchAnswer). x .sent) (p .answer)
 
-  block-in : r .at + r .block ≤ length log
-  block-in =
-      by-eq (r .block) 0 (λ z. omega (arith, at-none z))
-      (λ z. omega (arith, block-is, ap length (p .handed), length-take (r .block) (drop (r .at) log), length-drop (r .at) log))
+  -- the block stands where it is told
+  pub block-there : length (blockAt (r .at) (r .block) log up) ≡ r .block
+  block-there = ap length (p .handed) ∙ sym block-is
 
-  pub tellable : Fine w q → length frame ≡ longestFrame → (r .end ≤ 1) × ((r .block ≤ longestBlock) × ((r .at + r .block ≤ length log) × ((r .sent ≤ longestFrame) × (r .sent ≤ length frame))))
-  tellable f l =
+  pub tellable : Fine w q → length frame ≡ longestFrame → {block : Block} → block ≡ blockAt (r .at) (r .block) log up
+      → (r .end ≤ 1) × ((length block ≤ longestBlock) × ((r .sent ≤ longestFrame) × (r .sent ≤ length frame)))
+  tellable f l e =
       let s = sent-fits frames (comes w q) (p .buffer) l sent-is in
-      (omega (arith, end-is, f .end), (omega (arith, block-is, f .block), (block-in, (s, omega (arith, s, l)))))
+      (omega (arith, end-is, f .end), (omega (arith, ap length e, block-there, block-is, f .block), (s, omega (arith, s, l))))
 
   told-is : r .status ≡ statusOf (recordAt (endOf q) w) (comes w q)
   unfolding benchAnswerOf
   told-is = ap (λ (x : BenchAnswer). x .status) (p .answer)
 
-  pub gives : {out out′ : List ℕ} {k : ℕ} → Begins (lead (r .end) ++ textOf (r .status) (take (r .block) (drop (r .at) log)) (take (r .sent) frame)) out out′ k
+  pub gives : {block : Block} → block ≡ blockAt (r .at) (r .block) log up → {out out′ : List ℕ} {k : ℕ} → Begins (lead (r .end) ++ textOf (r .status) block (take (r .sent) frame)) out out′ k
       → BenchGives w q out a b log (r .count) out′ k
   unfolding benchText
-  gives g = record { begins = rw (end-is, told-is, p .handed, sent-taken frames (comes w q) (p .buffer) sent-is) at g; bench = p .bench }
+  gives e g = record { begins = rw (end-is, told-is, e, p .handed, sent-taken frames (comes w q) (p .buffer) sent-is) at g; bench = p .bench }
 
 -- the whole answer, without room for it and with
 module _ (w : Bench) (line out : List ℕ) where
@@ -134,11 +136,11 @@ module _ (w : Bench) (line out : List ℕ) where
   unfolding askedWith first when outcome mapped outputOf left benchIn
   no-room h = gives-answer (refused 11) (rw (lt-leb answerRoom (length out) h) refl) refl refl refl
 
-  pub with-text : answerRoom ≤ length out → {a b log out′ : List ℕ} {count r : ℕ} → BenchGives w (lineAsks w line longestFrame) out a b log count out′ r
+  pub with-text : answerRoom ≤ length out → {a b log out′ : List ℕ} {count r : ℕ} → BenchGives w (lineAsks w line (rooms longestFrame longestBlock)) out a b log count out′ r
       → BenchAnswered w line out a b log count out′ (output.Written r)
   unfolding askedWith first when outcome mapped outputOf left benchIn
   with-text h g =
-      gives-answer (ok (lineAsks w line longestFrame)) (rw (le-leb answerRoom (length out) h) refl) (ap output.Written (g .begins .count)) (g .begins .buffer) (g .bench)
+      gives-answer (ok (lineAsks w line (rooms longestFrame longestBlock))) (rw (le-leb answerRoom (length out) h) refl) (ap output.Written (g .begins .count)) (g .begins .buffer) (g .bench)
 
 -- an answer has room in its buffer
 pub written-fits : {w : Bench} {line out a b log out′ : List ℕ} {count n : ℕ} → BenchAnswered w line out a b log count out′ (output.Written n) → length out′ ≡ length out

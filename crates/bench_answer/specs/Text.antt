@@ -4,11 +4,11 @@ use mathlib.Core.Path.{_≡_}
 use mathlib.Core.List.{List, [], _∷_, _++_}
 use lib.Dec.{leb}
 use lib.ListN.{length}
-use Rattle.octets.specs.Sizes.{longestFrame}
+use Rattle.octets.specs.Sizes.{longestFrame, longestBlock}
 use Rattle.octets.specs.Test.{first, Outcome, refused, ok, outcome, mapped}
 use Rattle.octets.specs.Octets.{left}
 use Rattle.hex.specs.Line.{hex}
-use Rattle.call_spec.specs.Calls.{wire}
+use Rattle.call_spec.specs.Calls.{rooms, wire}
 use Rattle.call_spec.specs.Answers.{sentIn, blockOf}
 use Rattle.link.specs.Lent.{statusOf}
 use Rattle.answer_text.specs.declared.Output.{Output}
@@ -30,7 +30,7 @@ answerRoom = oneEnd.answerRoom + 2
 
 -- A line's answer into a buffer: without room for it, nothing is asked of the bench.
 unfoldable pub askedWith : Bench → List ℕ → List ℕ → Outcome (Outcome At)
-askedWith w line out = outcome (first ((11, leb answerRoom (length out)) ∷ [])) (lineAsks w line longestFrame)
+askedWith w line out = outcome (first ((11, leb answerRoom (length out)) ∷ [])) (lineAsks w line (rooms longestFrame longestBlock))
 
 unfoldable pub benchIn : Bench → Outcome (Outcome At) → Bench
 benchIn w (refused n) = w

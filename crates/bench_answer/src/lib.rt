@@ -2,12 +2,15 @@
 use answer_text::Output;
 use bench_call::BenchAnswer;
 use octets::refusal;
+ghost use mathlib.Core.Path.{_≡_};
 ghost use mathlib.Core.List.{_++_};
-ghost use Prim.Native.Nat.{_+_, _≤_};
-ghost use lib.ListN.{length, take, drop};
+ghost use Prim.Native.Nat.{_≤_};
+ghost use lib.ListN.{length, take};
 ghost use Rattle.octets.specs.Sizes.{longestFrame, longestBlock};
 ghost use Rattle.answer_text.specs.Text.{textOf, Begins};
+ghost use Rattle.call_spec.specs.Calls.{rooms};
 ghost use Rattle.bench_spec.specs.Bench.{benchOf, lineAsks};
+ghost use Rattle.bench_call.specs.Answer.{blockAt};
 ghost use Rattle.bench_answer.specs.Text.{lead, answerRoom, BenchAnswered};
 ghost use Rattle.bench_answer.specs.Internal.{BenchGives};
 
@@ -19,18 +22,30 @@ const DIGIT_FIVE: u8 = 53;
 
 const DIGIT_ZERO: u8 = 48;
 
-// Writes the text of an answer to the start of out: 50 or 51, then the text as at one end. The block stands in the log.
-fn tell(r: BenchAnswer, log: &[u8], frame: &[u8], out: &mut [u8]) -> usize
-    requires { ⌜ (answerRoom ≤ length (now out)) × ((r .end ≤ 1) × ((r .block ≤ longestBlock) × ((r .at + r .block ≤ length (now log)) × ((r .sent ≤ longestFrame) × (r .sent ≤ length (now frame)))))) ⌝ }
-    ensures { λ n. ⌜ Begins (lead (r .end) ++ textOf (r .status) (take (r .block) (drop (r .at) (now (log .entry)))) (take (r .sent) (now (frame .entry)))) (now (out .entry)) (now (out .exit)) n ⌝ }
+// The block handed up, of n octets: in the log from at on; one collected, whose at is 0, at the start of up.
+fn block_of<'a>(at: usize, n: usize, log: &'a [u8], up: &'a [u8]) -> &'a [u8]
+    requires { ⌜ length (blockAt at n (now log) (now up)) ≡ n ⌝ }
+    ensures { λ r. ⌜ now r ≡ blockAt at n (now (log .entry)) (now (up .entry)) ⌝ }
+{
+    if n == 0 {
+        return &up[..0];
+    }
+    if at == 0 {
+        return &up[..n];
+    }
+    &log[at..at + n]
+}
+
+// Writes the text of an answer to the start of out: 50 or 51, then the text as at one end.
+fn tell(r: BenchAnswer, block: &[u8], frame: &[u8], out: &mut [u8]) -> usize
+    requires { ⌜ (answerRoom ≤ length (now out)) × ((r .end ≤ 1) × ((length (now block) ≤ longestBlock) × ((r .sent ≤ longestFrame) × (r .sent ≤ length (now frame))))) ⌝ }
+    ensures { λ n. ⌜ Begins (lead (r .end) ++ textOf (r .status) (now (block .entry)) (take (r .sent) (now (frame .entry)))) (now (out .entry)) (now (out .exit)) n ⌝ }
 {
     octets::store8(out, 0, DIGIT_FIVE);
     octets::store8(out, 1, DIGIT_ZERO + r.end);
     let told = r.status;
-    let at = r.at;
-    let stop = at + r.block;
     let sent = r.sent;
-    let n = answer_text::write_text(told, &log[at..stop], &frame[..sent], &mut out[2..]);
+    let n = answer_text::write_text(told, block, &frame[..sent], &mut out[2..]);
     n + 2
 }
 
@@ -44,12 +59,13 @@ fn write(
     out: &mut [u8],
 ) -> usize
     requires { ⌜ answerRoom ≤ length (now out) ⌝ }
-    ensures { λ r. ⌜ BenchGives (benchOf (now (a .entry)) (now (b .entry)) (now (log .entry)) (now (count .entry))) (lineAsks (benchOf (now (a .entry)) (now (b .entry)) (now (log .entry)) (now (count .entry))) (now (line .entry)) longestFrame) (now (out .entry)) (now (a .exit)) (now (b .exit)) (now (log .exit)) (now (count .exit)) (now (out .exit)) r ⌝ }
+    ensures { λ r. ⌜ BenchGives (benchOf (now (a .entry)) (now (b .entry)) (now (log .entry)) (now (count .entry))) (lineAsks (benchOf (now (a .entry)) (now (b .entry)) (now (log .entry)) (now (count .entry))) (now (line .entry)) (rooms longestFrame longestBlock)) (now (out .entry)) (now (a .exit)) (now (b .exit)) (now (log .exit)) (now (count .exit)) (now (out .exit)) r ⌝ }
 {
     let mut frame = [0u8; octets::LONGEST_FRAME];
-    let r = bench_line::perform(a, b, log, *count, line, &mut frame);
+    let mut up = [0u8; octets::LONGEST_BLOCK];
+    let r = bench_line::perform(a, b, log, *count, line, &mut frame, &mut up);
     *count = r.count;
-    tell(r, log, &frame, out)
+    tell(r, block_of(r.at, r.block, log, &up), &frame, out)
 }
 
 // Answers a line, which is given without its line feed, on the bench with the records a and b, the log and so many places of it in

@@ -2,28 +2,28 @@
 use Prim.Native.Nat.{ℕ, _+_, _≤_, _<_}
 use mathlib.Core.Path.{_≡_, refl, sym, subst, ap, _∙_}
 use mathlib.Core.Logic.{_≢_}
-use mathlib.Core.List.{List, []}
+use mathlib.Core.List.{List}
 use native.Mathlib.Omega.{arith}
-use lib.ListN.{length, take, drop}
+use lib.ListN.{length, take}
 use Rattle.octets.specs.Sizes.{longestFrame}
 use Rattle.octets.specs.Test.{when, ifEq, Outcome, refused, ok}
-use Rattle.octets.proofs.Test.{eq-yes, eq-no}
+use Rattle.octets.proofs.Test.{by-eq, eq-yes, eq-no}
 use Rattle.octets.proofs.Outcomes.{of-value, after-value}
 use Rattle.frame.specs.Frame.{Frame}
 use Rattle.frame.specs.Layout.{encode}
 use Rattle.protocol.specs.Table.{Step, Sent, nothing, frame}
 use Rattle.call_spec.specs.declared.Call.the-variants.{Request}
-use Rattle.call_spec.specs.Calls.{Arguments, given, wire, performed}
-use Rattle.call_spec.specs.Answers.{sentIn, blockOf}
+use Rattle.call_spec.specs.Calls.{Arguments, wire, performed}
+use Rattle.call_spec.specs.Answers.{sentIn, blockOf, blockPart}
 use Rattle.endpoint.specs.Record.{recordSize}
 use Rattle.link.specs.declared.Answer.{Answer}
 use Rattle.link.specs.Record.{format}
 use Rattle.link.specs.Lent.{sentOf, answerOf, Called}
-use Rattle.link.proofs.Answers.{sent-fits, sent-taken, none-up}
+use Rattle.link.proofs.Answers.{sent-fits, sent-taken}
 use Rattle.bench_log.specs.Log.{places}
 use Rattle.bench_spec.specs.Bench.{sends, logged, callOutcome, logAfter, countAfter}
 use Rattle.bench_call.specs.declared.BenchAnswer.{BenchAnswer}
-use Rattle.bench_call.specs.Answer.{blockStart, benchAnswerOf}
+use Rattle.bench_call.specs.Answer.{blockAt, benchAnswerOf}
 use Rattle.bench_call.specs.Internal.{noted, notedCount, blockPlace, answerFrom, Does}
 use Rattle.bench_call.proofs.Moves.{has-place}
 use Rattle.bench_call.proofs.Short.{sent-short}
@@ -54,14 +54,14 @@ enters i log count (refused n) = refl
 enters i log count (ok x) = enters-sent i log count x (x .sent) refl
 
 -- part by part
-pub answers : (i : ℕ) (m : Answer) (n count : ℕ) {at counted : ℕ} → at ≡ blockPlace n (m .block) → counted ≡ notedCount count (m .sent)
-    → record { end = i; status = m .status; sent = m .sent; at = at; block = m .block; count = counted } ≡ answerFrom i m n count
+pub answers : (i : ℕ) (m : Answer) (start count : ℕ) {at counted : ℕ} → at ≡ blockPlace start (m .block) → counted ≡ notedCount count (m .sent)
+    → record { end = i; status = m .status; sent = m .sent; at = at; block = m .block; count = counted } ≡ answerFrom i m start count
 unfolding answerFrom
-answers i m n count e k = rw (e, k) refl
+answers i m start count e k = rw (e, k) refl
 
-tells : (i : ℕ) (rec : List ℕ) (count n : ℕ) (o : Outcome Step) → answerFrom i (answerOf rec o) n count ≡ benchAnswerOf i rec count n o
+tells : (i : ℕ) (rec : List ℕ) (count start : ℕ) (o : Outcome Step) → answerFrom i (answerOf rec o) start count ≡ benchAnswerOf i rec count start o
 unfolding answerFrom answerOf benchAnswerOf blockPlace
-tells i rec count n o = rw (counts count o) refl
+tells i rec count start o = rw (counts count o) refl
 
 -- what holds of the outcome of a call at an end, and of each refusal, holds of its outcome with 14
 pub with-14 : (P : Outcome Step → Type 0) → ((n : ℕ) → P (refused n)) → (rec : List ℕ) (count : ℕ) (c : Arguments) → P (performed format rec c)
@@ -70,17 +70,25 @@ unfolding callOutcome logged
 with-14 P refusals rec count c h =
     after-value P refusals (performed format rec c) (logged count) (λ x e. of-value P refusals _ x (subst P e h))
 
--- a request hands nothing up, so no frame is asked for its block
-pub no-block : (rec : List ℕ) (count : ℕ) (s : List ℕ) (room : ℕ) → length (blockOf (callOutcome rec count (given Request s room))) ≡ 0
-unfolding blockOf
-no-block rec count s room =
-    ap length (with-14 (λ (o : Outcome Step). blockOf o ≡ []) (λ n. refl) rec count (given Request s room) (none-up rec s room))
+-- the block stands where the answer says
+abbrev pub Stands : ℕ → List ℕ → List ℕ → List ℕ → Type 0
+Stands start log up b = blockAt (ifEq (length b) 0 0 start) (length b) log up ≡ b
 
--- the block stands in the log where the answer says
-abbrev pub Stands : ℕ → List ℕ → List ℕ → Type 0
-Stands n log b = take (length b) (drop (ifEq (length b) 0 0 (blockStart n)) log) ≡ b
+-- that of a request at the start of the buffer for it
+collected-stands : (log up b : List ℕ) → take (length b) up ≡ b → Stands 0 log up b
+unfolding blockAt
+collected-stands log up b h =
+    let none : _≡_ {A = ℕ} (ifEq (length b) 0 0 0) 0 = by-eq (length b) 0 (λ z. eq-yes (length b) 0 0 0 z) (λ z. eq-no (length b) 0 0 0 z) in
+    eq-yes _ 0 _ _ none ∙ h
 
-module _ (i : ℕ) (rec log : List ℕ) (count n : ℕ) (c : Arguments) {s out rec′ out′ : List ℕ} {m : Answer} (w : Called (callOutcome rec count c) rec s out rec′ out′ m) where
+pub collects : (log : List ℕ) {o : Outcome Step} {rec s out up rec′ out′ up′ : List ℕ} {m : Answer} → Called Request o rec s out up rec′ out′ up′ m
+    → Stands 0 log up′ (blockOf o)
+unfolding blockPart answerOf
+collects log {up′ = up′} w =
+    collected-stands log up′ _ (ap (λ (n : ℕ). take n up′) (sym (ap (λ (x : Answer). x .block) (w .answer))) ∙ w .block)
+
+module _ (i : ℕ) (rec log : List ℕ) (count start : ℕ) (c : Arguments) {s out up rec′ out′ up′ : List ℕ} {m : Answer}
+    (w : Called (c .call) (callOutcome rec count c) rec s out up rec′ out′ up′ m) where
   abbrev o : Outcome Step
   o = callOutcome rec count c
 
@@ -95,17 +103,10 @@ module _ (i : ℕ) (rec log : List ℕ) (count n : ℕ) (c : Arguments) {s out r
     (omega (arith, sent-is, sent-short rec count c h), λ z. has-place rec count c (λ y. z (sent-is ∙ y))),
   )
 
-  pub does : Stands n (logAfter i log count o) (blockOf o) → {log′ : List ℕ} {r : BenchAnswer} → r ≡ answerFrom i m n count
-      → log′ ≡ noted i log count (take (m .sent) out′) → Does i rec log count n o out rec′ log′ out′ r
+  pub does : Stands start (logAfter i log count o) up′ (blockOf o) → {log′ : List ℕ} {r : BenchAnswer} → r ≡ answerFrom i m start count
+      → log′ ≡ noted i log count (take (m .sent) out′) → Does i rec log count start (c .call) o out up rec′ log′ out′ up′ r
   unfolding benchAnswerOf
   does h e k =
-      let a = e ∙ ap (λ (x : Answer). answerFrom i x n count) (w .answer) ∙ tells i rec count n o in
+      let a = e ∙ ap (λ (x : Answer). answerFrom i x start count) (w .answer) ∙ tells i rec count start o in
       let l = k ∙ ap (noted i log count) (sent-taken out o (w .buffer) sent-is) ∙ enters i log count o in
-      record { answer = a; end = w .end; entered = l; buffer = w .buffer; handed = rw (a, l) h }
-
-  -- without a block it does not matter which frame is told
-  pub any-frame : length (blockOf o) ≡ 0 → {r : BenchAnswer} → r ≡ answerFrom i m 0 count → r ≡ answerFrom i m n count
-  unfolding answerFrom blockPlace answerOf
-  any-frame h e =
-      let b : m .block ≡ 0 = ap (λ (x : Answer). x .block) (w .answer) ∙ h in
-      e ∙ answers i m n count (eq-yes _ 0 _ _ b ∙ sym (eq-yes _ 0 _ _ b)) refl
+      record { answer = a; end = w .end; entered = l; buffer = w .buffer; block-buffer = w .block-buffer; handed = rw (a, l) h }

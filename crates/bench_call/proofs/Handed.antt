@@ -8,30 +8,32 @@ use lib.ListN.{length, take, drop}
 use lib.Seq.{drop-drop}
 use Rattle.frame.specs.Layout.{dataBlockAt}
 use Rattle.octets.specs.Sizes.{longestFrame}
-use Rattle.octets.specs.Test.{when, Outcome, refused, ok}
-use Rattle.octets.proofs.Test.{by-eq, eq-no}
+use Rattle.octets.specs.Test.{when, ifEq, Outcome, refused, ok}
+use Rattle.octets.proofs.Test.{by-eq, eq-yes, eq-no}
 use Rattle.protocol.specs.Table.{Step, Sent, nothing, frame}
 use Rattle.call_spec.specs.declared.Call.the-variants.{Receive}
-use Rattle.call_spec.specs.Calls.{Arguments, given, wire, performed}
+use Rattle.call_spec.specs.Calls.{Rooms, given, wire, performed}
 use Rattle.call_spec.specs.Answers.{noticeOf, blockOf}
+use Rattle.step_plan.specs.Internal.{blockBy}
 use Rattle.link.specs.Record.{format}
 use Rattle.link.specs.Lent.{sentOf}
-use Rattle.link.proofs.Answers.{block-five, block-none}
+use Rattle.link.proofs.Answers.{hands-it-up}
 use Rattle.bench_log.specs.Log.{placeSize, places, logSize, lengthAt, frameLogged, place, placeHead}
 use Rattle.bench_log.proofs.Places.{stays}
 use Rattle.bench_spec.specs.Bench.{sends, callOutcome, logAfter}
-use Rattle.bench_call.specs.Answer.{blockStart}
+use Rattle.bench_call.specs.Answer.{blockStart, blockAt}
 use Rattle.bench_call.proofs.Does.{some-octets, with-14, Stands}
 
 -- a block is empty, or what follows octet 14 of the frame received
 abbrev pub From : List ℕ → List ℕ → Type 0
 From s b = (b ≡ []) ⊎ (b ≡ drop dataBlockAt s)
 
-pub call-from : (rec : List ℕ) (count : ℕ) (c : Arguments) → From (c .octets) (blockOf (callOutcome rec count c))
-unfolding blockOf
-call-from rec count c =
-    with-14 (λ (o : Outcome Step). From (c .octets) (blockOf o)) (λ n. inl refl) rec count c
-    (by-eq (noticeOf (performed format rec c)) 5 (λ z. inr (sym (block-five rec c z))) (λ z. inl (sym (block-none rec c z))))
+pub call-from : (rec : List ℕ) (count : ℕ) (s : List ℕ) (room : Rooms) → From s (blockOf (callOutcome rec count (given Receive s room)))
+unfolding blockOf blockBy
+call-from rec count s room =
+    let h = sym (hands-it-up rec s room) in
+    with-14 (λ (o : Outcome Step). From s (blockOf o)) (λ n. inl refl) rec count (given Receive s room)
+    (by-eq (noticeOf (performed format rec (given Receive s room))) 5 (λ z. inr (h ∙ eq-yes _ _ _ _ z)) (λ z. inl (h ∙ eq-no _ _ _ _ z)))
 
 -- the frame received stays in its place, since what is sent goes to a later one
 keeps-sent : (i : ℕ) (log : List ℕ) (count n : ℕ) (x : Step) (s : Sent) → x .sent ≡ s → (sentOf (ok x) ≢ 0 → count < places) → n < count → logSize ≤ length log
@@ -72,21 +74,28 @@ block-part n log =
     let e : drop dataBlockAt y ≡ drop (n * placeSize + (placeHead + dataBlockAt)) log = drop-drop dataBlockAt (n * placeSize + placeHead) log ∙ ap (λ (k : ℕ). drop k log) m in
     rw (drop-part dataBlockAt (lengthAt n log) y, e) (again (lengthAt n log - dataBlockAt) (drop (n * placeSize + (placeHead + dataBlockAt)) log))
 
-pub none-stands : (n : ℕ) (log b : List ℕ) → length b ≡ 0 → Stands n log b
-none-stands n log [] h = refl
-none-stands n log (x ∷ b) h = absurd (omega arith)
+none-stands : (start : ℕ) (log up b : List ℕ) → length b ≡ 0 → Stands start log up b
+unfolding blockAt ifEq when
+none-stands start log up [] h = refl
+none-stands start log up (x ∷ b) h = absurd (omega arith)
 
-some-stands : (n : ℕ) (log b : List ℕ) → b ≡ drop dataBlockAt (frameLogged n log) → Stands n log b
-some-stands n log b e =
-    by-eq (length b) 0 (none-stands n log b)
-    (λ z. rw (eq-no (length b) 0 0 (blockStart n) z, e) (block-part n log))
+-- a place in the log is not its start
+far : (n : ℕ) → blockStart n ≢ 0
+unfolding blockStart
+far n z = omega arith
 
-pub stands : (i : ℕ) (rec log : List ℕ) (count n room : ℕ) → let o = callOutcome rec count (given Receive (frameLogged n log) room) in
-    (sentOf o ≢ 0 → count < places) → n < count → logSize ≤ length log → lengthAt n log ≤ longestFrame → Stands n (logAfter i log count o) (blockOf o)
-stands i rec log count n room left below long short =
+some-stands : (n : ℕ) (log up b : List ℕ) → b ≡ drop dataBlockAt (frameLogged n log) → Stands (blockStart n) log up b
+unfolding blockAt
+some-stands n log up b e =
+    by-eq (length b) 0 (none-stands (blockStart n) log up b)
+    (λ z. rw (eq-no (length b) 0 0 (blockStart n) z) (eq-no (blockStart n) 0 _ _ (far n) ∙ rw e (block-part n log)))
+
+pub stands : (i : ℕ) (rec log up : List ℕ) (count n : ℕ) (room : Rooms) → let o = callOutcome rec count (given Receive (frameLogged n log) room) in
+    (sentOf o ≢ 0 → count < places) → n < count → logSize ≤ length log → lengthAt n log ≤ longestFrame → Stands (blockStart n) (logAfter i log count o) up (blockOf o)
+stands i rec log up count n room left below long short =
     let o = callOutcome rec count (given Receive (frameLogged n log) room) in
     let log′ = logAfter i log count o in
     ⊎-elim
-    (λ (e : blockOf o ≡ []). none-stands n log′ (blockOf o) (ap length e))
-    (λ (e : blockOf o ≡ drop dataBlockAt (frameLogged n log)). some-stands n log′ (blockOf o) (e ∙ ap (drop dataBlockAt) (sym (keeps i log count n o left below long short))))
-    (call-from rec count (given Receive (frameLogged n log) room))
+    (λ (e : blockOf o ≡ []). none-stands (blockStart n) log′ up (blockOf o) (ap length e))
+    (λ (e : blockOf o ≡ drop dataBlockAt (frameLogged n log)). some-stands n log′ up (blockOf o) (e ∙ ap (drop dataBlockAt) (sym (keeps i log count n o left below long short))))
+    (call-from rec count (frameLogged n log) room)

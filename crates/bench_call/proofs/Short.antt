@@ -6,36 +6,36 @@ use mathlib.Core.List.{List, [], _∷_}
 use native.Mathlib.Omega.{arith}
 use borrow.Author.Tests.{le-leb}
 use lib.Dec.{leb}
-use lib.ListN.{length}
+use lib.ListN.{length, getD}
 use Rattle.octets.specs.Sizes.{longestFrame, longestBlock}
 use Rattle.octets.specs.Test.{when, ifEq, inRange, first, Outcome, refused, ok, refusing, mapped, andThen}
 use Rattle.octets.specs.Octets.{octetsOf, lay}
 use Rattle.octets.proofs.Test.{if-eq}
 use Rattle.octets.proofs.Outcomes.{of-value, after-value}
-use Rattle.frame.specs.Frame.{Block, Frame, control, dataFrame, Request, connect, listen, endListening, close, timer, send}
+use Rattle.frame.specs.Frame.{Block, Frame, control, dataFrame, Request, connect, listen, endListening, close, timer, collect, send}
 use Rattle.frame.specs.Layout.{isFrame, layout, numbers, encode}
 use Rattle.frame.proofs.Writing.{head-length, encode-control}
 use Rattle.frame.specs.Read.{readFrame, readRequest}
 use Rattle.protocol.specs.declared.Rule.{Rule}
 use Rattle.protocol.specs.declared.Rule.the-variants.{Ignore, Refuse, AcceptDisconnect, Answer, Reset, OpenAndConfirm, CallAgain, Open, Rejected}
-use Rattle.protocol.specs.declared.Rule.the-variants.{RejectedByDisconnect, ListenAgain, ClosedByPartner, Confirm, HandUp, Acknowledge, Release}
+use Rattle.protocol.specs.declared.Rule.the-variants.{RejectedByDisconnect, ListenAgain, ClosedByPartner, Confirm, HandUp, Hold, Acknowledge, Release}
 use Rattle.protocol.specs.declared.Rule.the-variants.{FinishedByDisconnect, Finished}
 use Rattle.protocol.specs.Endpoint.{Endpoint, sized, sound}
 use Rattle.protocol.specs.Table.{Sent, frame, Step, rule, apply, step}
-use Rattle.protocol.specs.Requests.{oldest, resent, refusal, accept}
+use Rattle.protocol.specs.Requests.{oldest, resent, refusal, collected, accept}
 use Rattle.protocol.specs.Requests as protocol
 use Rattle.protocol.specs.History.{ask, deliver, Call, perform}
 use Rattle.protocol.specs.Claim.{blockSent}
 use Rattle.protocol.proofs.Sound.{sized-at, sound-so}
 use Rattle.call_spec.specs.declared.Call as calls
 use Rattle.call_spec.specs.declared.Call.the-variants as call
-use Rattle.call_spec.specs.Calls.{Arguments, reads, does, asked, wire, performed}
+use Rattle.call_spec.specs.Calls.{Arguments, reads, does, blockRoomOk, asked, wire, performed}
 use Rattle.call_spec.proofs.Lift.{read-sized}
 use Rattle.endpoint.specs.Record.{recordSize, decode}
 use Rattle.endpoint.proofs.Sounds.{view-sound}
 use Rattle.link.specs.Record.{format}
 use Rattle.link.specs.Lent.{sentOf}
-use Rattle.link.proofs.Answers.{lengths-long, blocks-long}
+use Rattle.link.proofs.Answers.{decode-long}
 use Rattle.bench_spec.specs.Bench.{logged, callOutcome}
 
 abbrev Short : Sent → Type 0
@@ -58,6 +58,7 @@ step-short ListenAgain e f = omega arith
 step-short ClosedByPartner e f = omega arith
 step-short Confirm e f = omega arith
 step-short HandUp e f = omega arith
+step-short Hold e f = omega arith
 step-short Acknowledge e f = omega arith
 step-short Release e f = omega arith
 step-short FinishedByDisconnect e f = omega arith
@@ -85,6 +86,11 @@ timer-short e h =
     if-eq Short (e .state) 4 (λ _. oldest-short e (e .queue) h) (λ _.
     if-eq Short (e .state) 5 (λ _. control-short 6 (e .local) (e .remote) (omega arith) (omega arith)) (λ _. omega arith))))
 
+collect-short : (e : Endpoint) (b : Block) → Short (collected e b .sent)
+unfolding collected wire encode layout numbers lay octetsOf ifEq when isFrame inRange
+collect-short e [] = omega arith
+collect-short e (x ∷ b) = omega arith
+
 accept-short : (q : Request) (e : Endpoint) → sized (e .queue) ≡ true → sized (blockSent (ask q)) ≡ true → Short (accept q e .sent)
 unfolding accept wire encode layout numbers lay octetsOf ifEq when isFrame inRange
 accept-short connect e h k = omega arith
@@ -93,6 +99,7 @@ accept-short endListening e h k = omega arith
 accept-short close e h k = omega arith
 accept-short (send b) e h k = data-short (e .local) (e .remote) (e .accepted) b (sized-at 0 (b ∷ []) k (omega arith) .1)
 accept-short timer e h k = timer-short e h
+accept-short collect e h k = collect-short e (getD (e .held) 0 [])
 
 -- so is what an outcome sends
 abbrev Sends : Outcome Step → Type 0
@@ -118,11 +125,12 @@ unfolding does reads
 does-short call.Request s e h = request-short e (readRequest s) (sound-so e h .blocks) (read-sized s)
 does-short call.Receive s e h = receive-short e (readFrame s)
 
-own-short : (room fine : Bool) (o : Outcome Step) → (fine ≡ true → Sends o) → Sends (refusing (first ((11, room) ∷ (12, fine) ∷ [])) o)
+own-short : (room blockRoom fine : Bool) (o : Outcome Step) → (fine ≡ true → Sends o) → Sends (refusing (first ((11, room) ∷ (11, blockRoom) ∷ (12, fine) ∷ [])) o)
 unfolding first when refusing sentOf
-own-short true true o h = h refl
-own-short true false o h = omega arith
-own-short false fine o h = omega arith
+own-short true true true o h = h refl
+own-short true true false o h = omega arith
+own-short true false fine o h = omega arith
+own-short false b fine o h = omega arith
 
 logged-short : (count : ℕ) (o : Outcome Step) → Sends o → Sends (andThen o (logged count))
 unfolding logged
@@ -133,5 +141,5 @@ unfolding callOutcome performed asked refusing first when
 sent-short rec count c h =
     logged-short count (performed format rec c)
     (rw (le-leb recordSize (length rec) h)
-    (own-short (leb longestFrame (c .room)) (format .sound rec) _
-    (λ z. does-short (c .call) (c .octets) (format .holds rec) (view-sound (decode rec) z (lengths-long rec h) (blocks-long rec h)))))
+    (own-short (leb longestFrame (c .room)) (blockRoomOk (c .call) (c .blockRoom)) (format .sound rec) _
+    (λ z. does-short (c .call) (c .octets) (format .holds rec) (view-sound (decode rec) z (decode-long rec h)))))

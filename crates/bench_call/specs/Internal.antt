@@ -4,20 +4,21 @@ use mathlib.Core.Path.{_≡_}
 use mathlib.Core.Bool.{Bool, true}
 use mathlib.Core.List.{List}
 use lib.Dec.{ltb}
-use lib.ListN.{length, take, drop}
+use lib.ListN.{length}
 use Rattle.octets.specs.Test.{ifEq, Outcome}
 use Rattle.octets.specs.Octets.{put}
 use Rattle.protocol.specs.Table.{Step}
 use Rattle.call_spec.specs.Calls.{recordAfter, bufferAfter}
 use Rattle.step_plan.specs.declared.Reply.{Reply}
 use Rattle.step_plan.specs.declared.Reply.the-variants as reply
-use Rattle.call_spec.specs.Answers.{blockOf}
+use Rattle.call_spec.specs.declared.Call.{Call}
+use Rattle.call_spec.specs.Answers.{blockOf, blockBufferAfter}
 use Rattle.link.specs.declared.Answer.{Answer}
 use Rattle.link.specs.Record.{format}
 use Rattle.bench_log.specs.Log.{placeSize, places, place}
 use Rattle.bench_spec.specs.Bench.{logAfter}
 use Rattle.bench_call.specs.declared.BenchAnswer.{BenchAnswer}
-use Rattle.bench_call.specs.Answer.{blockStart, benchAnswerOf}
+use Rattle.bench_call.specs.Answer.{blockAt, benchAnswerOf}
 
 -- 14 of a planned reply
 unfoldable pub hasPlace : Reply → ℕ → Bool
@@ -31,19 +32,20 @@ noted i log count s = ifEq (length s) 0 log (put log (count * placeSize) (place 
 unfoldable pub notedCount : ℕ → ℕ → ℕ
 notedCount count sent = ifEq sent 0 count (count + 1)
 
--- where the block handed up from frame n stands in the log
+-- where the block handed up stands in the log, which has it from start on if there is one
 unfoldable pub blockPlace : ℕ → ℕ → ℕ
-blockPlace n block = ifEq block 0 0 (blockStart n)
+blockPlace start block = ifEq block 0 0 start
 
 -- the answer of a line whose call at end i is told like this
 unfoldable pub answerFrom : ℕ → Answer → ℕ → ℕ → BenchAnswer
-answerFrom i a n count =
-    record { end = i; status = a .status; sent = a .sent; at = blockPlace n (a .block); block = a .block; count = notedCount count (a .sent) }
+answerFrom i a start count =
+    record { end = i; status = a .status; sent = a .sent; at = blockPlace start (a .block); block = a .block; count = notedCount count (a .sent) }
 
--- a call at end i with this outcome, of a line about frame n
-pub record Does (i : ℕ) (rec log : List ℕ) (count n : ℕ) (o : Outcome Step) (out rec′ log′ out′ : List ℕ) (r : BenchAnswer) : Type 0 where
-  pub answer : r ≡ benchAnswerOf i rec count n o
+-- a call at end i with this outcome, of a line whose frame, if it delivers one, has its block in the log from start on
+pub record Does (i : ℕ) (rec log : List ℕ) (count start : ℕ) (c : Call) (o : Outcome Step) (out up rec′ log′ out′ up′ : List ℕ) (r : BenchAnswer) : Type 0 where
+  pub answer : r ≡ benchAnswerOf i rec count start o
   pub end : rec′ ≡ recordAfter format rec o
   pub entered : log′ ≡ logAfter i log count o
   pub buffer : out′ ≡ bufferAfter out o
-  pub handed : take (r .block) (drop (r .at) log′) ≡ blockOf o
+  pub block-buffer : up′ ≡ blockBufferAfter c up o
+  pub handed : blockAt (r .at) (r .block) log′ up′ ≡ blockOf o

@@ -5,16 +5,16 @@ use link::Answer;
 use octets::refusal;
 use step_plan::Reply;
 ghost use mathlib.Core.Path.{_≡_};
-ghost use Prim.Native.Nat.{ℕ, _≤_, _<_};
+ghost use Prim.Native.Nat.{_≤_, _<_};
 ghost use mathlib.Core.Logic.{_≢_};
 ghost use lib.ListN.{length, take};
 ghost use Rattle.octets.specs.Sizes.{longestFrame};
 ghost use Rattle.endpoint.specs.Record.{recordSize};
 ghost use Rattle.call_spec.specs.declared.Call.the-variants.{Request, Receive};
-ghost use Rattle.call_spec.specs.Calls.{given};
-ghost use Rattle.link.specs.Lent.{Called};
+ghost use Rattle.link.specs.Lent.{Called, lentCall};
 ghost use Rattle.bench_log.specs.Log.{places, logSize, lengthAt, frameLogged};
 ghost use Rattle.bench_spec.specs.Bench.{callOutcome};
+ghost use Rattle.bench_call.specs.Answer.{blockStart};
 ghost use Rattle.bench_call.specs.Internal.{hasPlace, noted, notedCount, blockPlace, answerFrom, Does};
 
 // Question 14 of a plan: what sends a frame needs a place for it in the log.
@@ -28,16 +28,23 @@ pub fn has_place(reply: Reply, count: usize) -> bool
 }
 
 // A call of an end, with question 14 last, of its plan.
-fn call_end(call: Call, rec: &mut [u8], s: &[u8], count: usize, out: &mut [u8]) -> Answer
+fn call_end(
+    call: Call,
+    rec: &mut [u8],
+    s: &[u8],
+    count: usize,
+    out: &mut [u8],
+    up: &mut [u8],
+) -> Answer
     requires { ⌜ recordSize ≤ length (now rec) ⌝ }
-    ensures { λ r. ⌜ Called (callOutcome (now (rec .entry)) count (given call (now (s .entry)) (length (now (out .entry))))) (now (rec .entry)) (now (s .entry)) (now (out .entry)) (now (rec .exit)) (now (out .exit)) r ⌝ }
+    ensures { λ r. ⌜ Called call (callOutcome (now (rec .entry)) count (lentCall call (now (s .entry)) (now (out .entry)) (now (up .entry)))) (now (rec .entry)) (now (s .entry)) (now (out .entry)) (now (up .entry)) (now (rec .exit)) (now (out .exit)) (now (up .exit)) r ⌝ }
 {
-    let p = link::plan_call(call, rec, s, out.len());
+    let p = link::plan_call(call, rec, s, out.len(), up.len());
     let reply = p.reply;
     if !has_place(reply, count) {
         return link::refuse(rec, refusal::LOG_FULL);
     }
-    link::finish(p, rec, s, out)
+    link::finish(call, p, rec, s, out, up)
 }
 
 // Enters what was sent in the next place of the log, and counts it; nothing where nothing was sent.
@@ -55,18 +62,18 @@ fn note(end: u8, log: &mut [u8], count: usize, sent: &[u8]) -> usize
 // The block of a DATA in its place of the log.
 const BLOCK_AT: usize = bench_log::FRAME_AT + frame::DATA_BLOCK_AT;
 
-// Where the block handed up from frame n stands in the log; 0 where there is none.
-fn block_place(n: usize, block: usize) -> usize
-    requires { ⌜ n < places ⌝ }
-    ensures { λ r. ⌜ r ≡ blockPlace n block ⌝ }
+// Where the block handed up stands in the log, which has it from start on; 0 where there is none.
+fn block_place(start: usize, block: usize) -> usize
+    ensures { λ r. ⌜ r ≡ blockPlace start block ⌝ }
 {
     if block == 0 {
         return 0;
     }
-    n * bench_log::PLACE_SIZE + BLOCK_AT
+    start
 }
 
-// What a line answers. end is 0 for A and 1 for B; a block handed up stands in the log, from at on.
+// What a line answers. end is 0 for A and 1 for B; a block handed up stands in the log, from at on, or, where at is 0, at the start of
+// the buffer lent for it.
 pub struct BenchAnswer {
     pub end: u8,
     pub status: Status,
@@ -76,10 +83,10 @@ pub struct BenchAnswer {
     pub count: usize,
 }
 
-// Logs what a call at an end has sent to the start of out, and tells of the call; n is the frame received.
-fn finish(end: u8, a: Answer, n: usize, log: &mut [u8], count: usize, out: &[u8]) -> BenchAnswer
-    requires { ⌜ (logSize ≤ length (now log)) × ((n < places) × ((a .sent ≤ length (now out)) × ((a .sent ≤ longestFrame) × (a .sent ≢ 0 → count < places)))) ⌝ }
-    ensures { λ r. ⌜ (r ≡ answerFrom end a n count) × (now (log .exit) ≡ noted end (now (log .entry)) count (take (a .sent) (now (out .entry)))) ⌝ }
+// Logs what a call at an end has sent to the start of out, and tells of the call; a block that it hands up is in the log from start on.
+fn finish(end: u8, a: Answer, start: usize, log: &mut [u8], count: usize, out: &[u8]) -> BenchAnswer
+    requires { ⌜ (logSize ≤ length (now log)) × ((a .sent ≤ length (now out)) × ((a .sent ≤ longestFrame) × (a .sent ≢ 0 → count < places))) ⌝ }
+    ensures { λ r. ⌜ (r ≡ answerFrom end a start count) × (now (log .exit) ≡ noted end (now (log .entry)) count (take (a .sent) (now (out .entry)))) ⌝ }
 {
     let sent = a.sent;
     let counted = note(end, log, count, &out[..sent]);
@@ -88,13 +95,13 @@ fn finish(end: u8, a: Answer, n: usize, log: &mut [u8], count: usize, out: &[u8]
         end,
         status,
         sent,
-        at: block_place(n, a.block),
+        at: block_place(start, a.block),
         block: a.block,
         count: counted,
     }
 }
 
-// A request at an end.
+// A request at an end. What it hands up stands at the start of up.
 pub fn request_at(
     end: u8,
     rec: &mut [u8],
@@ -102,11 +109,12 @@ pub fn request_at(
     log: &mut [u8],
     count: usize,
     out: &mut [u8],
+    up: &mut [u8],
 ) -> BenchAnswer
     requires { ⌜ (recordSize ≤ length (now rec)) × (logSize ≤ length (now log)) ⌝ }
-    ensures { λ r. ⌜ ((n : ℕ) → Does end (now (rec .entry)) (now (log .entry)) count n (callOutcome (now (rec .entry)) count (given Request (now (s .entry)) (length (now (out .entry))))) (now (out .entry)) (now (rec .exit)) (now (log .exit)) (now (out .exit)) r) ⌝ }
+    ensures { λ r. ⌜ Does end (now (rec .entry)) (now (log .entry)) count 0 Request (callOutcome (now (rec .entry)) count (lentCall Request (now (s .entry)) (now (out .entry)) (now (up .entry)))) (now (out .entry)) (now (up .entry)) (now (rec .exit)) (now (log .exit)) (now (out .exit)) (now (up .exit)) r ⌝ }
 {
-    let a = call_end(Call::Request, rec, s, count, out);
+    let a = call_end(Call::Request, rec, s, count, out, up);
     finish(end, a, 0, log, count, out)
 }
 
@@ -118,10 +126,25 @@ pub fn deliver_at(
     log: &mut [u8],
     count: usize,
     out: &mut [u8],
+    up: &mut [u8],
 ) -> BenchAnswer
     requires { ⌜ (recordSize ≤ length (now rec)) × ((logSize ≤ length (now log)) × (((n < count) × (count ≤ places)) × (lengthAt n (now log) ≤ longestFrame))) ⌝ }
-    ensures { λ r. ⌜ Does end (now (rec .entry)) (now (log .entry)) count n (callOutcome (now (rec .entry)) count (given Receive (frameLogged n (now (log .entry))) (length (now (out .entry))))) (now (out .entry)) (now (rec .exit)) (now (log .exit)) (now (out .exit)) r ⌝ }
+    ensures { λ r. ⌜ Does end (now (rec .entry)) (now (log .entry)) count (blockStart n) Receive (callOutcome (now (rec .entry)) count (lentCall Receive (frameLogged n (now (log .entry))) (now (out .entry)) (now (up .entry)))) (now (out .entry)) (now (up .entry)) (now (rec .exit)) (now (log .exit)) (now (out .exit)) (now (up .exit)) r ⌝ }
 {
-    let a = call_end(Call::Receive, rec, bench_log::frame_of(log, n), count, out);
-    finish(end, a, n, log, count, out)
+    let a = call_end(
+        Call::Receive,
+        rec,
+        bench_log::frame_of(log, n),
+        count,
+        out,
+        up,
+    );
+    finish(
+        end,
+        a,
+        n * bench_log::PLACE_SIZE + BLOCK_AT,
+        log,
+        count,
+        out,
+    )
 }

@@ -6,12 +6,13 @@ use mathlib.Core.List.{List, [], _∷_, _++_}
 use native.Mathlib.Omega.{arith}
 use lib.ListN.{length}
 use borrow.Author.Tests.{eqb-true, le-leb}
-use Rattle.octets.specs.Sizes.{longestFrame}
+use Rattle.octets.specs.Sizes.{longestFrame, longestBlock}
 use Rattle.octets.specs.Test.{when, Question, first, refused, refusing}
 use Rattle.octets.proofs.Test.{both, within, all-yes}
 use Rattle.hex.specs.Line.{unhex, lengthOk, lineQuestions}
 use Rattle.hex.proofs.Digits.{length-unhex}
 use Rattle.endpoint.specs.Record.{recordSize}
+use Rattle.call_spec.specs.Calls.{Rooms}
 use Rattle.bench_log.specs.Log.{places, logSize}
 use Rattle.bench_spec.specs.Bench.{Bench, benchOf, octetsAsk, lineAsks}
 use Rattle.bench_checks.specs.Ready.{readyQuestions}
@@ -24,7 +25,7 @@ later [] rs k h = absurd (omega arith)
 later ((n, true) ∷ qs) rs k h = later qs rs k h
 later ((n, false) ∷ qs) rs k h = h
 
-module _ (a b log : List ℕ) (count : ℕ) (line : List ℕ) (room : ℕ) where
+module _ (a b log : List ℕ) (count : ℕ) (line : List ℕ) (room : Rooms) where
   abbrev v : Bench
   v = benchOf a b log count
 
@@ -37,7 +38,7 @@ module _ (a b log : List ℕ) (count : ℕ) (line : List ℕ) (room : ℕ) where
     next : lineAsks v line room ≡ refusing (first (lineQuestions line)) (octetsAsk v (unhex line) room)
     unfolding lineAsks first when
     next =
-        rw (le-leb recordSize (length a) (y .long-a), le-leb recordSize (length b) (y .long-b), le-leb logSize (length log) (y .long-log), le-leb longestFrame room (y .enough), y .sound-a, y .sound-b, le-leb count places (y .few)) refl
+        rw (le-leb recordSize (length a) (y .long-a), le-leb recordSize (length b) (y .long-b), le-leb logSize (length log) (y .long-log), le-leb longestFrame (room .frame) (y .enough), le-leb longestBlock (room .block) (y .enough-block), y .sound-a, y .sound-b, le-leb count places (y .few)) refl
 
     -- then 1 and 2 of the line
     pub passes : first (lineQuestions line) ≡ 0 → lineAsks v line room ≡ octetsAsk v (unhex line) room

@@ -14,67 +14,81 @@ use Rattle.octets.proofs.Test.{eq-yes, eq-no}
 use Rattle.octets.proofs.Octets.{field-more, field-one}
 use Rattle.frame.specs.Read.{kindOf}
 use Rattle.call_spec.specs.declared.Call.the-variants.{Request, Receive}
-use Rattle.call_spec.specs.Calls.{Arguments, given, recordAfter, bufferAfter}
-use Rattle.call_spec.specs.Answers.{blockOf}
+use Rattle.call_spec.specs.Calls.{Arguments, Rooms, given, recordAfter, bufferAfter}
+use Rattle.call_spec.specs.Answers.{blockOf, blockBufferAfter}
 use Rattle.bench_log.specs.Log.{senderAt, frameLogged, holds}
 use Rattle.bench_log.proofs.Log.{held}
 use Rattle.bench_spec.specs.Bench.{Bench, benchOf, recordAt, At, delivery, octetsAsk, callOutcome, comes, endOf, logAfter, countAfter, benchAfter, requestOfA, requestOfB, deliver}
 use Rattle.link.specs.declared.Answer.{Answer}
 use Rattle.link.specs.Lent.{answerOf}
 use Rattle.bench_call.specs.declared.BenchAnswer.{BenchAnswer}
-use Rattle.bench_call.specs.Answer.{benchAnswerOf}
+use Rattle.bench_call.specs.Answer.{blockStart, blockAt, benchAnswerOf}
 use Rattle.bench_call.specs.Internal.{Does}
-use Rattle.bench_order.specs.Performed.{Performed}
+use Rattle.bench_order.specs.Performed.{lineStart, callOf, Performed}
 
 -- a refusal tells of A's record
-pub told : (rec : List ℕ) (number count n : ℕ) {m : Answer} → m ≡ answerOf rec (refused number)
-    → record { end = 0; status = m .status; sent = m .sent; at = 0; block = m .block; count = count } ≡ benchAnswerOf 0 rec count n (refused number)
+pub told : (rec : List ℕ) (number count start : ℕ) {m : Answer} → m ≡ answerOf rec (refused number)
+    → record { end = 0; status = m .status; sent = m .sent; at = 0; block = m .block; count = count } ≡ benchAnswerOf 0 rec count start (refused number)
 unfolding benchAnswerOf answerOf countAfter blockOf ifEq when
-told rec number count n e = rw e refl
+told rec number count start e = rw e refl
 
 module _ (a b log : List ℕ) (count : ℕ) where
   abbrev w : Bench
   w = benchOf a b log count
 
   -- a refused line leaves all as it is
-  pub declines : {q : Outcome At} (n k : ℕ) (out : List ℕ) {r : BenchAnswer} → q ≡ refused k → r ≡ benchAnswerOf 0 a count n (refused k)
-      → Performed w q n out a b log out r
-  unfolding comes endOf andThen recordAt benchAfter benchAnswerOf recordAfter bufferAfter mapped left logAfter countAfter blockOf ifEq when
-  declines n k out e h =
-      rw e (record { answer = h; bench = λ i. benchOf a b log (h i .count); buffer = refl; handed = rw h refl })
+  pub declines : {q : Outcome At} (start k : ℕ) (out up : List ℕ) {r : BenchAnswer} → q ≡ refused k → r ≡ benchAnswerOf 0 a count start (refused k)
+      → Performed w q start out up a b log out up r
+  unfolding comes endOf callOf andThen recordAt benchAfter benchAnswerOf recordAfter bufferAfter blockBufferAfter mapped left logAfter countAfter blockOf blockAt ifEq when
+  declines start k out up e h =
+      rw e (record { answer = h; bench = λ i. benchOf a b log (h i .count); buffer = refl; block-buffer = refl; handed = rw h refl })
 
   -- a call at an end leaves the other as it is
-  pub at-a : {q : Outcome At} (n : ℕ) (c : Arguments) (out : List ℕ) {a′ log′ out′ : List ℕ} {r : BenchAnswer} → q ≡ ok (0, c)
-      → Does 0 a log count n (callOutcome a count c) out a′ log′ out′ r → Performed w q n out a′ b log′ out′ r
-  unfolding comes endOf andThen recordAt benchAfter benchAnswerOf ifEq when
-  at-a n c out e d =
-      rw e (record { answer = d .answer; bench = λ i. benchOf (d .end i) b (d .entered i) (d .answer i .count); buffer = d .buffer; handed = d .handed })
+  pub at-a : {q : Outcome At} (start : ℕ) (c : Arguments) (out up : List ℕ) {a′ log′ out′ up′ : List ℕ} {r : BenchAnswer} → q ≡ ok (0, c)
+      → Does 0 a log count start (c .call) (callOutcome a count c) out up a′ log′ out′ up′ r → Performed w q start out up a′ b log′ out′ up′ r
+  unfolding comes endOf callOf andThen recordAt benchAfter benchAnswerOf ifEq when
+  at-a start c out up e d =
+      rw e
+      (record {
+        answer = d .answer;
+        bench = λ i. benchOf (d .end i) b (d .entered i) (d .answer i .count);
+        buffer = d .buffer;
+        block-buffer = d .block-buffer;
+        handed = d .handed;
+      })
 
-  pub at-b : {q : Outcome At} (n : ℕ) (c : Arguments) (out : List ℕ) {b′ log′ out′ : List ℕ} {r : BenchAnswer} → q ≡ ok (1, c)
-      → Does 1 b log count n (callOutcome b count c) out b′ log′ out′ r → Performed w q n out a b′ log′ out′ r
-  unfolding comes endOf andThen recordAt benchAfter benchAnswerOf ifEq when
-  at-b n c out e d =
-      rw e (record { answer = d .answer; bench = λ i. benchOf a (d .end i) (d .entered i) (d .answer i .count); buffer = d .buffer; handed = d .handed })
+  pub at-b : {q : Outcome At} (start : ℕ) (c : Arguments) (out up : List ℕ) {b′ log′ out′ up′ : List ℕ} {r : BenchAnswer} → q ≡ ok (1, c)
+      → Does 1 b log count start (c .call) (callOutcome b count c) out up b′ log′ out′ up′ r → Performed w q start out up a b′ log′ out′ up′ r
+  unfolding comes endOf callOf andThen recordAt benchAfter benchAnswerOf ifEq when
+  at-b start c out up e d =
+      rw e
+      (record {
+        answer = d .answer;
+        bench = λ i. benchOf a (d .end i) (d .entered i) (d .answer i .count);
+        buffer = d .buffer;
+        block-buffer = d .block-buffer;
+        handed = d .handed;
+      })
 
   -- question 13
-  pub no-frame : (n room : ℕ) → holds count n log ≡ false → delivery w n room ≡ refused 13
+  pub no-frame : (n : ℕ) (room : Rooms) → holds count n log ≡ false → delivery w n room ≡ refused 13
   unfolding delivery first when outcome
   no-frame n room h = rw h refl
 
-  goes : (n room : ℕ) → holds count n log ≡ true → delivery w n room ≡ ok (1 - senderAt n log, given Receive (frameLogged n log) room)
+  goes : (n : ℕ) (room : Rooms) → holds count n log ≡ true → delivery w n room ≡ ok (1 - senderAt n log, given Receive (frameLogged n log) room)
   unfolding delivery first when outcome
   goes n room h = rw h refl
 
-  pub to-b : (n room : ℕ) → holds count n log ≡ true → senderAt n log ≡ 0 → delivery w n room ≡ ok (1, given Receive (frameLogged n log) room)
+  pub to-b : (n : ℕ) (room : Rooms) → holds count n log ≡ true → senderAt n log ≡ 0 → delivery w n room ≡ ok (1, given Receive (frameLogged n log) room)
   to-b n room h z = goes n room h ∙ ap (λ (i : ℕ). ok (1 - i, given Receive (frameLogged n log) room)) z
 
-  pub to-a : (n room : ℕ) → holds count n log ≡ true → senderAt n log ≢ 0 → delivery w n room ≡ ok (0, given Receive (frameLogged n log) room)
+  pub to-a : (n : ℕ) (room : Rooms) → holds count n log ≡ true → senderAt n log ≢ 0 → delivery w n room ≡ ok (0, given Receive (frameLogged n log) room)
   to-a n room h z =
       let one : senderAt n log ≡ 1 = omega (arith, held count n log h .sender, z) in
       goes n room h ∙ ap (λ (i : ℕ). ok (1 - i, given Receive (frameLogged n log) room)) one
 
   -- what a line's octets ask, by their kind
-  module _ (s : List ℕ) (room : ℕ) where
+  module _ (s : List ℕ) (room : Rooms) where
     pub asks-a : kindOf s ≡ requestOfA → octetsAsk w s room ≡ ok (0, given Request (drop 1 s) room)
     unfolding octetsAsk
     asks-a h = eq-yes (kindOf s) requestOfA _ _ h
@@ -99,6 +113,15 @@ module _ (a b log : List ℕ) (count : ℕ) where
     pub asks-frame : kindOf s ≡ deliver → length s ≡ 3 → {n : ℕ} → n ≡ field 2 1 s → octetsAsk w s room ≡ delivery w n room
     unfolding first when refusing
     asks-frame h x e = rw e (fetches h ∙ rw (eq-eqb (length s) 3 x) refl)
+
+-- where the block of what a line delivers stands
+pub starts-none : (s : List ℕ) → kindOf s ≢ deliver → lineStart s ≡ 0
+unfolding lineStart
+starts-none s h = eq-no (kindOf s) deliver _ _ h
+
+pub starts-at : (s : List ℕ) → kindOf s ≡ deliver → lineStart s ≡ blockStart (field 2 1 s)
+unfolding lineStart
+starts-at s h = eq-yes (kindOf s) deliver _ _ h
 
 -- the number of 2 octets
 pub number-of : (s : List ℕ) → length s ≡ 3 → field 2 1 s ≡ getD s 1 0 * 256 + getD s 2 0

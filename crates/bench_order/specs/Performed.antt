@@ -2,18 +2,31 @@
 use Prim.Native.Nat.{ℕ}
 use mathlib.Core.Path.{_≡_}
 use mathlib.Core.List.{List}
-use lib.ListN.{take, drop}
-use Rattle.octets.specs.Test.{Outcome}
+use Rattle.octets.specs.Test.{ifEq, Outcome, refused, ok}
+use Rattle.octets.specs.Octets.{field}
+use Rattle.frame.specs.Read.{kindOf}
+use Rattle.call_spec.specs.declared.Call.{Call}
+use Rattle.call_spec.specs.declared.Call.the-variants.{Receive}
 use Rattle.call_spec.specs.Calls.{bufferAfter}
-use Rattle.call_spec.specs.Answers.{blockOf}
-use Rattle.bench_spec.specs.Bench.{Bench, benchOf, At, recordAt, comes, endOf, benchAfter}
+use Rattle.call_spec.specs.Answers.{blockOf, blockBufferAfter}
+use Rattle.bench_spec.specs.Bench.{Bench, benchOf, At, recordAt, comes, endOf, benchAfter, deliver}
 use Rattle.bench_call.specs.declared.BenchAnswer.{BenchAnswer}
-use Rattle.bench_call.specs.Answer.{benchAnswerOf}
+use Rattle.bench_call.specs.Answer.{blockStart, blockAt, benchAnswerOf}
 
--- A line on the bench w: q is the call that it makes, or its refusal; n is the frame that it delivers, if it delivers one. A block
--- handed up is a part of the log.
-pub record Performed (w : Bench) (q : Outcome At) (n : ℕ) (out a b log out′ : List ℕ) (r : BenchAnswer) : Type 0 where
-  pub answer : r ≡ benchAnswerOf (endOf q) (recordAt (endOf q) w) (w .count) n (comes w q)
+-- where the block of the frame that a line delivers stands in the log; 0 for a line that delivers none
+unfoldable pub lineStart : List ℕ → ℕ
+lineStart s = ifEq (kindOf s) deliver (blockStart (field 2 1 s)) 0
+
+-- the call that a line makes; a line that is refused leaves the buffer for a block alone, as receiving does
+unfoldable pub callOf : Outcome At → Call
+callOf (refused n) = Receive
+callOf (ok x) = x .1 .call
+
+-- A line on the bench w: q is the call that it makes, or its refusal; start is where the block of the frame that it delivers, if it
+-- delivers one, stands in the log.
+pub record Performed (w : Bench) (q : Outcome At) (start : ℕ) (out up a b log out′ up′ : List ℕ) (r : BenchAnswer) : Type 0 where
+  pub answer : r ≡ benchAnswerOf (endOf q) (recordAt (endOf q) w) (w .count) start (comes w q)
   pub bench : benchOf a b log (r .count) ≡ benchAfter (endOf q) w (comes w q)
   pub buffer : out′ ≡ bufferAfter out (comes w q)
-  pub handed : take (r .block) (drop (r .at) log) ≡ blockOf (comes w q)
+  pub block-buffer : up′ ≡ blockBufferAfter (callOf q) up (comes w q)
+  pub handed : blockAt (r .at) (r .block) log up′ ≡ blockOf (comes w q)

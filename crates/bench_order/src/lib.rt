@@ -5,12 +5,12 @@ ghost use mathlib.Core.Path.{_≡_};
 ghost use Prim.Native.Nat.{ℕ, _≤_};
 ghost use lib.ListN.{length};
 ghost use Rattle.octets.specs.Test.{refused};
-ghost use Rattle.octets.specs.Octets.{field};
+ghost use Rattle.call_spec.specs.Calls.{rooms};
 ghost use Rattle.endpoint.specs.Record.{recordSize};
 ghost use Rattle.bench_log.specs.Log.{places, logSize};
 ghost use Rattle.bench_spec.specs.Bench.{benchOf, delivery, octetsAsk};
-ghost use Rattle.bench_call.specs.Answer.{benchAnswerOf};
-ghost use Rattle.bench_order.specs.Performed.{Performed};
+ghost use Rattle.bench_call.specs.Answer.{blockStart, benchAnswerOf};
+ghost use Rattle.bench_order.specs.Performed.{lineStart, Performed};
 
 const REQUEST_A: u8 = 0x50;
 
@@ -20,7 +20,7 @@ const DELIVER: u8 = 0x52;
 
 // A refusal that names no end is about A.
 pub fn refuse(a: &[u8], number: u8, count: usize) -> BenchAnswer
-    ensures { λ r. ⌜ ((n : ℕ) → r ≡ benchAnswerOf 0 (now (a .entry)) count n (refused number)) ⌝ }
+    ensures { λ r. ⌜ ((start : ℕ) → r ≡ benchAnswerOf 0 (now (a .entry)) count start (refused number)) ⌝ }
 {
     let told = link::refuse(a, number);
     let status = told.status;
@@ -42,17 +42,18 @@ fn deliver(
     count: usize,
     n: usize,
     out: &mut [u8],
+    up: &mut [u8],
 ) -> BenchAnswer
     requires { ⌜ (recordSize ≤ length (now a)) × ((recordSize ≤ length (now b)) × ((logSize ≤ length (now log)) × (count ≤ places))) ⌝ }
-    ensures { λ r. ⌜ Performed (benchOf (now (a .entry)) (now (b .entry)) (now (log .entry)) count) (delivery (benchOf (now (a .entry)) (now (b .entry)) (now (log .entry)) count) n (length (now (out .entry)))) n (now (out .entry)) (now (a .exit)) (now (b .exit)) (now (log .exit)) (now (out .exit)) r ⌝ }
+    ensures { λ r. ⌜ Performed (benchOf (now (a .entry)) (now (b .entry)) (now (log .entry)) count) (delivery (benchOf (now (a .entry)) (now (b .entry)) (now (log .entry)) count) n (rooms (length (now (out .entry))) (length (now (up .entry))))) (blockStart n) (now (out .entry)) (now (up .entry)) (now (a .exit)) (now (b .exit)) (now (log .exit)) (now (out .exit)) (now (up .exit)) r ⌝ }
 {
     if !bench_log::holds(log, count, n) {
         return refuse(a, refusal::NO_SUCH_FRAME, count);
     }
     if bench_log::sender_of(log, n) == 0 {
-        return bench_call::deliver_at(1, b, n, log, count, out);
+        return bench_call::deliver_at(1, b, n, log, count, out, up);
     }
-    bench_call::deliver_at(0, a, n, log, count, out)
+    bench_call::deliver_at(0, a, n, log, count, out, up)
 }
 
 // What the octets of a line ask.
@@ -63,16 +64,17 @@ pub fn ask(
     count: usize,
     s: &[u8],
     out: &mut [u8],
+    up: &mut [u8],
 ) -> BenchAnswer
     requires { ⌜ (1 ≤ length (now s)) × ((recordSize ≤ length (now a)) × ((recordSize ≤ length (now b)) × ((logSize ≤ length (now log)) × (count ≤ places)))) ⌝ }
-    ensures { λ r. ⌜ Performed (benchOf (now (a .entry)) (now (b .entry)) (now (log .entry)) count) (octetsAsk (benchOf (now (a .entry)) (now (b .entry)) (now (log .entry)) count) (now (s .entry)) (length (now (out .entry)))) (field 2 1 (now (s .entry))) (now (out .entry)) (now (a .exit)) (now (b .exit)) (now (log .exit)) (now (out .exit)) r ⌝ }
+    ensures { λ r. ⌜ Performed (benchOf (now (a .entry)) (now (b .entry)) (now (log .entry)) count) (octetsAsk (benchOf (now (a .entry)) (now (b .entry)) (now (log .entry)) count) (now (s .entry)) (rooms (length (now (out .entry))) (length (now (up .entry))))) (lineStart (now (s .entry))) (now (out .entry)) (now (up .entry)) (now (a .exit)) (now (b .exit)) (now (log .exit)) (now (out .exit)) (now (up .exit)) r ⌝ }
 {
     let kind = s[0];
     if kind == REQUEST_A {
-        return bench_call::request_at(0, a, &s[1..], log, count, out);
+        return bench_call::request_at(0, a, &s[1..], log, count, out, up);
     }
     if kind == REQUEST_B {
-        return bench_call::request_at(1, b, &s[1..], log, count, out);
+        return bench_call::request_at(1, b, &s[1..], log, count, out, up);
     }
     if kind != DELIVER {
         return refuse(a, refusal::UNKNOWN_KIND, count);
@@ -81,5 +83,5 @@ pub fn ask(
         return refuse(a, refusal::BAD_SIZE, count);
     }
     let n = octets::wide(s[1]) * 256 + octets::wide(s[2]);
-    deliver(a, b, log, count, n, out)
+    deliver(a, b, log, count, n, out, up)
 }

@@ -5,10 +5,10 @@ use mathlib.Core.Logic.{_≢_}
 use mathlib.Core.Bool.{Bool, true, false}
 use mathlib.Core.List.{List}
 use native.Mathlib.Omega.{arith}
-use Rattle.octets.specs.Sizes.{longestFrame}
+use Rattle.octets.specs.Sizes.{longestFrame, longestBlock}
 use Rattle.octets.specs.Test.{when, ifEq, first, Outcome, ok, outcome, andThen, numberOf}
 use Rattle.call_spec.specs.declared.Call.the-variants.{Receive}
-use Rattle.call_spec.specs.Calls.{given}
+use Rattle.call_spec.specs.Calls.{given, rooms}
 use Rattle.endpoint.proofs.Sounds.{by-lt}
 use Rattle.bench_log.specs.Log.{senderAt, frameLogged, holds}
 use Rattle.bench_log.proofs.Log.{too-high, held}
@@ -18,9 +18,9 @@ use Rattle.bench_query.specs.Found.{Changes, WouldChange, questions}
 use Rattle.bench_query.specs.Internal.{Says}
 
 -- 11 and 12 have been passed; there is no buffer for a frame that could be too short
-pub ready : (w : Bench) → first (questions w) ≡ 0 → Passed w longestFrame
+pub ready : (w : Bench) → first (questions w) ≡ 0 → Passed w (rooms longestFrame longestBlock)
 unfolding first when
-ready w h = passed w longestFrame h
+ready w h = passed w (rooms longestFrame longestBlock) h
 
 module _ (w : Bench) (n : ℕ) where
   -- one that it does not hold
@@ -32,13 +32,13 @@ module _ (w : Bench) (n : ℕ) where
   beyond h = not-held (sym (too-high (w .count) n (w .log) h))
 
   module _ (h : holds (w .count) n (w .log) ≡ true) where
-    goes : {j : ℕ} → 1 - senderAt n (w .log) ≡ j → delivery w n longestFrame ≡ ok (j, given Receive (frameLogged n (w .log)) longestFrame)
+    goes : {j : ℕ} → 1 - senderAt n (w .log) ≡ j → delivery w n (rooms longestFrame longestBlock) ≡ ok (j, given Receive (frameLogged n (w .log)) (rooms longestFrame longestBlock))
     unfolding delivery outcome first when
     goes e = rw (h, e) refl
 
     -- the call at an end
     abbrev Changed : List ℕ → Type 0
-    Changed rec = Changes rec (callOutcome rec (w .count) (given Receive (frameLogged n (w .log)) longestFrame))
+    Changed rec = Changes rec (callOutcome rec (w .count) (given Receive (frameLogged n (w .log)) (rooms longestFrame longestBlock)))
 
     abbrev Goes : Bool → Outcome At → Type 0
     Goes r d = Says r (Changes (recordAt (endOf d) w) (comes w d))

@@ -1,48 +1,54 @@
 -- Whether receiving a frame changes a record, from the plan for it.
-use Prim.Native.Nat.{ℕ, _+_, _≤_}
-use mathlib.Core.Path.{_≡_, refl, sym, ap, ap₂, _∙_}
+use Prim.Native.Nat.{ℕ, _≤_}
+use mathlib.Core.Path.{_≡_, refl, sym, ap, _∙_}
 use mathlib.Core.Logic.{_≢_}
-use mathlib.Core.Bool.{Bool, true, false, not}
-use mathlib.Core.List.{List, [], _∷_, _++_, append-assoc}
+use mathlib.Core.Bool.{Bool, true, false, not, _&&_, false≢true}
+use mathlib.Core.List.{List, [], _∷_}
 use native.Mathlib.Omega.{arith}
 use borrow.Author.Tests.{eqb-true, eq-eqb}
 use lib.Dec.{eqb}
-use lib.ListN.{length, getD, drop, length-append, length-drop}
-use Rattle.octets.specs.Sizes.{longestFrame}
+use lib.ListN.{length, getD, set, drop, length-append, length-drop}
+use lib.Seq.{getD-set-same}
+use Rattle.octets.specs.Sizes.{longestFrame, longestBlock, heldSize}
 use Rattle.octets.specs.Test.{when, Outcome, refused, ok, mapped, andThen, numberOf}
-use Rattle.octets.specs.Octets.{put, left, lay, fields, Octets}
+use Rattle.octets.specs.Octets.{put, left, Octets}
 use Rattle.octets.proofs.Test.{both, joined}
-use Rattle.octets.proofs.Octets.{Fit, fields-lay}
 use Rattle.frame.specs.Frame.{Block}
+use Rattle.frame.specs.Layout.{sendBlockAt, dataBlockAt}
 use Rattle.protocol.specs.Endpoint as abstract
-use Rattle.protocol.specs.Table.{Step}
+use Rattle.protocol.specs.Table.{Step, firstCopy, heldAt}
 use Rattle.call_spec.specs.declared.Call.the-variants.{Receive}
-use Rattle.call_spec.specs.Calls.{Arguments, given, does, performed, recordAfter}
+use Rattle.call_spec.specs.Calls.{Arguments, given, rooms, does, blockRoomOk, performed, recordAfter}
 use Rattle.step_rules.specs.declared.Numbers.{Numbers}
 use Rattle.step_rules.specs.Internal.{holding}
 use Rattle.step_plan.specs.declared.Plan.{Plan}
-use Rattle.step_plan.specs.declared.Queue.{Queue}
-use Rattle.step_plan.specs.declared.Queue.the-variants.{Keep, Join, Release}
+use Rattle.step_plan.specs.declared.Places.{Places}
+use Rattle.step_plan.specs.declared.Places.the-variants.{Keep, Join, Release}
 use Rattle.call_spec.specs.Answers.{endpointAfter}
-use Rattle.step_plan.specs.Internal.{joinedBy, queueAfter, Room, Comes, Planned}
+use Rattle.step_plan.specs.Internal.{queueAfter, heldAfter, Room, HeldRoom, Comes, Planned}
+use Rattle.step_plan.proofs.Comes.{by-joined}
 use Rattle.endpoint.specs.declared.Endpoint.{Endpoint}
 use Rattle.endpoint.specs.View.{pack, placeBlock, view}
 use Rattle.endpoint.specs.Sound.{sound}
-use Rattle.endpoint.specs.Record.{recordSize, numbersLayout, decode}
+use Rattle.endpoint.specs.Record.{recordSize, decode}
 use Rattle.endpoint.specs.Record as endpoint
 use Rattle.endpoint.specs.Internal.{numbersOf}
-use Rattle.endpoint.proofs.Packs.{count, pack-view}
-use Rattle.endpoint.proofs.Sounds.{tidy}
+use Rattle.endpoint.proofs.Packs.{count, length-tab, pack-view}
+use Rattle.endpoint.proofs.Sounds.{tidy, tidy-held, lengths-held}
 use Rattle.endpoint_step.specs.Calls.{outcomeOf}
+use Rattle.endpoint_step.specs.Internal.{joinsQueue, joinsHeld}
 use Rattle.endpoint_step.proofs.Ready.{ready}
 use Rattle.endpoint_step.proofs.Carries.{oldest-at, laden}
+use Rattle.endpoint_step.proofs.Laws.{leaves}
 use Rattle.link.specs.Record.{format}
-use Rattle.link.proofs.Answers.{rewritten, enough, lengths-long, blocks-long}
+use Rattle.link.proofs.Answers.{rewritten, enough, decode-long}
+use Rattle.link.proofs.Demand.{lawful}
+use Rattle.link.proofs.Stays.{bounded}
 use Rattle.bench_spec.specs.Bench.{logged, callOutcome}
 use Rattle.bench_call.specs.Internal.{hasPlace}
 use Rattle.bench_call.proofs.Moves.{by-plan}
 use Rattle.bench_query.specs.Found.{Changes}
-use Rattle.bench_query.specs.Internal.{Says, sameNumbers}
+use Rattle.bench_query.specs.Internal.{Says, sameNumbers, staying}
 
 -- the test of the numbers
 same-so : (n m : Numbers) → sameNumbers n m ≡ true → n ≡ m
@@ -83,37 +89,27 @@ passes (refused n) count h = h
 passes (ok x) count h = refl
 
 -- the waiting blocks change only with their count
-stays : (k : Queue) (b : Block) (q : List Block) → Room k b (length q) → length (queueAfter k b q) ≡ length q → queueAfter k b q ≡ q
+stays : (k : Places) (b : Block) (q : List Block) → Room k b (length q) → length (queueAfter k b q) ≡ length q → queueAfter k b q ≡ q
 unfolding queueAfter
 stays Keep b q r h = refl
-stays Join b q r h = absurd (omega (arith, length-append q (b ∷ [])))
+stays (Join i) b q r h = absurd (omega (arith, length-append q (b ∷ [])))
 stays (Release k) b q r h = let z : k ≡ 0 = omega (arith, length-drop k q) in ap (λ (j : ℕ). drop j q) z
 
--- a record that is written over another and leaves its octets has its numbers
-abbrev pub valuesOf : Numbers → List ℕ
-valuesOf m = m .state ∷ m .local ∷ m .remote ∷ m .accepted ∷ m .delivered ∷ m .waiting ∷ []
+-- so do the held ones where the plan leaves them
+held-stay : (k : Places) (x : Block) (h : List Block) → staying k ≡ true → heldAfter k x h ≡ h
+unfolding staying heldAfter
+held-stay Keep x h t = refl
+held-stay (Join i) x h t = absurd (false≢true t)
+held-stay (Release k) x h t = absurd (false≢true t)
 
-numbers-read : (rec : List ℕ) (m : Numbers) → fields 0 numbersLayout rec ≡ valuesOf m → m ≡ numbersOf (decode rec)
-unfolding fields decode
-numbers-read rec m h =
-    let all = sym h in
-    λ i. record {
-      state = getD (all i) 0 0;
-      local = getD (all i) 1 0;
-      remote = getD (all i) 2 0;
-      accepted = getD (all i) 3 0;
-      delivered = getD (all i) 4 0;
-      waiting = getD (all i) 5 0;
-    }
-
-numbers-put : (rec : List ℕ) (e : Endpoint) → Fit numbersLayout (valuesOf (numbersOf e)) → put rec 0 (endpoint.encode e) ≡ rec → numbersOf e ≡ numbersOf (decode rec)
-unfolding put endpoint.encode
-numbers-put rec e f h =
-    let head = lay numbersLayout (valuesOf (numbersOf e)) in
-    let t = e .lengths ++ e .blocks in
-    let d = drop (0 + length (head ++ t)) rec in
-    numbers-read rec (numbersOf e)
-    (ap (fields 0 numbersLayout) (sym h ∙ append-assoc head t d) ∙ fields-lay [] (t ++ d) 0 refl f)
+-- and where it does not, they do not
+held-stayed : (k : Places) (x : Block) (h : List Block) → length h ≡ heldSize → HeldRoom k x h → heldAfter k x h ≡ h → staying k ≡ true
+unfolding staying heldAfter heldAt firstCopy
+held-stayed Keep x h l r e = refl
+held-stayed (Join i) x h l r e =
+    let z = r .1 .0 in
+    absurd (omega (arith, ap length (sym (getD-set-same h i x [] (omega (arith, r .0, l))) ∙ ap (λ (b : Block). getD (set h i (firstCopy b x)) i []) (sym z) ∙ ap (λ (q : List Block). getD q i []) e ∙ z), r .1 .1 .0))
+held-stayed (Release k) x h l r e = absurd (r .1 e)
 
 module _ (rec : List ℕ) (long : recordSize ≤ length rec) (fine : sound (decode rec) ≡ true) where
   abbrev end : Endpoint
@@ -121,7 +117,7 @@ module _ (rec : List ℕ) (long : recordSize ≤ length rec) (fine : sound (deco
 
   -- t and w of the record, for the plan
   pub enough-accepted : {n : Numbers} → n ≡ numbersOf end → n .waiting ≤ n .accepted
-  enough-accepted e = rw e (laden end fine (lengths-long rec long) (blocks-long rec long))
+  enough-accepted e = rw e (laden end fine (decode-long rec long))
 
   -- what leaves the endpoint leaves the record
   keeps : Octets rec → (o : Outcome Step) → endpointAfter (view end) o ≡ view end → recordAfter format rec o ≡ rec
@@ -129,45 +125,47 @@ module _ (rec : List ℕ) (long : recordSize ≤ length rec) (fine : sound (deco
   keeps oc (refused n) h = refl
   keeps oc (ok x) h =
       ap (λ (e : abstract.Endpoint). put rec 0 (endpoint.encode (pack e))) h
-      ∙ ap (λ (e : Endpoint). put rec 0 (endpoint.encode e)) (pack-view end (tidy end fine (lengths-long rec long) (blocks-long rec long)))
+      ∙ ap (λ (e : Endpoint). put rec 0 (endpoint.encode e)) (pack-view end (tidy end fine (decode-long rec long)) (tidy-held end fine (decode-long rec long)))
       ∙ rewritten rec long oc
-
-  -- what leaves the record leaves the numbers
-  kept : (m : Numbers) (q : List Block) (o : Outcome Step) → holding m q ≡ endpointAfter (view end) o → m .waiting ≡ length q → Fit numbersLayout (valuesOf m)
-      → recordAfter format rec o ≡ rec → m ≡ numbersOf end
-  unfolding endpointAfter recordAfter mapped left view pack
-  kept m q (refused n) e k f h =
-      let w = k ∙ ap (λ (x : abstract.Endpoint). length (x .queue)) e ∙ count end in
-      λ i. record { state = e i .state; local = e i .local; remote = e i .remote; accepted = e i .accepted; delivered = e i .delivered; waiting = w i }
-  kept m q (ok x) e k f h =
-      let p : put rec 0 (endpoint.encode (pack (holding m q))) ≡ rec = ap (λ (y : abstract.Endpoint). put rec 0 (endpoint.encode (pack y))) e ∙ h in
-      let n = numbers-put rec (pack (holding m q)) (rw (← k) f) p in
-      (λ i. record { state = m .state; local = m .local; remote = m .remote; accepted = m .accepted; delivered = m .delivered; waiting = k i }) ∙ n
 
   module _ (s : List ℕ) (count-used : ℕ) where
     abbrev call : Arguments
-    call = given Receive s longestFrame
+    call = given Receive s (rooms longestFrame longestBlock)
 
     abbrev hears : Outcome Step
     hears = does Receive s (view end)
 
     -- the record is sound and there is room for a frame
     ready-is : outcomeOf end call ≡ hears
-    ready-is = ready end call (omega arith) fine
+    unfolding blockRoomOk
+    ready-is = ready end call (omega arith) refl fine
 
     comes-to : performed format rec call ≡ hears
     comes-to = enough rec long call ∙ ready-is
 
+    -- what leaves the record leaves the endpoint
+    kept : Octets rec → Octets s → (o : Outcome Step) → hears ≡ o → recordAfter format rec o ≡ rec → endpointAfter (view end) o ≡ view end
+    unfolding endpointAfter recordAfter mapped left put
+    kept oc os (refused n) e h = refl
+    kept oc os (ok x) e h =
+        let l = leaves end (decode-long rec long) call os (ready-is ∙ e) in
+        sym (lawful .keeps (x .endpoint) _ (l .is-sound) (l .bounded (bounded rec oc long))) ∙ ap (format .holds) h
+
     abbrev Change : Type 0
     Change = Changes rec (callOutcome rec count-used call)
 
-    module _ {n : Numbers} {p : Plan} (e : n ≡ numbersOf end) (h : (b : Block) → Planned n b (does Receive s) p) where
+    module _ {n : Numbers} {p : Plan} (e : n ≡ numbersOf end) (h : (b : Block) → Planned n (end .«held_lengths») b (drop dataBlockAt s) (does Receive s) p) where
       abbrev joins : Block
-      joins = joinedBy (p .queue) s
+      joins = joinsQueue p s
 
-      planned : Comes (numbersOf end) (view end .queue) joins (placeBlock (end .lengths) (end .blocks) 0) hears p
+      abbrev early : Block
+      early = joinsHeld p s
+
+      planned : Comes (numbersOf end) (view end .queue) (view end .held) joins early (placeBlock (end .lengths) (end .blocks) 0) hears p
       unfolding view
-      planned = (rw e at h) joins (view end .queue) (placeBlock (end .lengths) (end .blocks) 0) (count end) (oldest-at end)
+      planned =
+          by-joined s
+          ((rw e at h) (drop sendBlockAt s) (view end .queue) (view end .held) (placeBlock (end .lengths) (end .blocks) 0) (count end) (oldest-at end) (lengths-held end fine (decode-long rec long)))
 
       by-14 : callOutcome rec count-used call ≡ when (hasPlace (p .reply) count-used) (performed format rec call) (refused 14)
       by-14 = by-plan rec long count-used call {p = p} (rw ready-is planned)
@@ -186,23 +184,39 @@ module _ (rec : List ℕ) (long : recordSize ≤ length rec) (fine : sound (deco
       unfolding when
       is-made t = by-14 ∙ rw t comes-to
 
-      -- the same numbers
-      unchanged : p .numbers ≡ numbersOf end → endpointAfter (view end) hears ≡ view end
+      -- the same numbers, and the held blocks stay
+      unchanged : p .numbers ≡ numbersOf end → staying (p .held) ≡ true → endpointAfter (view end) hears ≡ view end
       unfolding view
-      unchanged k =
+      unchanged k t =
           let w = sym (planned .counted) ∙ ap (λ (x : Numbers). x .waiting) k ∙ sym (count end) in
-          sym (planned .endpoint) ∙ ap₂ holding k (stays (p .queue) joins (view end .queue) (planned .room) w)
+          let q = stays (p .queue) joins (view end .queue) (planned .room) w in
+          let d = held-stay (p .held) early (view end .held) t in
+          sym (planned .endpoint) ∙ (λ i. holding (k i) (q i) (d i))
 
-      pub tells : Octets rec → Fit numbersLayout (valuesOf (p .numbers)) → p .number ≡ 0 → hasPlace (p .reply) count-used ≡ true
-          → Says (not (sameNumbers (p .numbers) n)) Change
+      -- and the other way round
+      same-numbers : endpointAfter (view end) hears ≡ view end → p .numbers ≡ numbersOf end
       unfolding view
-      tells oc f z t =
-          contrary (sameNumbers (p .numbers) n)
-          (λ b x. x .changed (rw (is-made t) (keeps oc hears (unchanged (same-so (p .numbers) n b ∙ e)))))
+      same-numbers g =
+          let k = planned .endpoint ∙ g in
+          let w = planned .counted ∙ ap (λ (x : abstract.Endpoint). length (x .queue)) k ∙ count end in
+          λ i. record { state = k i .state; local = k i .local; remote = k i .remote; accepted = k i .accepted; delivered = k i .delivered; waiting = w i }
+
+      same-held : endpointAfter (view end) hears ≡ view end → staying (p .held) ≡ true
+      unfolding view
+      same-held g =
+          held-stayed (p .held) early (view end .held) (length-tab heldSize (placeBlock (end .«held_lengths») (end .«held_blocks»))) (planned .place)
+          (ap (λ (x : abstract.Endpoint). x .held) (planned .endpoint ∙ g))
+
+      pub tells : Octets rec → Octets s → p .number ≡ 0 → hasPlace (p .reply) count-used ≡ true
+          → Says (not (sameNumbers (p .numbers) n && staying (p .held))) Change
+      tells oc os z t =
+          contrary (sameNumbers (p .numbers) n && staying (p .held))
+          (λ b x.
+          let k = both (sameNumbers (p .numbers) n) _ b in
+          x .changed (rw (is-made t) (keeps oc hears (unchanged (same-so (p .numbers) n (k .0) ∙ e) (k .1)))))
           (λ b. record {
             accepted = rw (is-made t) (sym (planned .number) ∙ z);
             changed = λ r.
-                let k = kept (p .numbers) (queueAfter (p .queue) joins (view end .queue)) hears (planned .endpoint) (planned .counted) f (rw (is-made t) at r) in
-                let y = so-same (p .numbers) n (k ∙ sym e) in
-                (let z : _≡_ {A = ℕ} 0 1 = cc in omega arith);
+                let g = kept oc os hears refl (rw (is-made t) at r) in
+                false≢true (sym b ∙ joined (so-same (p .numbers) n (same-numbers g ∙ sym e)) (same-held g));
           })

@@ -4,10 +4,10 @@ use Prim.Native.Nat.{ℕ, _<_}
 use mathlib.Core.Path.{_≡_}
 use mathlib.Core.Logic.{_≢_}
 use mathlib.Core.List.{List, []}
-use Rattle.octets.specs.Sizes.{longestFrame}
+use Rattle.octets.specs.Sizes.{longestFrame, longestBlock}
 use Rattle.octets.specs.Test.{Question, first, Outcome, numberOf}
 use Rattle.protocol.specs.Table.{Step}
-use Rattle.call_spec.specs.Calls.{recordAfter}
+use Rattle.call_spec.specs.Calls.{rooms, recordAfter}
 use Rattle.link.specs.Record.{format}
 use Rattle.bench_spec.specs.Bench.{Bench, recordAt, bufferQuestions, soundQuestions, delivery, comes, endOf}
 use Rattle.bench_query.specs.declared.Found.{Found}
@@ -20,9 +20,9 @@ pub record Changes (rec : List ℕ) (o : Outcome Step) : Type 0 where
 
 -- The delivery of frame n now is such a call. One that 14 refuses is not, since then nothing would be delivered.
 abbrev pub WouldChange : Bench → ℕ → Type 0
-WouldChange w n = Changes (recordAt (endOf (delivery w n longestFrame)) w) (comes w (delivery w n longestFrame))
+WouldChange w n = Changes (recordAt (endOf (delivery w n (rooms longestFrame longestBlock))) w) (comes w (delivery w n (rooms longestFrame longestBlock)))
 
--- 11 and 12, as for a line; no buffer for a frame is lent.
+-- 11 and 12, as for a line; no buffer for a frame or for a block is lent.
 abbrev pub questions : Bench → List Question
 questions w = bufferQuestions w (soundQuestions w [])
 

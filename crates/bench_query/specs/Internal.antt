@@ -1,12 +1,20 @@
 -- Parts of the question, for the code. No public call's contract needs this.
 use mathlib.Core.Bool.{Bool, true, false, _&&_}
 use lib.Dec.{eqb}
+use Rattle.step_plan.specs.declared.Places.{Places}
+use Rattle.step_plan.specs.declared.Places.the-variants.{Keep, Join, Release}
 use Rattle.step_rules.specs.declared.Numbers.{Numbers}
 
 -- a test that tells whether P holds
 abbrev pub Says : Bool → Type 0 → Type 0
 Says true P = P
 Says false P = P → ⊥
+
+-- a plan leaves the held blocks as they are
+unfoldable pub staying : Places → Bool
+staying Keep = true
+staying (Join i) = false
+staying (Release k) = false
 
 unfoldable pub sameNumbers : Numbers → Numbers → Bool
 sameNumbers n m =

@@ -1,4 +1,7 @@
 // The question of the bench: some frame in the log whose delivery now would be accepted and change the receiver's record.
+use endpoint::HELD_BLOCKS_AT;
+use endpoint::HELD_LENGTHS_AT;
+use step_plan::Places;
 use step_rules::Numbers;
 ghost use mathlib.Core.Path.{_≡_};
 ghost use mathlib.Core.Bool.{true};
@@ -6,13 +9,13 @@ ghost use Prim.Native.Nat.{_≤_};
 ghost use lib.ListN.{length};
 ghost use Rattle.octets.specs.Test.{first};
 ghost use Rattle.endpoint.specs.Record.{recordSize};
-ghost use Rattle.octets.specs.Sizes.{longestFrame};
+ghost use Rattle.octets.specs.Sizes.{longestFrame, longestBlock};
 ghost use Rattle.call_spec.specs.declared.Call.the-variants.{Receive};
-ghost use Rattle.call_spec.specs.Calls.{given};
+ghost use Rattle.call_spec.specs.Calls.{given, rooms};
 ghost use Rattle.link.specs.Record.{format};
 ghost use Rattle.bench_spec.specs.Bench.{benchOf, callOutcome};
 ghost use Rattle.bench_query.specs.Found.{Changes, WouldChange, questions, Answers};
-ghost use Rattle.bench_query.specs.Internal.{sameNumbers, Says};
+ghost use Rattle.bench_query.specs.Internal.{sameNumbers, staying, Says};
 
 // What the question answers: a frame's number, none, or the number of a refusal.
 pub enum Found {
@@ -32,14 +35,25 @@ fn same(n: Numbers, m: Numbers) -> bool
                     & ((n.delivered == m.delivered) & (n.waiting == m.waiting)))))
 }
 
+// Whether the held blocks stay.
+fn stays(held: Places) -> bool
+    ensures { λ r. ⌜ r ≡ staying held ⌝ }
+{
+    match held {
+        Places::Keep => true,
+        Places::Join(_) => false,
+        Places::Release(_) => false,
+    }
+}
+
 // Whether receiving s would be accepted, by 14 too, and change the record. The plan for it tells: the waiting blocks change only
-// with their count, so that the numbers are all that is compared, and nothing is copied.
+// with their count, and the held ones where the plan says so, so that only the numbers are compared, and nothing is copied.
 fn changes(rec: &[u8], s: &[u8], count: usize) -> bool
     requires { ⌜ (recordSize ≤ length (now rec)) × (format .sound (now rec) ≡ true) ⌝ }
-    ensures { λ r. ⌜ Says r (Changes (now (rec .entry)) (callOutcome (now (rec .entry)) count (given Receive (now (s .entry)) longestFrame))) ⌝ }
+    ensures { λ r. ⌜ Says r (Changes (now (rec .entry)) (callOutcome (now (rec .entry)) count (given Receive (now (s .entry)) (rooms longestFrame longestBlock)))) ⌝ }
 {
     let n = endpoint::load_numbers(rec);
-    let p = step_receive::receive(n, s);
+    let p = step_receive::receive(n, &rec[HELD_LENGTHS_AT..HELD_BLOCKS_AT], s);
     if p.number != step_plan::ACCEPTED {
         return false;
     }
@@ -48,7 +62,8 @@ fn changes(rec: &[u8], s: &[u8], count: usize) -> bool
         return false;
     }
     let m = p.numbers;
-    !same(m, n)
+    let held = p.held;
+    !(same(m, n) & stays(held))
 }
 
 // Whether the delivery of frame n would. It goes to the end that did not send it.
@@ -70,7 +85,14 @@ fn would_change(a: &[u8], b: &[u8], log: &[u8], count: usize, n: usize) -> bool
 pub fn some_frame(a: &[u8], b: &[u8], log: &[u8], count: usize) -> Found
     ensures { λ r. ⌜ Answers (benchOf (now (a .entry)) (now (b .entry)) (now (log .entry)) count) r ⌝ }
 {
-    let refusal = bench_checks::ready(a, b, log, count, octets::LONGEST_FRAME);
+    let refusal = bench_checks::ready(
+        a,
+        b,
+        log,
+        count,
+        octets::LONGEST_FRAME,
+        octets::LONGEST_BLOCK,
+    );
     if refusal != 0 {
         return Found::Refused(refusal);
     }

@@ -13,7 +13,7 @@ use Rattle.hex.specs.Line.{unhex}
 use Rattle.frame.specs.Read.{kindOf}
 use Rattle.protocol.specs.World.{Entry, Two, DueAt}
 use Rattle.call_spec.specs.declared.Call.the-variants.{Request, Receive}
-use Rattle.call_spec.specs.Calls.{Arguments, given}
+use Rattle.call_spec.specs.Calls.{Arguments, Rooms, given}
 use Rattle.link.specs.Record.{ends}
 use Rattle.bench_log.specs.Log.{logSize}
 use Rattle.bench_log.proofs.Log.{held}
@@ -26,12 +26,12 @@ abbrev pub Fair : Two ends → At → Type 0
 Fair e x = (x .0 ≤ 1) × DueAt ends (entry x) e
 
 -- a request, at an end
-asks-fair : (e : Two ends) (i : ℕ) (s : List ℕ) (room : ℕ) → i ≤ 1 → Fair e (i, given Request s room)
+asks-fair : (e : Two ends) (i : ℕ) (s : List ℕ) (room : Rooms) → i ≤ 1 → Fair e (i, given Request s room)
 unfolding entry
 asks-fair e i s room h = (h, if-eq (λ (x : Entry Arguments). DueAt ends x e) i 0 (λ _. tt) (λ _. tt))
 
 -- a delivery to an end, of a frame that the other has sent
-gives-fair : (e : Two ends) (j : ℕ) (s : List ℕ) (room : ℕ) {i n : ℕ} → SentBy e i n s → j ≤ 1 → (j ≡ 0 → i ≡ 1) → (j ≢ 0 → i ≡ 0) → Fair e (j, given Receive s room)
+gives-fair : (e : Two ends) (j : ℕ) (s : List ℕ) (room : Rooms) {i n : ℕ} → SentBy e i n s → j ≤ 1 → (j ≡ 0 → i ≡ 1) → (j ≢ 0 → i ≡ 0) → Fair e (j, given Receive s room)
 unfolding entry
 gives-fair e j s room x l h g = (l, if-eq (λ (y : Entry Arguments). DueAt ends y e) j 0 (λ k. x .by-b (h k)) (λ k. x .by-a (g k)))
 
@@ -45,14 +45,14 @@ module _ (w : Bench) (e : Two ends) (h : Logged e (w .count) (w .log)) where
   not-ok : (n : ℕ) → IfOk (refused n)
   not-ok n x k = absurd (let z : _≡_ {A = ℕ} 0 1 = cc in omega arith)
 
-  delivery-fair : (n room : ℕ) → IfOk (delivery w n room)
+  delivery-fair : (n : ℕ) (room : Rooms) → IfOk (delivery w n room)
   unfolding delivery
   delivery-fair n room x k =
       let a = accepted _ _ k in
       let t = held (w .count) n (w .log) (all-yes 13 _ _ (a .0) tt .0) in
       subst (λ (z : At). Fair e z) (a .1) (gives-fair e _ _ room (h n (t .below)) (omega arith) (λ j. omega (arith, t .sender)) (λ j. omega (arith, t .sender)))
 
-  asks-so : (s : List ℕ) (room : ℕ) → IfOk (octetsAsk w s room)
+  asks-so : (s : List ℕ) (room : Rooms) → IfOk (octetsAsk w s room)
   unfolding octetsAsk
   asks-so s room =
       if-eq IfOk (kindOf s) requestOfA (λ _. is-ok _ (asks-fair e 0 (drop 1 s) room (omega arith)))
@@ -60,7 +60,7 @@ module _ (w : Bench) (e : Two ends) (h : Logged e (w .count) (w .log)) where
       (λ _. if-eq IfOk (kindOf s) deliver (λ _ x k. delivery-fair (field 2 1 s) room x (passing _ k .1))
       (λ _. not-ok 3)))
 
-  pub asked-fair : (line : List ℕ) (room : ℕ) (x : At) → lineAsks w line room ≡ ok x → Fair e x × (logSize ≤ length (w .log))
+  pub asked-fair : (line : List ℕ) (room : Rooms) (x : At) → lineAsks w line room ≡ ok x → Fair e x × (logSize ≤ length (w .log))
   unfolding lineAsks
   asked-fair line room x k =
       let p = passing _ k in

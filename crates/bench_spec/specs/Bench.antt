@@ -4,14 +4,14 @@ use mathlib.Core.Bool.{Bool, true, false}
 use mathlib.Core.List.{List, [], _∷_}
 use lib.Dec.{ltb, leb, eqb}
 use lib.ListN.{length, drop}
-use Rattle.octets.specs.Sizes.{longestFrame}
+use Rattle.octets.specs.Sizes.{longestFrame, longestBlock}
 use Rattle.octets.specs.Test.{when, ifEq, Question, first, Outcome, refused, ok, outcome, refusing, andThen}
 use Rattle.octets.specs.Octets.{put, field}
 use Rattle.hex.specs.Line.{unhex, lineQuestions}
 use Rattle.frame.specs.Read.{kindOf}
 use Rattle.protocol.specs.Table.{Sent, nothing, frame, Step}
 use Rattle.call_spec.specs.declared.Call.the-variants.{Request, Receive}
-use Rattle.call_spec.specs.Calls.{Arguments, given, wire, performed, recordAfter}
+use Rattle.call_spec.specs.Calls.{Arguments, Rooms, given, wire, performed, recordAfter}
 use Rattle.link.specs.Record.{format}
 use Rattle.bench_log.specs.Log.{placeSize, places, logSize, senderAt, frameLogged, holds, place}
 
@@ -37,6 +37,10 @@ bufferQuestions w rest =
     ∷ (11, leb logSize (length (w .log)))
     ∷ rest
 
+-- 11 of the buffers for a frame and for a block, which a line asks
+abbrev pub roomQuestions : Rooms → List Question → List Question
+roomQuestions room rest = (11, leb longestFrame (room .frame)) ∷ (11, leb longestBlock (room .block)) ∷ rest
+
 abbrev pub soundQuestions : Bench → List Question → List Question
 soundQuestions w rest =
     (12, format .sound (w .a))
@@ -48,8 +52,8 @@ soundQuestions w rest =
 abbrev pub At : Type 0
 At = ℕ × Arguments
 
--- Frame n of the log, delivered to the end that did not send it, if the log holds it (13). room is the length of the buffer for a frame.
-unfoldable pub delivery : Bench → ℕ → ℕ → Outcome At
+-- Frame n of the log, delivered to the end that did not send it, if the log holds it (13). room has the lengths of the lent buffers.
+unfoldable pub delivery : Bench → ℕ → Rooms → Outcome At
 delivery w n room = outcome (first ((13, holds (w .count) n (w .log)) ∷ [])) (1 - senderAt n (w .log), given Receive (frameLogged n (w .log)) room)
 
 -- the kinds of a bench line: 50, 51 and 52 in hexadecimal
@@ -63,7 +67,7 @@ abbrev pub deliver : ℕ
 deliver = 82
 
 -- Line 50 or 51 and a request: end A or B. Line 52 and a number of 2 octets: deliver that frame.
-unfoldable pub octetsAsk : Bench → List ℕ → ℕ → Outcome At
+unfoldable pub octetsAsk : Bench → List ℕ → Rooms → Outcome At
 octetsAsk w s room =
     ifEq (kindOf s) requestOfA (ok (0, given Request (drop 1 s) room))
     (ifEq (kindOf s) requestOfB (ok (1, given Request (drop 1 s) room))
@@ -71,10 +75,10 @@ octetsAsk w s room =
     (refused 3)))
 
 -- What a line asks, by all questions up to 13.
-unfoldable pub lineAsks : Bench → List ℕ → ℕ → Outcome At
+unfoldable pub lineAsks : Bench → List ℕ → Rooms → Outcome At
 lineAsks w line room =
     refusing
-    (first (bufferQuestions w ((11, leb longestFrame room) ∷ soundQuestions w (lineQuestions line))))
+    (first (bufferQuestions w (roomQuestions room (soundQuestions w (lineQuestions line)))))
     (octetsAsk w (unhex line) room)
 
 -- does the step send a frame?

@@ -7,13 +7,13 @@ use Rattle.protocol.specs.Endpoint.{fresh}
 use Rattle.protocol.specs.Table.{Step}
 use Rattle.protocol.specs.World.{Entry, atA, atB, Two, run, AllDue}
 use Rattle.protocol.specs.Claim.{Demand}
-use Rattle.call_spec.specs.Calls.{Arguments}
+use Rattle.call_spec.specs.Calls.{Arguments, Rooms}
 use Rattle.link.specs.Record.{format, ends}
 use Rattle.bench_spec.specs.Bench.{Bench, At, lineAsks, comes, endOf, benchAfter}
 
--- a line's text, and the length of the buffer for a frame that is lent with it
+-- a line's text, and the lengths of the buffers for a frame and for a block that are lent with it
 abbrev pub LentLine : Type 0
-LentLine = List ℕ × ℕ
+LentLine = List ℕ × Rooms
 
 -- the bench after one line, and after all
 unfoldable pub lineAfter : Bench → LentLine → Bench

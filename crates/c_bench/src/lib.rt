@@ -4,7 +4,8 @@ ghost use Rattle.bench_line.specs.Performed.{LinePerformed};
 ghost use Rattle.c_bench.specs.Answers.{benchAnswerIn};
 
 // Plays a bench line, which is given without its line feed. Answers the number; the count, the end that the answer is about, its state,
-// notice, L and D, the length of the frame sent, and where in the log the block handed up stands and its length, go to the numbers lent.
+// notice, L and D, the length of the frame sent, and where in the log the block handed up stands (0 where it was collected, and stands at the
+// start of up) and its length, go to the numbers lent.
 #[no_mangle]
 pub extern "C" fn dock_bench(
     a: &mut [u8],
@@ -13,6 +14,7 @@ pub extern "C" fn dock_bench(
     count: &mut usize,
     line: &[u8],
     out: &mut [u8],
+    up: &mut [u8],
     end: &mut u8,
     state: &mut u8,
     notice: &mut u8,
@@ -22,9 +24,9 @@ pub extern "C" fn dock_bench(
     at: &mut usize,
     block: &mut usize,
 ) -> u8
-    ensures { λ r. ⌜ LinePerformed (benchOf (now (a .entry)) (now (b .entry)) (now (log .entry)) (now (count .entry))) (now (line .entry)) (now (out .entry)) (now (a .exit)) (now (b .exit)) (now (log .exit)) (now (out .exit)) (benchAnswerIn r (now (end .exit)) (now (state .exit)) (now (notice .exit)) (now (local .exit)) (now (remote .exit)) (now (sent .exit)) (now (at .exit)) (now (block .exit)) (now (count .exit))) ⌝ }
+    ensures { λ r. ⌜ LinePerformed (benchOf (now (a .entry)) (now (b .entry)) (now (log .entry)) (now (count .entry))) (now (line .entry)) (now (out .entry)) (now (up .entry)) (now (a .exit)) (now (b .exit)) (now (log .exit)) (now (out .exit)) (now (up .exit)) (benchAnswerIn r (now (end .exit)) (now (state .exit)) (now (notice .exit)) (now (local .exit)) (now (remote .exit)) (now (sent .exit)) (now (at .exit)) (now (block .exit)) (now (count .exit))) ⌝ }
 {
-    let r = bench_line::perform(a, b, log, *count, line, out);
+    let r = bench_line::perform(a, b, log, *count, line, out, up);
     *count = r.count;
     *end = r.end;
     let told = r.status;

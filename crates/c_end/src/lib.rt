@@ -3,13 +3,11 @@
 // from both it compiles into neither, and each would be slower.
 use call_spec::Call;
 ghost use mathlib.Core.Path.{_≡_};
-ghost use lib.ListN.{length};
+ghost use mathlib.Core.List.{[]};
 ghost use Rattle.octets.specs.Test.{numberOf};
 ghost use Rattle.octets.specs.Octets.{left};
 ghost use Rattle.call_spec.specs.declared.Call.the-variants.{Request, Receive};
-ghost use Rattle.call_spec.specs.Calls.{given, performed};
-ghost use Rattle.link.specs.Record.{format};
-ghost use Rattle.link.specs.Lent.{Called, answerIn, freshIn};
+ghost use Rattle.link.specs.Lent.{CalledLent, answerIn, freshIn};
 
 // Writes a fresh record to the start of rec. Answers 0, or 11 where rec is too short.
 #[no_mangle]
@@ -19,28 +17,31 @@ pub extern "C" fn dock_fresh(rec: &mut [u8]) -> u8
     link::make_fresh(rec)
 }
 
-// A request, the timer call among them: s has its octets. Answers the number; state, notice, L, D and the length of the frame
-// sent go to the last five.
+// A request, the timer call among them: s has its octets. Answers the number; state, notice, L, D, the length of the frame sent and that
+// of the block collected, which stands at the start of up, go to the last six.
 #[no_mangle]
 pub extern "C" fn dock_request(
     rec: &mut [u8],
     s: &[u8],
     out: &mut [u8],
+    up: &mut [u8],
     state: &mut u8,
     notice: &mut u8,
     local: &mut u32,
     remote: &mut u32,
     sent: &mut usize,
+    block: &mut usize,
 ) -> u8
-    ensures { λ r. ⌜ Called (performed format (now (rec .entry)) (given Request (now (s .entry)) (length (now (out .entry))))) (now (rec .entry)) (now (s .entry)) (now (out .entry)) (now (rec .exit)) (now (out .exit)) (answerIn r (now (state .exit)) (now (notice .exit)) (now (local .exit)) (now (remote .exit)) (now (sent .exit)) 0) ⌝ }
+    ensures { λ r. ⌜ CalledLent Request (now (rec .entry)) (now (s .entry)) (now (out .entry)) (now (up .entry)) (now (rec .exit)) (now (out .exit)) (now (up .exit)) (answerIn r (now (state .exit)) (now (notice .exit)) (now (local .exit)) (now (remote .exit)) (now (sent .exit)) (now (block .exit))) ⌝ }
 {
-    let a = link::perform(Call::Request, rec, s, out);
+    let a = link::perform(Call::Request, rec, s, out, up);
     let told = a.status;
     *state = told.state;
     *notice = told.notice;
     *local = told.local;
     *remote = told.remote;
     *sent = a.sent;
+    *block = a.block;
     told.number
 }
 
@@ -58,7 +59,7 @@ pub extern "C" fn dock_receive(
     sent: &mut usize,
     block: &mut usize,
 ) -> u8
-    ensures { λ r. ⌜ Called (performed format (now (rec .entry)) (given Receive (now (s .entry)) (length (now (out .entry))))) (now (rec .entry)) (now (s .entry)) (now (out .entry)) (now (rec .exit)) (now (out .exit)) (answerIn r (now (state .exit)) (now (notice .exit)) (now (local .exit)) (now (remote .exit)) (now (sent .exit)) (now (block .exit))) ⌝ }
+    ensures { λ r. ⌜ CalledLent Receive (now (rec .entry)) (now (s .entry)) (now (out .entry)) [] (now (rec .exit)) (now (out .exit)) [] (answerIn r (now (state .exit)) (now (notice .exit)) (now (local .exit)) (now (remote .exit)) (now (sent .exit)) (now (block .exit))) ⌝ }
 {
     let mut number: u8 = 0;
     let up = link::receive(rec, s, out, &mut number, state, notice, local, remote, sent);

@@ -10,7 +10,7 @@ use Rattle.octets.specs.Test.{Outcome, refused, ok, refusing, mapped}
 use Rattle.octets.specs.Octets.{left}
 use Rattle.octets.proofs.Test.{in-range, joined}
 use Rattle.octets.proofs.Octets.{put-front}
-use Rattle.frame.specs.Frame.{Frame, Request, connect, listen, endListening, close, timer, send}
+use Rattle.frame.specs.Frame.{Frame, Request, connect, listen, endListening, close, timer, collect, send}
 use Rattle.frame.specs.Fits.{Fits}
 use Rattle.frame.specs.Layout.{encode}
 use Rattle.frame.specs.Read.{readFrame, readRequest}
@@ -46,6 +46,7 @@ read-sized s listen h = refl
 read-sized s endListening h = refl
 read-sized s close h = refl
 read-sized s timer h = refl
+read-sized s collect h = refl
 read-sized s (send b) h = let z = send-sized s h in joined (in-range 1 64 (length b) (z .1 .0) (z .1 .1)) refl
 
 -- a value that was made of another

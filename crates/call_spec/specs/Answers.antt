@@ -2,10 +2,13 @@
 use Prim.Native.Nat.{ℕ}
 use mathlib.Core.List.{List, []}
 use lib.ListN.{take, drop}
-use Rattle.octets.specs.Test.{Outcome, refused, ok}
+use Rattle.octets.specs.Test.{Outcome, refused, ok, mapped}
+use Rattle.octets.specs.Octets.{left}
 use Rattle.frame.specs.Frame.{Block}
 use Rattle.frame.specs.Layout.{dataBlockAt}
 use Rattle.protocol.specs.Endpoint.{Endpoint}
+use Rattle.call_spec.specs.declared.Call.{Call}
+use Rattle.call_spec.specs.declared.Call.the-variants.{Request, Receive}
 use Rattle.protocol.specs.Table.{Sent, nothing, Step, noticeNumber, Notice, none, connected, rejected, closedByPartner, closeFinished, handedUp}
 
 -- a refusal has no notice, sends nothing and leaves the endpoint
@@ -34,6 +37,13 @@ unfoldable pub blockOf : Outcome Step → Block
 blockOf (refused n) = []
 blockOf (ok x) = blockIn (x .notice)
 
--- "A part of the caller's own received frame": the n octets of s from 14 on, where the block of a DATA stands.
-unfoldable pub blockPart : List ℕ → ℕ → Block
-blockPart s n = take n (drop dataBlockAt s)
+-- Where the block handed up stands, of n octets. Received, it is "a part of the caller's own received frame" s: from octet 14 on, where
+-- the block of a DATA stands. Collected, it is the start of the lent buffer up.
+unfoldable pub blockPart : Call → List ℕ → List ℕ → ℕ → Block
+blockPart Request s up n = take n up
+blockPart Receive s up n = take n (drop dataBlockAt s)
+
+-- what a call leaves in the buffer for a block: a request writes the block handed up at its start
+unfoldable pub blockBufferAfter : Call → List ℕ → Outcome Step → List ℕ
+blockBufferAfter Request up o = left (mapped (λ (x : Step). blockIn (x .notice)) o) up
+blockBufferAfter Receive up o = up

@@ -13,7 +13,7 @@ use Rattle.frame.specs.Answer.{frameOf, requestOf, requestNumber}
 use Rattle.frame.specs.declared.Header.{Header}
 use Rattle.frame.specs.declared.Header.the-variants.{Crao, Crpo, Crack, Rej, Reset, Dr, Drack, Data, Ack}
 use Rattle.frame.specs.declared.RequestKind.{RequestKind}
-use Rattle.frame.specs.declared.RequestKind.the-variants.{Connect, Listen, EndListening, Close, Send, Timer}
+use Rattle.frame.specs.declared.RequestKind.the-variants.{Connect, Listen, EndListening, Close, Send, Timer, Collect}
 use Rattle.codec.specs.Calls.{countTold, blockRead, BlockTold}
 use Rattle.codec.specs.Internal.{blockAfter}
 
@@ -37,6 +37,7 @@ request-block EndListening l = refl
 request-block Close l = refl
 request-block Send l = refl
 request-block Timer l = refl
+request-block Collect l = refl
 
 -- what follows place k is the end of a list, of its own length
 at-end : (k : ℕ) (s : List ℕ) → drop (length s - length (drop k s)) s ≡ drop k s

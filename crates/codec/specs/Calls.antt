@@ -9,7 +9,7 @@ use Rattle.octets.specs.Sizes.{longestFrame}
 use Rattle.octets.specs.Test.{ifEq, first, Outcome, refused, ok, outcome, mapped, numberOf}
 use Rattle.octets.specs.Octets.{left}
 use Rattle.hex.specs.Line.{hex}
-use Rattle.frame.specs.Frame.{Block, DATA, connect, listen, endListening, close, timer, send}
+use Rattle.frame.specs.Frame.{Block, DATA, connect, listen, endListening, close, timer, collect, send}
 use Rattle.frame.specs.Layout.{isFrame, encode}
 use Rattle.frame.specs.Read.{countOk, readFrame, readRequest, Input, frame, request, readInput}
 use Rattle.frame.specs.Answer.{valuesOf, frameWith, requestNumber}
@@ -53,6 +53,7 @@ blockRead (request endListening) = []
 blockRead (request close) = []
 blockRead (request (send b)) = b
 blockRead (request timer) = []
+blockRead (request collect) = []
 
 -- its length is told, and it is the end of the octets s that were read
 pub record BlockTold (o : Outcome Input) (s : List ℕ) (c c′ : ℕ) : Type 0 where

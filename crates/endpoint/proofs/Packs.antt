@@ -6,12 +6,14 @@ use native.Mathlib.Omega.{arith}
 use lib.ListN.{length, take, drop, getD, replicate, length-append, length-drop, List·getD-append}
 use lib.Seq.{take-at, drop-at, take-length, take-suc, take-add, take-take, drop-cons, drop-drop, drop-nil, getD-take, getD-drop, drop-append-le, length-take-le}
 use Rattle.octets.proofs.Buffers.{length-padded}
-use Rattle.octets.specs.Sizes.{longestBlock, queueSize}
+use Rattle.octets.specs.Sizes.{longestBlock, queueSize, heldSize}
 use Rattle.octets.specs.Octets.{put, padded}
 use Rattle.frame.specs.Frame.{Block}
 use Rattle.protocol.specs.Endpoint as abstract
+use Rattle.protocol.specs.Endpoint.{lengthsOf}
+use Rattle.protocol.proofs.Sound.{length-at, lengths-length}
 use Rattle.endpoint.specs.declared.Endpoint.{Endpoint}
-use Rattle.endpoint.specs.View.{placesSize, placesOf, lengthsOf, pack, tab, placeBlock, view}
+use Rattle.endpoint.specs.View.{placesSize, placesOf, pack, tab, placeBlock, view}
 use Rattle.endpoint.proofs.Pad.{put-padded, padded-padded, drop-padded, padded-is}
 
 -- every block has at most 64 bytes
@@ -23,22 +25,17 @@ small-append : (q : List Block) (b : Block) → Small q → length b ≤ longest
 small-append [] b h k = (k, tt)
 small-append (c ∷ q) b h k = (h .0, small-append q b (h .1) k)
 
-pub length-lengths : (q : List Block) → length (lengthsOf q) ≡ length q
-unfolding lengthsOf
-length-lengths [] = refl
-length-lengths (b ∷ q) = ap suc (length-lengths q)
-
 pub length-places : (q : List Block) → Small q → length (placesOf q) ≡ length q * longestBlock
 unfolding placesOf
 length-places [] h = refl
 length-places (b ∷ q) h = rw (length-append, length-padded longestBlock b (h .0), length-places q (h .1)) (omega arith)
 
-lengths-append : (q r : List Block) → lengthsOf (q ++ r) ≡ lengthsOf q ++ lengthsOf r
+pub lengths-append : (q r : List Block) → lengthsOf (q ++ r) ≡ lengthsOf q ++ lengthsOf r
 unfolding lengthsOf
 lengths-append [] r = refl
 lengths-append (b ∷ q) r = ap (λ (l : List ℕ). length b ∷ l) (lengths-append q r)
 
-places-append : (q r : List Block) → placesOf (q ++ r) ≡ placesOf q ++ placesOf r
+pub places-append : (q r : List Block) → placesOf (q ++ r) ≡ placesOf q ++ placesOf r
 unfolding placesOf
 places-append [] r = refl
 places-append (b ∷ q) r = rw (places-append q r) (sym (append-assoc (padded longestBlock b) (placesOf q) (placesOf r)))
@@ -62,7 +59,7 @@ drop-places (suc k) (b ∷ q) h =
 pub lengths-added : (q : List Block) (b : Block) → length q < queueSize → put (padded queueSize (lengthsOf q)) (length q) (length b ∷ []) ≡ padded queueSize (lengthsOf (q ++ (b ∷ [])))
 unfolding lengthsOf
 lengths-added q b h =
-    let ll : length (lengthsOf q) ≡ length q = length-lengths q in
+    let ll : length (lengthsOf q) ≡ length q = lengths-length q in
     rw (← ll) (put-padded queueSize (lengthsOf q) (length b ∷ []) (omega arith)) ∙ ap (padded queueSize) (sym (lengths-append q (b ∷ [])))
 
 pub blocks-added : (q : List Block) (b : Block) → Small q → length q < queueSize → length b ≤ longestBlock
@@ -79,7 +76,7 @@ blocks-added q b s h k =
 module _ (q : List Block) (k : ℕ) (h : length q ≤ queueSize) (m : k ≤ length q) where
   pub lengths-dropped : drop k (padded queueSize (lengthsOf q)) ++ replicate k 0 ≡ padded queueSize (lengthsOf (drop k q))
   lengths-dropped =
-      let ll : length (lengthsOf q) ≡ length q = length-lengths q in
+      let ll : length (lengthsOf q) ≡ length q = lengths-length q in
       drop-padded queueSize k (lengthsOf q) (omega arith) (omega arith) ∙ ap (padded queueSize) (drop-lengths k q)
 
   pub blocks-dropped : Small q → drop (k * longestBlock) (padded placesSize (placesOf q)) ++ replicate (k * longestBlock) 0 ≡ padded placesSize (placesOf (drop k q))
@@ -98,12 +95,6 @@ unfolding tab
 tab-is q f zero h e = refl
 tab-is q f (suc n) h e = rw (tab-is q f n (omega arith) e, e n h) (sym (take-suc q n [] h))
 
-pub getD-lengths : (q : List Block) (i : ℕ) → getD (lengthsOf q) i 0 ≡ length (getD q i [])
-unfolding lengthsOf
-getD-lengths [] i = refl
-getD-lengths (b ∷ q) zero = refl
-getD-lengths (b ∷ q) (suc i) = getD-lengths q i
-
 block-is : (q : List Block) (i : ℕ) → Small q → i < length q → placeBlock (padded queueSize (lengthsOf q)) (padded placesSize (placesOf q)) i ≡ getD q i []
 unfolding placeBlock padded placesOf
 block-is q i s h =
@@ -111,26 +102,35 @@ block-is q i s h =
     let zl : List ℕ = replicate (queueSize - length (lengthsOf q)) 0 in
     let zp : List ℕ = replicate (placesSize - length (placesOf q)) 0 in
     let zb : List ℕ = replicate (longestBlock - length b) 0 in
-    let x : getD (lengthsOf q ++ zl) i 0 ≡ length b = List·getD-append (lengthsOf q) zl 0 i (omega (arith, length-lengths q)) ∙ getD-lengths q i in
+    let x : getD (lengthsOf q ++ zl) i 0 ≡ length b = List·getD-append (lengthsOf q) zl 0 i (omega (arith, lengths-length q)) ∙ length-at q i in
     let y : drop (i * longestBlock) (placesOf q ++ zp) ≡ ((b ++ zb) ++ placesOf (drop (suc i) q)) ++ zp =
     drop-append-le (i * longestBlock) (placesOf q) zp (omega (arith, length-places q s)) ∙ ap (λ (l : List ℕ). l ++ zp) (drop-places i q s ∙ ap placesOf (drop-cons q i [] h)) in
     ap₂ (λ (n : ℕ) (l : List ℕ). take n l) x y
     ∙ simp append-assoc (take-at b (zb ++ (placesOf (drop (suc i) q) ++ zp)) (length b) refl)
 
-pub view-pack : (a : abstract.Endpoint) → Small (a .queue) → view (pack a) ≡ a
-unfolding view pack
-view-pack a s =
-    let q = a .queue in
-    let eq : tab (length q) (placeBlock (padded queueSize (lengthsOf q)) (padded placesSize (placesOf q))) ≡ q =
-    tab-is q (placeBlock (padded queueSize (lengthsOf q)) (padded placesSize (placesOf q))) (length q) (omega arith) (λ i h. block-is q i s h) ∙ take-length q in
-    λ i. record { state = a .state; local = a .local; remote = a .remote; accepted = a .accepted; delivered = a .delivered; queue = eq i }
+blocks-are : (q : List Block) → Small q → tab (length q) (placeBlock (padded queueSize (lengthsOf q)) (padded placesSize (placesOf q))) ≡ q
+blocks-are q s =
+    tab-is q (placeBlock (padded queueSize (lengthsOf q)) (padded placesSize (placesOf q))) (length q) (omega arith) (λ i h. block-is q i s h) ∙ take-length q
 
--- what soundness says of the arrays
+pub view-pack : (a : abstract.Endpoint) → Small (a .queue) → Small (a .held) → length (a .held) ≡ heldSize → view (pack a) ≡ a
+unfolding view pack
+view-pack a s t h =
+    let eq = blocks-are (a .queue) s in
+    let eh = rw h at (blocks-are (a .held) t) in
+    λ i. record { state = a .state; local = a .local; remote = a .remote; accepted = a .accepted; delivered = a .delivered; queue = eq i; held = eh i }
+
+-- the arrays of a struct have their lengths
+pub record Long (e : Endpoint) : Type 0 where
+  pub lengths : length (e .lengths) ≡ queueSize
+  pub blocks : length (e .blocks) ≡ placesSize
+  pub held-lengths : length (e .«held_lengths») ≡ heldSize
+  pub held-blocks : length (e .«held_blocks») ≡ placesSize
+
+-- what soundness says of the lengths and the blocks of eight places, of which w are used
 pub record Tidy (w : ℕ) (l b : List ℕ) : Type 0 where
   pub eight : length l ≡ queueSize
   pub bytes : length b ≡ placesSize
   pub few : w ≤ queueSize
-  pub some : (i : ℕ) → i < w → 1 ≤ getD l i 0
   pub short : (i : ℕ) → i < w → getD l i 0 ≤ longestBlock
   pub unused : (i : ℕ) → w ≤ i → i < queueSize → getD l i 0 ≡ 0
   pub clear : (k : ℕ) → k < placesSize → getD l (k / longestBlock) 0 ≤ k % longestBlock → getD b k 0 ≡ 0
@@ -140,7 +140,7 @@ module _ (l b : List ℕ) (W : ℕ) (T : Tidy W l b) where
   unfolding placeBlock
   length-block i h = length-take-le (getD l i 0) (drop (i * longestBlock) b) (rw length-drop (omega (arith, T .short i h)))
 
-  lengths-tab : (w : ℕ) → w ≤ W → lengthsOf (tab w (placeBlock l b)) ≡ take w l
+  pub lengths-tab : (w : ℕ) → w ≤ W → lengthsOf (tab w (placeBlock l b)) ≡ take w l
   unfolding tab lengthsOf
   lengths-tab zero h = refl
   lengths-tab (suc w) h =
@@ -183,13 +183,26 @@ module _ (l b : List ℕ) (W : ℕ) (T : Tidy W l b) where
       (padded-is placesSize b (W * longestBlock) (T .bytes) (omega arith)
       (λ k v u. T .clear k u (omega (arith, T .unused (k / longestBlock) (omega arith) (omega arith)))))
 
-pub pack-view : (e : Endpoint) → Tidy (e .waiting) (e .lengths) (e .blocks) → pack (view e) ≡ e
+pub pack-view : (e : Endpoint) → Tidy (e .waiting) (e .lengths) (e .blocks) → Tidy heldSize (e .«held_lengths») (e .«held_blocks») → pack (view e) ≡ e
 unfolding pack view
-pack-view e T =
+pack-view e T H =
     let n : length (tab (e .waiting) (placeBlock (e .lengths) (e .blocks))) ≡ e .waiting = length-tab (e .waiting) (placeBlock (e .lengths) (e .blocks)) in
     let el = lengths-back (e .lengths) (e .blocks) (e .waiting) T in
     let eb = blocks-back (e .lengths) (e .blocks) (e .waiting) T in
-    λ i. record { state = e .state; local = e .local; remote = e .remote; accepted = e .accepted; delivered = e .delivered; waiting = n i; lengths = el i; blocks = eb i }
+    let hl = lengths-back (e .«held_lengths») (e .«held_blocks») heldSize H in
+    let hb = blocks-back (e .«held_lengths») (e .«held_blocks») heldSize H in
+    λ i. record {
+      state = e .state;
+      local = e .local;
+      remote = e .remote;
+      accepted = e .accepted;
+      delivered = e .delivered;
+      waiting = n i;
+      lengths = el i;
+      blocks = eb i;
+      «held_lengths» = hl i;
+      «held_blocks» = hb i;
+    }
 
 pub count : (e : Endpoint) → length (view e .queue) ≡ e .waiting
 unfolding view

@@ -1,18 +1,19 @@
 -- The record in octets: what the stores leave, and both round trips.
-use Prim.Native.Nat.{ℕ, _+_, _%_, _≤_, _<_}
+use Prim.Native.Nat.{ℕ, _+_, _-_, _%_, _≤_, _<_}
 use mathlib.Core.Path.{_≡_, refl, sym, ap, _∙_}
 use mathlib.Core.List.{List, [], _∷_, _++_, append-assoc}
 use native.Mathlib.Omega.{arith}
 use lib.ListN.{length, take, drop, getD, length-append, length-drop, take-append-drop}
 use lib.Seq.{take-at, drop-at, take-add, drop-drop, length-take-le}
-use Rattle.octets.specs.Sizes.{queueSize}
+use Rattle.octets.specs.Sizes.{queueSize, heldSize}
 use Rattle.endpoint.specs.View.{placesSize}
 use Rattle.octets.specs.Octets.{put, octetsOf, number, field, lay, fields, size, Octets}
 use Rattle.octets.proofs.Octets.{width, octets-take, octets-drop, then-put, Fit, none, one, fields-lay, lay-fields, length-lay}
 use Rattle.endpoint.specs.declared.Endpoint.{Endpoint}
 use Rattle.step_rules.specs.declared.Numbers.{Numbers}
-use Rattle.endpoint.specs.Record.{acceptedAt, blocksAt, deliveredAt, lengthsAt, localAt, recordSize, remoteAt, waitingAt, numbersLayout, encode, decode, RecordFits}
+use Rattle.endpoint.specs.Record.{acceptedAt, blocksAt, deliveredAt, heldBlocksAt, heldLengthsAt, lengthsAt, localAt, recordSize, remoteAt, waitingAt, numbersLayout, encode, decode, RecordFits}
 use Rattle.endpoint.specs.Internal.{recordOf, numbersIn}
+use Rattle.endpoint.proofs.Packs.{Long}
 
 -- a number written over itself
 pub put-same : (d : List ℕ) (at : ℕ) → Octets d → at + 4 ≤ length d → d ≡ put d at (octetsOf 4 (field 4 at d))
@@ -48,14 +49,22 @@ unfolding numbersIn lay octetsOf
 numbers-long n = refl
 
 -- the numbers, then the arrays, each at its place
-pub encode-puts : (n : Numbers) (l b d : List ℕ) → length l ≡ queueSize → length b ≡ placesSize → recordSize ≤ length d
-    → {x y z : List ℕ} → x ≡ put d 0 (numbersIn n) → y ≡ put x lengthsAt l → z ≡ put y blocksAt b → z ≡ put d 0 (encode (recordOf n l b))
+pub encode-puts : (n : Numbers) (l b hl hb d : List ℕ) → Long (recordOf n l b hl hb) → recordSize ≤ length d
+    → {u v x y z : List ℕ} → u ≡ put d 0 (numbersIn n) → v ≡ put u lengthsAt l → x ≡ put v blocksAt b → y ≡ put x heldLengthsAt hl → z ≡ put y heldBlocksAt hb
+    → z ≡ put d 0 (encode (recordOf n l b hl hb))
 unfolding encode numbersIn
-encode-puts n l b d l8 l512 h {x} {y} {z} ex ey ez =
-    let p = numbersIn n in
-    let sy : y ≡ put d 0 (p ++ l) = then-put d p l lengthsAt (numbers-long n) (omega arith) ex ey in
-    let l26 : length (p ++ l) ≡ blocksAt = length-append p l ∙ omega (arith, numbers-long n) in
-    then-put d (p ++ l) b blocksAt l26 (omega arith) sy ez ∙ ap (put d 0) (append-assoc p l b)
+encode-puts n l b hl hb d long h {u} {v} {x} {y} {z} eu ev ex ey ez =
+    let p0 = numbersIn n in
+    let p1 = p0 ++ l in
+    let p2 = p1 ++ b in
+    let p3 = p2 ++ hl in
+    let n1 : length p1 ≡ blocksAt = length-append p0 l ∙ omega (arith, numbers-long n, long .lengths) in
+    let n2 : length p2 ≡ heldLengthsAt = length-append p1 b ∙ omega (arith, n1, long .blocks) in
+    let n3 : length p3 ≡ heldBlocksAt = length-append p2 hl ∙ omega (arith, n2, long .held-lengths) in
+    let s1 : v ≡ put d 0 p1 = then-put d p0 l lengthsAt (numbers-long n) (omega arith) eu ev in
+    let s2 : x ≡ put d 0 p2 = then-put d p1 b blocksAt n1 (omega arith) s1 ex in
+    let s3 : y ≡ put d 0 p3 = then-put d p2 hl heldLengthsAt n2 (omega arith) s2 ey in
+    then-put d p3 hb heldBlocksAt n3 (omega arith) s3 ez ∙ ap (put d 0) (simp append-assoc)
 
 -- what was laid out is read again
 fit : (e : Endpoint) → RecordFits e → Fit numbersLayout (e .state ∷ e .local ∷ e .remote ∷ e .accepted ∷ e .delivered ∷ e .waiting ∷ [])
@@ -67,19 +76,29 @@ fit e r =
     (one {w = 4} {v = e .delivered} (r .delivered)
     (one {w = 1} {v = e .waiting} (omega (arith, r .waiting)) none)))))
 
+-- a part of what was laid out, after p
+part : (p q r : List ℕ) {s : List ℕ} {at n : ℕ} → s ≡ p ++ (q ++ r) → length p ≡ at → length q ≡ n → take n (drop at s) ≡ q
+part p q r {at = at} {n = n} e k m = rw (e, drop-at p (q ++ r) at k) (take-at q r n m)
+
 pub decode-encode : (e : Endpoint) (d : List ℕ) → RecordFits e → decode (encode e ++ d) ≡ e
 unfolding decode encode fields size
 decode-encode e d r =
     let vs = e .state ∷ e .local ∷ e .remote ∷ e .accepted ∷ e .delivered ∷ e .waiting ∷ [] in
-    let h = lay numbersLayout vs in
-    let t = e .lengths ++ (e .blocks ++ d) in
-    let whole : encode e ++ d ≡ h ++ t = append-assoc h (e .lengths ++ e .blocks) d ∙ ap (λ (x : List ℕ). h ++ x) (append-assoc (e .lengths) (e .blocks) d) in
-    let all : fields 0 numbersLayout (h ++ t) ≡ vs = fields-lay [] t 0 refl (fit e r) in
-    let l : length h ≡ lengthsAt = length-lay (fit e r) in
-    let m : length (h ++ e .lengths) ≡ blocksAt = length-append h (e .lengths) ∙ omega (arith, l, r .lengths) in
-    let ls : take queueSize (drop lengthsAt (h ++ t)) ≡ e .lengths = rw (drop-at h t lengthsAt l) (take-at (e .lengths) (e .blocks ++ d) queueSize (r .lengths)) in
-    let bs : take placesSize (drop blocksAt (h ++ t)) ≡ e .blocks =
-    rw (← append-assoc h (e .lengths) (e .blocks ++ d), drop-at (h ++ e .lengths) (e .blocks ++ d) blocksAt m) (take-at (e .blocks) d placesSize (r .blocks)) in
+    let p0 = lay numbersLayout vs in
+    let p1 = p0 ++ e .lengths in
+    let p2 = p1 ++ e .blocks in
+    let p3 = p2 ++ e .«held_lengths» in
+    let n0 : length p0 ≡ lengthsAt = length-lay (fit e r) in
+    let n1 : length p1 ≡ blocksAt = length-append p0 (e .lengths) ∙ omega (arith, n0, r .lengths) in
+    let n2 : length p2 ≡ heldLengthsAt = length-append p1 (e .blocks) ∙ omega (arith, n1, r .blocks) in
+    let n3 : length p3 ≡ heldBlocksAt = length-append p2 (e .«held_lengths») ∙ omega (arith, n2, r .held-lengths) in
+    let t = e .lengths ++ (e .blocks ++ (e .«held_lengths» ++ (e .«held_blocks» ++ d))) in
+    let whole : encode e ++ d ≡ p0 ++ t = simp append-assoc in
+    let all : fields 0 numbersLayout (p0 ++ t) ≡ vs = fields-lay [] t 0 refl (fit e r) in
+    let ls : take queueSize (drop lengthsAt (p0 ++ t)) ≡ e .lengths = part p0 (e .lengths) (e .blocks ++ (e .«held_lengths» ++ (e .«held_blocks» ++ d))) {s = p0 ++ t} refl n0 (r .lengths) in
+    let bs : take placesSize (drop blocksAt (p0 ++ t)) ≡ e .blocks = part p1 (e .blocks) (e .«held_lengths» ++ (e .«held_blocks» ++ d)) {s = p0 ++ t} (simp append-assoc) n1 (r .blocks) in
+    let hls : take heldSize (drop heldLengthsAt (p0 ++ t)) ≡ e .«held_lengths» = part p2 (e .«held_lengths») (e .«held_blocks» ++ d) {s = p0 ++ t} (simp append-assoc) n2 (r .held-lengths) in
+    let hbs : take placesSize (drop heldBlocksAt (p0 ++ t)) ≡ e .«held_blocks» = part p3 (e .«held_blocks») d {s = p0 ++ t} (simp append-assoc) n3 (r .held-blocks) in
     ap decode whole
     ∙ (λ i. record {
       state = getD (all i) 0 0;
@@ -90,11 +109,20 @@ decode-encode e d r =
       waiting = getD (all i) 5 0;
       lengths = ls i;
       blocks = bs i;
+      «held_lengths» = hls i;
+      «held_blocks» = hbs i;
     })
 
--- what was read is laid out again
+-- what was read is laid out again, a part at a time
+parts : (at n m : ℕ) (s : List ℕ) {x : List ℕ} → x ≡ take m (drop (at + n) s) → take n (drop at s) ++ x ≡ take (n + m) (drop at s)
+parts at n m s h = ap (λ (x : List ℕ). take n (drop at s) ++ x) (h ∙ ap (take m) (sym (drop-drop n at s))) ∙ sym (take-add n m (drop at s))
+
 pub encode-decode : (s : List ℕ) → Octets s → recordSize ≤ length s → encode (decode s) ≡ take recordSize s
 unfolding decode encode fields size
 encode-decode s o n =
-    ap (λ (x : List ℕ). x ++ (take queueSize (drop lengthsAt s) ++ take placesSize (drop blocksAt s))) (lay-fields numbersLayout s 0 (omega arith) o)
-    ∙ sym (take-add lengthsAt (queueSize + placesSize) s ∙ ap (λ (x : List ℕ). take lengthsAt s ++ x) (take-add queueSize placesSize (drop lengthsAt s) ∙ ap (λ (x : List ℕ). take queueSize (drop lengthsAt s) ++ take placesSize x) (drop-drop queueSize lengthsAt s)))
+    ap (λ (x : List ℕ). x ++ (take queueSize (drop lengthsAt s) ++ (take placesSize (drop blocksAt s) ++ (take heldSize (drop heldLengthsAt s) ++ take placesSize (drop heldBlocksAt s)))))
+    (lay-fields numbersLayout s 0 (omega arith) o)
+    ∙ parts 0 lengthsAt (recordSize - lengthsAt) s
+    (parts lengthsAt queueSize (recordSize - blocksAt) s
+    (parts blocksAt placesSize (recordSize - heldLengthsAt) s
+    (parts heldLengthsAt heldSize placesSize s refl)))

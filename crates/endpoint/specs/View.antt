@@ -3,12 +3,13 @@ use Prim.Native.Nat.{ℕ, zero, suc, _*_}
 use mathlib.Core.List.{List, [], _∷_, _++_}
 use lib.ListN.{length, take, drop, getD}
 use Rattle.octets.specs.Octets.{padded}
-use Rattle.octets.specs.Sizes.{longestBlock, queueSize}
+use Rattle.octets.specs.Sizes.{longestBlock, queueSize, heldSize}
 use Rattle.frame.specs.Frame.{Block}
 use Rattle.protocol.specs.Endpoint as abstract
+use Rattle.protocol.specs.Endpoint.{lengthsOf}
 use Rattle.endpoint.specs.declared.Endpoint.{Endpoint}
 
--- the octets of all placesOf: 512
+-- the octets of eight places: 512
 abbrev pub placesSize : ℕ
 placesSize = queueSize * longestBlock
 
@@ -17,11 +18,7 @@ unfoldable pub placesOf : List Block → List ℕ
 placesOf [] = []
 placesOf (b ∷ q) = padded longestBlock b ++ placesOf q
 
-unfoldable pub lengthsOf : List Block → List ℕ
-lengthsOf [] = []
-lengthsOf (b ∷ q) = length b ∷ lengthsOf q
-
--- the struct that holds an endpoint: the oldest block is first, unused octets and lengths are 0
+-- the struct that holds an endpoint: the oldest block is first, a held one at the place of its number, unused octets and lengths are 0
 unfoldable pub pack : abstract.Endpoint → Endpoint
 pack a =
     record {
@@ -33,6 +30,8 @@ pack a =
       waiting = length (a .queue);
       lengths = padded queueSize (lengthsOf (a .queue));
       blocks = padded placesSize (placesOf (a .queue));
+      «held_lengths» = padded heldSize (lengthsOf (a .held));
+      «held_blocks» = padded placesSize (placesOf (a .held));
     }
 
 -- f 0, f 1, .., as many as n
@@ -54,4 +53,5 @@ view e =
       accepted = e .accepted;
       delivered = e .delivered;
       queue = tab (e .waiting) (placeBlock (e .lengths) (e .blocks));
+      held = tab heldSize (placeBlock (e .«held_lengths») (e .«held_blocks»));
     }

@@ -7,22 +7,22 @@ use step_rules::Numbers;
 use step_rules::PASSIVE_OPENING;
 ghost use mathlib.Core.Path.{_≡_};
 ghost use mathlib.Core.Bool.{_&&_};
-ghost use Prim.Native.Nat.{_+_, _≤_, _<_};
-ghost use lib.ListN.{length};
-ghost use Rattle.octets.specs.Sizes.{queueSize};
-ghost use Rattle.octets.specs.Test.{when};
+ghost use Prim.Native.Nat.{_+_, _-_, _≤_, _<_};
+ghost use lib.ListN.{length, drop};
+ghost use Rattle.octets.specs.Sizes.{queueSize, heldSize, lastNumber};
+ghost use Rattle.octets.specs.Test.{when, zeros};
 ghost use Rattle.octets.specs.Octets.{put, octetsOf};
 ghost use Rattle.protocol.specs.Endpoint as abstract;
-ghost use Rattle.protocol.specs.Endpoint.{allOf, numbersSound};
+ghost use Rattle.protocol.specs.Endpoint.{allOf, numbersSound, heldSound};
 ghost use Rattle.endpoint.specs.View.{placesSize, pack};
-ghost use Rattle.endpoint.specs.Sound.{zeros, lengthsOk, unusedOk, sound};
+ghost use Rattle.endpoint.specs.Sound.{unusedOk, sound};
 ghost use Rattle.endpoint.specs.Record.{recordSize, encode, decode};
-ghost use Rattle.endpoint.specs.Internal.{placeOk, recordOf, numbersOf, numbersIn};
+ghost use Rattle.endpoint.specs.Internal.{placeOk, placesOk, recordOf, numbersOf, numbersIn};
 
-// The octets of all places, which are one flat array: 512.
+// The octets of eight places, which are one flat array: 512.
 pub const PLACES_SIZE: usize = octets::QUEUE_SIZE * octets::LONGEST_BLOCK;
 
-// The places of the record in its octets: state, L, D, t, e, w, lengths, blocks.
+// The places of the record in its octets: state, L, D, t, e, w, lengths, blocks; then the lengths and the blocks of what is held.
 const STATE_AT: usize = 0;
 
 const LOCAL_AT: usize = STATE_AT + 1;
@@ -39,10 +39,15 @@ pub const LENGTHS_AT: usize = WAITING_AT + 1;
 
 pub const BLOCKS_AT: usize = LENGTHS_AT + octets::QUEUE_SIZE;
 
-// 538 in all.
-pub const RECORD_SIZE: usize = BLOCKS_AT + PLACES_SIZE;
+pub const HELD_LENGTHS_AT: usize = BLOCKS_AT + PLACES_SIZE;
 
-// Document 01's record of an end: L and D are local and remote, t is accepted, e is delivered, w is waiting.
+pub const HELD_BLOCKS_AT: usize = HELD_LENGTHS_AT + octets::HELD_SIZE;
+
+// 1,058 in all.
+pub const RECORD_SIZE: usize = HELD_BLOCKS_AT + PLACES_SIZE;
+
+// Document 01's record of an end: L and D are local and remote, t is accepted, e is delivered, w is waiting. N2: the held places are
+// those of the numbers e to e + 7, and a length of 0 is none.
 pub struct Endpoint {
     pub state: u8,
     pub local: u32,
@@ -52,6 +57,8 @@ pub struct Endpoint {
     pub waiting: u8,
     pub lengths: [u8; octets::QUEUE_SIZE],
     pub blocks: [u8; PLACES_SIZE],
+    pub held_lengths: [u8; octets::HELD_SIZE],
+    pub held_blocks: [u8; PLACES_SIZE],
 }
 
 impl Endpoint {
@@ -75,6 +82,8 @@ impl Endpoint {
             waiting: 0,
             lengths: [0; octets::QUEUE_SIZE],
             blocks: [0; PLACES_SIZE],
+            held_lengths: [0; octets::HELD_SIZE],
+            held_blocks: [0; PLACES_SIZE],
         }
     }
 }
@@ -112,54 +121,71 @@ fn numbers_ok(
                             ))))))
 }
 
-// Whether all of s is 0. The loop has no branch, so that it takes many octets at once.
-fn is_clear(s: &[u8]) -> bool
-    ensures { λ r. ⌜ r ≡ zeros (now (s .entry)) ⌝ }
-{
-    let mut ok = true;
-    let mut i = 0;
-    while i < s.len() {
-        ok = ok & (s[i] == 0);
-        i += 1;
-    }
-    ok
-}
-
-// Place i, where a block waits: its length is 1 to 64, and zeros follow it.
-fn place_ok(lengths: &[u8], blocks: &[u8], i: usize) -> bool
+// Place i, where a block may be: its length is least to 64, and zeros follow it.
+fn place_ok(least: usize, lengths: &[u8], blocks: &[u8], i: usize) -> bool
     requires { ⌜ (length (now blocks) ≡ placesSize) × ((length (now lengths) ≡ queueSize) × (i < queueSize)) ⌝ }
-    ensures { λ r. ⌜ r ≡ placeOk (now (lengths .entry)) (now (blocks .entry)) i ⌝ }
+    ensures { λ r. ⌜ r ≡ placeOk least (now (lengths .entry)) (now (blocks .entry)) i ⌝ }
 {
     let n = octets::wide(lengths[i]);
-    if n < 1 {
+    if n < least {
         return false;
     }
     if Endpoint::LONGEST_BLOCK < n {
         return false;
     }
     let at = i * Endpoint::LONGEST_BLOCK;
-    is_clear(&blocks[at + n..at + Endpoint::LONGEST_BLOCK])
+    octets::is_clear(&blocks[at + n..at + Endpoint::LONGEST_BLOCK])
 }
 
-// The places where blocks wait, one by one; then all that is unused after them, in one run.
-fn places_ok(waiting: usize, lengths: &[u8], blocks: &[u8]) -> bool
-    requires { ⌜ (length (now blocks) ≡ placesSize) × ((length (now lengths) ≡ queueSize) × (waiting ≤ queueSize)) ⌝ }
-    ensures { λ r. ⌜ r ≡ (lengthsOk waiting (now (lengths .entry)) && unusedOk (now (lengths .entry)) (now (blocks .entry))) ⌝ }
+// The places that are used, one by one; then all that is unused after them, in one run.
+fn places_ok(least: usize, used: usize, lengths: &[u8], blocks: &[u8]) -> bool
+    requires { ⌜ (length (now blocks) ≡ placesSize) × ((length (now lengths) ≡ queueSize) × (used ≤ queueSize)) ⌝ }
+    ensures { λ r. ⌜ r ≡ placesOk least used (now (lengths .entry)) (now (blocks .entry)) ⌝ }
 {
     let mut ok = true;
     let mut i = 0;
-    while i < waiting {
-        ok = ok & place_ok(lengths, blocks, i);
+    while i < used {
+        ok = ok & place_ok(least, lengths, blocks, i);
         i += 1;
     }
-    let at = waiting * Endpoint::LONGEST_BLOCK;
-    ok & (is_clear(&lengths[waiting..]) & is_clear(&blocks[at..]))
+    let at = used * Endpoint::LONGEST_BLOCK;
+    ok & (octets::is_clear(&lengths[used..]) & octets::is_clear(&blocks[at..]))
+}
+
+// No held number, which is delivered + i at place i, is above 4294967294: the places from there on hold nothing.
+fn held_numbers_ok(delivered: u32, lengths: &[u8]) -> bool
+    requires { ⌜ length (now lengths) ≡ heldSize ⌝ }
+    ensures { λ r. ⌜ r ≡ zeros (drop (lastNumber - delivered) (now (lengths .entry))) ⌝ }
+{
+    let left = (octets::LAST_NUMBER - delivered) as usize;
+    if octets::HELD_SIZE <= left {
+        return true;
+    }
+    octets::is_clear(&lengths[left..])
+}
+
+// The held places. Where nothing is held, all of them are unused: one run.
+fn held_ok(state: u8, delivered: u32, lengths: &[u8], blocks: &[u8]) -> bool
+    requires { ⌜ (length (now blocks) ≡ placesSize) × (length (now lengths) ≡ heldSize) ⌝ }
+    ensures { λ r. ⌜ r ≡ (allOf (heldSound state delivered (now (lengths .entry))) && unusedOk (now (lengths .entry)) (now (blocks .entry))) ⌝ }
+{
+    if octets::is_clear(lengths) {
+        return octets::is_clear(blocks);
+    }
+    (state == ESTABLISHED)
+        & (held_numbers_ok(delivered, lengths) & places_ok(0, octets::HELD_SIZE, lengths, blocks))
 }
 
 // Question 12: is the record of these numbers, lengths and blocks sound?
-pub fn is_sound<'a>(n: Numbers, lengths: &'a [u8], blocks: &'a [u8]) -> bool
-    requires { ⌜ (length (now blocks) ≡ placesSize) × (length (now lengths) ≡ queueSize) ⌝ }
-    ensures { λ r. ⌜ r ≡ sound (recordOf n (now (lengths .entry)) (now (blocks .entry))) ⌝ }
+pub fn is_sound<'a>(
+    n: Numbers,
+    lengths: &'a [u8],
+    blocks: &'a [u8],
+    held_lengths: &'a [u8],
+    held_blocks: &'a [u8],
+) -> bool
+    requires { ⌜ ((length (now blocks) ≡ placesSize) × (length (now lengths) ≡ queueSize)) × ((length (now «held_blocks») ≡ placesSize) × (length (now «held_lengths») ≡ heldSize)) ⌝ }
+    ensures { λ r. ⌜ r ≡ sound (recordOf n (now (lengths .entry)) (now (blocks .entry)) (now («held_lengths» .entry)) (now («held_blocks» .entry))) ⌝ }
 {
     if !numbers_ok(
         n.state,
@@ -171,7 +197,8 @@ pub fn is_sound<'a>(n: Numbers, lengths: &'a [u8], blocks: &'a [u8]) -> bool
     ) {
         return false;
     }
-    places_ok(octets::wide(n.waiting), lengths, blocks)
+    places_ok(1, octets::wide(n.waiting), lengths, blocks)
+        & held_ok(n.state, n.delivered, held_lengths, held_blocks)
 }
 
 pub fn numbers_of(e: Endpoint) -> Numbers
@@ -236,4 +263,8 @@ pub fn encode(e: Endpoint, out: &mut [u8])
     octets::copy(out, LENGTHS_AT, &lengths);
     let blocks = e.blocks;
     octets::copy(out, BLOCKS_AT, &blocks);
+    let held_lengths = e.held_lengths;
+    octets::copy(out, HELD_LENGTHS_AT, &held_lengths);
+    let held_blocks = e.held_blocks;
+    octets::copy(out, HELD_BLOCKS_AT, &held_blocks);
 }

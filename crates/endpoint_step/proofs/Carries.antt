@@ -1,40 +1,49 @@
 -- A plan that is carried out leaves the struct of the endpoint that the call comes to, and answers what the call answers.
-use Prim.Native.Nat.{ℕ, zero, suc, _*_, _≤_}
+use Prim.Native.Nat.{ℕ, zero, suc, _+_, _*_, _≤_, _<_}
 use mathlib.Core.Path.{_≡_, refl, sym, subst, ap, ap₂, _∙_}
 use mathlib.Core.Logic.{_≢_}
 use mathlib.Core.Bool.{true}
 use mathlib.Core.List.{List, [], _∷_, _++_}
 use native.Mathlib.Nat.{mul-one}
 use native.Mathlib.Omega.{arith}
+use borrow.Author.Tests.{leb-true}
 use lib.ListN.{length, getD, drop, replicate}
-use Rattle.frame.specs.Layout.{dataBlockAt}
-use Rattle.octets.specs.Sizes.{longestFrame, longestBlock, queueSize}
+use lib.Seq.{take-all, take-at}
+use Rattle.frame.specs.Layout.{sendBlockAt, dataBlockAt}
+use Rattle.octets.specs.Sizes.{longestFrame, longestBlock, queueSize, heldSize, lastNumber}
 use Rattle.octets.specs.Test.{Outcome, refused, ok, mapped, numberOf}
 use Rattle.octets.specs.Octets.{put, left, padded}
+use Rattle.octets.proofs.Test.{by-eq}
 use Rattle.octets.proofs.Octets.{put-none}
 use Rattle.octets.proofs.Outcomes.{is-refused}
 use Rattle.frame.specs.Frame.{Block}
+use Rattle.protocol.specs.Endpoint.{lengthsOf}
 use Rattle.protocol.specs.Table.{Step}
-use Rattle.call_spec.specs.Calls.{Arguments, wire, bufferAfter}
+use Rattle.protocol.proofs.Sound.{length-at}
+use Rattle.call_spec.specs.declared.Call.{Call}
+use Rattle.call_spec.specs.declared.Call.the-variants as call
+use Rattle.call_spec.specs.Calls.{Arguments, wire, bufferAfter, blockRoomOk}
 use Rattle.step_rules.specs.Internal.{holding}
 use Rattle.step_plan.specs.declared.Plan.{Plan}
-use Rattle.step_plan.specs.declared.Queue.{Queue}
-use Rattle.step_plan.specs.declared.Queue.the-variants.{Keep, Join, Release}
-use Rattle.call_spec.specs.Answers.{noticeOf, sentIn, blockOf, blockPart, endpointAfter}
-use Rattle.step_plan.specs.Internal.{blockBy, joinedBy, queueAfter, Room, blockOut, sentBy, Oldest, Comes, Sends}
+use Rattle.step_plan.specs.declared.Places.{Places}
+use Rattle.step_plan.specs.declared.Places.the-variants.{Keep, Join, Release}
+use Rattle.call_spec.specs.Answers.{noticeOf, sentIn, blockOf, blockPart, blockBufferAfter, endpointAfter}
+use Rattle.step_plan.specs.Internal.{blockBy, queueAfter, heldAfter, Reaches, Room, HeldRoom, blockOut, sentBy, Oldest, Comes, Sends}
 use Rattle.step_plan.specs.Internal.{refusedPlan}
-use Rattle.step_plan.proofs.Comes.{refuses, joined-short}
-use Rattle.step_plan.proofs.Up.{right, part, told}
+use Rattle.step_plan.proofs.Comes.{refuses, queue-reaches, held-reaches, queue-short, held-short}
+use Rattle.step_plan.proofs.Up.{There, right, told}
+use Rattle.step_plan.proofs.Up as up
 use Rattle.endpoint.specs.declared.Endpoint.{Endpoint}
-use Rattle.endpoint.specs.View.{placesOf, placesSize, lengthsOf, pack, tab, placeBlock, view}
+use Rattle.endpoint.specs.View.{placesOf, placesSize, pack, tab, placeBlock, view}
 use Rattle.endpoint.specs.Sound.{sound}
 use Rattle.endpoint.specs.Internal.{numbersOf}
-use Rattle.endpoint.proofs.Packs.{Tidy, Small, small, count, tab-head, lengths-back, blocks-back, pack-view, lengths-added, blocks-added, lengths-dropped, blocks-dropped}
-use Rattle.endpoint.proofs.Sounds.{by-lt, tidy, facts}
+use Rattle.endpoint.proofs.Packs.{Long, Tidy, Small, small, count, length-tab, tab-head, small-tab, lengths-back, blocks-back, pack-view, lengths-added, blocks-added, lengths-dropped, blocks-dropped}
+use Rattle.endpoint.proofs.Sounds.{by-lt, tidy, tidy-held, lengths-held, facts}
 use Rattle.endpoint_step.specs.declared.StepAnswer.{StepAnswer}
 use Rattle.endpoint_step.specs.Calls.{outcomeOf, stepAnswerOf, Advances}
-use Rattle.endpoint_step.specs.Internal.{Plans, placesAfter, lengthsAfter, blocksAfter, carried}
-use Rattle.endpoint_step.proofs.Ready.{passes}
+use Rattle.endpoint_step.specs.Internal.{joinsQueue, joinsHeld, Plans, placesAfter, InEight, Fits, lengthsAfter, blocksAfter, carried, blockFrom, Handy, handedTo, HandsUp}
+use Rattle.endpoint_step.proofs.Ready.{Passes, passes}
+use Rattle.endpoint_step.proofs.HeldPlaces.{held-lengths-after, held-blocks-after}
 
 -- the oldest block is the one at place 0
 heads : (w : ℕ) (f : ℕ → Block) → Oldest (tab w f) (f 0)
@@ -46,28 +55,68 @@ pub oldest-at : (e : Endpoint) → Oldest (view e .queue) (placeBlock (e .length
 unfolding view
 oldest-at e = heads (e .waiting) (placeBlock (e .lengths) (e .blocks))
 
-module _ (e : Endpoint) (s : sound e ≡ true) (l8 : length (e .lengths) ≡ queueSize) (l512 : length (e .blocks) ≡ placesSize) where
+-- and the first of the held ones
+first-held : (e : Endpoint) → getD (view e .held) 0 [] ≡ placeBlock (e .«held_lengths») (e .«held_blocks») 0
+unfolding view
+first-held e = ap (λ (q : List Block). getD q 0 []) (tab-head 7 (placeBlock (e .«held_lengths») (e .«held_blocks»)))
+
+-- where what joins or leaves stands in eight places
+queue-in-eight : (k : Places) (b : Block) (w : ℕ) → w ≤ queueSize → Room k b w → InEight k
+queue-in-eight Keep b w h r = tt
+queue-in-eight (Join i) b w h r = omega (arith, r .0, r .1 .0)
+queue-in-eight (Release k) b w h r = omega (arith, r)
+
+held-in-eight : (k : Places) (x : Block) (h : List Block) → HeldRoom k x h → InEight k
+held-in-eight Keep x h r = tt
+held-in-eight (Join i) x h r = r .0
+held-in-eight (Release k) x h r = r .0
+
+module _ (e : Endpoint) (s : sound e ≡ true) (long : Long e) where
   is-tidy : Tidy (e .waiting) (e .lengths) (e .blocks)
-  is-tidy = tidy e s l8 l512
+  is-tidy = tidy e s long
+
+  is-tidy-held : Tidy heldSize (e .«held_lengths») (e .«held_blocks»)
+  is-tidy-held = tidy-held e s long
 
   pub few : e .waiting ≤ queueSize
   few = is-tidy .few
 
   pub laden : e .waiting ≤ e .accepted
   unfolding view
-  laden = rw (count e) at (facts e s l8 l512 .laden .waits)
+  laden = rw (count e) at (facts e s long .laden .waits)
 
   pub first-short : getD (e .lengths) 0 0 ≤ longestBlock
   first-short = by-lt 0 (e .waiting) (λ h. is-tidy .short 0 h) (λ h. omega (arith, is-tidy .unused 0 h (omega arith)))
 
+  pub held-short-at : getD (e .«held_lengths») 0 0 ≤ longestBlock
+  held-short-at = is-tidy-held .short 0 (omega arith)
+
+  -- a number is left for block e, where it is held
+  pub number-left : 1 ≤ getD (e .«held_lengths») 0 0 → e .delivered < lastNumber
+  unfolding view
+  number-left h =
+      let z = sym (length-at (view e .held) 0) ∙ ap (λ (l : List ℕ). getD l 0 0) (lengths-held e s long) in
+      omega (arith, facts e s long .fitting 0 (omega (arith, z)) .1)
+
   abbrev blocks : List Block
   blocks = view e .queue
+
+  abbrev helds : List Block
+  helds = view e .held
 
   short-queue : length blocks ≤ queueSize
   short-queue = rw (count e) few
 
   is-small : Small blocks
   is-small = small e is-tidy
+
+  small-helds : Small helds
+  unfolding view
+  small-helds = small-tab (e .«held_lengths») (e .«held_blocks») heldSize is-tidy-held heldSize (omega arith)
+
+  eight-helds : length helds ≡ heldSize
+  unfolding view
+  eight-helds = length-tab heldSize (placeBlock (e .«held_lengths») (e .«held_blocks»))
 
   lengths-are : e .lengths ≡ padded queueSize (lengthsOf blocks)
   unfolding view
@@ -77,46 +126,77 @@ module _ (e : Endpoint) (s : sound e ≡ true) (l8 : length (e .lengths) ≡ que
   unfolding view
   blocks-are = sym (blocks-back (e .lengths) (e .blocks) (e .waiting) is-tidy)
 
-  after-lengths : (k : Queue) (b : Block) → Room k b (length blocks) → lengthsAfter k (e .waiting) b (e .lengths) ≡ padded queueSize (lengthsOf (queueAfter k b blocks))
+  held-lengths-are : e .«held_lengths» ≡ padded heldSize (lengthsOf helds)
+  unfolding view
+  held-lengths-are = sym (lengths-back (e .«held_lengths») (e .«held_blocks») heldSize is-tidy-held)
+
+  held-blocks-are : e .«held_blocks» ≡ padded placesSize (placesOf helds)
+  unfolding view
+  held-blocks-are = sym (blocks-back (e .«held_lengths») (e .«held_blocks») heldSize is-tidy-held)
+
+  after-lengths : (k : Places) (b : Block) → Room k b (length blocks) → lengthsAfter k b (e .lengths) ≡ padded queueSize (lengthsOf (queueAfter k b blocks))
   unfolding placesAfter queueAfter
   after-lengths Keep b r = lengths-are
-  after-lengths Join b r = rw mul-one (ap₂ (λ (w : ℕ) (l : List ℕ). put l w (length b ∷ [])) (sym (count e)) lengths-are ∙ lengths-added blocks b (r .0))
+  after-lengths (Join i) b r = rw mul-one (ap₂ (λ (w : ℕ) (l : List ℕ). put l w (length b ∷ [])) (r .0) lengths-are ∙ lengths-added blocks b (r .1 .0))
   after-lengths (Release k) b r = rw mul-one (ap (λ (l : List ℕ). drop k l ++ replicate k 0) lengths-are ∙ lengths-dropped blocks k short-queue r)
 
-  after-blocks : (k : Queue) (b : Block) → Room k b (length blocks) → blocksAfter k (e .waiting) b (e .blocks) ≡ padded placesSize (placesOf (queueAfter k b blocks))
+  after-blocks : (k : Places) (b : Block) → Room k b (length blocks) → blocksAfter k b (e .blocks) ≡ padded placesSize (placesOf (queueAfter k b blocks))
   unfolding placesAfter queueAfter
   after-blocks Keep b r = blocks-are
-  after-blocks Join b r = ap₂ (λ (w : ℕ) (l : List ℕ). put l (w * longestBlock) b) (sym (count e)) blocks-are ∙ blocks-added blocks b is-small (r .0) (r .1 .1)
+  after-blocks (Join i) b r = ap₂ (λ (w : ℕ) (l : List ℕ). put l (w * longestBlock) b) (r .0) blocks-are ∙ blocks-added blocks b is-small (r .1 .0) (r .1 .1 .1)
   after-blocks (Release k) b r = ap (λ (l : List ℕ). drop (k * longestBlock) l ++ replicate (k * longestBlock) 0) blocks-are ∙ blocks-dropped blocks k short-queue r is-small
 
-  carried-is : (p : Plan) (b : Block) → p .numbers .waiting ≡ length (queueAfter (p .queue) b blocks) → Room (p .queue) b (length blocks)
-      → carried p b e ≡ pack (holding (p .numbers) (queueAfter (p .queue) b blocks))
+  carried-is : (p : Plan) (b x : Block) → p .numbers .waiting ≡ length (queueAfter (p .queue) b blocks) → Room (p .queue) b (length blocks) → HeldRoom (p .held) x helds
+      → carried p b x e ≡ pack (holding (p .numbers) (queueAfter (p .queue) b blocks) (heldAfter (p .held) x helds))
   unfolding carried pack
-  carried-is p b k r =
+  carried-is p b x k r m =
       let n = p .numbers in
       let el = after-lengths (p .queue) b r in
       let eb = after-blocks (p .queue) b r in
-      λ i. record { state = n .state; local = n .local; remote = n .remote; accepted = n .accepted; delivered = n .delivered; waiting = k i; lengths = el i; blocks = eb i }
+      let hl = ap (lengthsAfter (p .held) x) held-lengths-are ∙ held-lengths-after helds eight-helds small-helds (p .held) x m in
+      let hb = ap (blocksAfter (p .held) x) held-blocks-are ∙ held-blocks-after helds eight-helds small-helds (p .held) x m in
+      λ i. record {
+        state = n .state;
+        local = n .local;
+        remote = n .remote;
+        accepted = n .accepted;
+        delivered = n .delivered;
+        waiting = k i;
+        lengths = el i;
+        blocks = eb i;
+        «held_lengths» = hl i;
+        «held_blocks» = hb i;
+      }
 
   -- the record that is answered
   told-is : (o : Outcome Step) → pack (endpointAfter (view e) o) ≡ stepAnswerOf e o .endpoint
   unfolding endpointAfter stepAnswerOf
-  told-is (refused n) = pack-view e is-tidy
+  told-is (refused n) = pack-view e is-tidy is-tidy-held
   told-is (ok x) = refl
 
-  pub carries : {b old : Block} {o : Outcome Step} {p : Plan} → Comes (numbersOf e) blocks b old o p → carried p b e ≡ stepAnswerOf e o .endpoint
+  pub carries : {b x old : Block} {o : Outcome Step} {p : Plan} → Comes (numbersOf e) blocks helds b x old o p → carried p b x e ≡ stepAnswerOf e o .endpoint
   unfolding view
-  carries {b} {old} {o} {p} c = carried-is p b (c .counted) (c .room) ∙ ap pack (c .endpoint) ∙ told-is o
+  carries {b} {x} {old} {o} {p} c = carried-is p b x (c .counted) (c .room) (c .place) ∙ ap pack (c .endpoint) ∙ told-is o
 
 -- the plan of a call that is refused
 pub refusal : (e : Endpoint) (c : Arguments) {p : Plan} (k : ℕ) → outcomeOf e c ≡ refused k → p ≡ refusedPlan (numbersOf e) k → Plans e c p
-refusal e c k h r = refuses (numbersOf e) (view e .queue) _ _ (count e) k h r
+refusal e c k h r = refuses (numbersOf e) (view e .queue) (view e .held) _ _ _ (count e) k h r
 
 -- what is left of the buffer
 pub sends-is : (out : List ℕ) {out′ : List ℕ} {n : ℕ} (o : Outcome Step) → Sends (sentIn o) out out′ n → out′ ≡ bufferAfter out o
 unfolding sentIn bufferAfter mapped left wire put
 sends-is out (refused n) h = h .octets ∙ put-none out 0
 sends-is out (ok x) h = h .octets
+
+-- and of the buffer for a block
+handed-is : (c : Call) (o : Outcome Step) (up : List ℕ) → handedTo c (blockOf o) up ≡ blockBufferAfter c up o
+unfolding handedTo blockBufferAfter blockOf mapped left
+handed-is call.Request (refused n) u = sym (put-none u 0)
+handed-is call.Request (ok x) up = refl
+handed-is call.Receive o up = refl
+
+pub hands-is : (c : Call) (up : List ℕ) {up′ : List ℕ} {n : ℕ} (o : Outcome Step) → HandsUp c (blockOf o) up up′ n → up′ ≡ blockBufferAfter c up o
+hands-is c up o h = h .octets ∙ handed-is c o up
 
 -- the parts of an accepted answer
 accepted-is : (e : Endpoint) (o : Outcome Step) → numberOf o ≡ 0
@@ -131,65 +211,121 @@ unfolding blockOf stepAnswerOf
 block-is e (refused n) = refl
 block-is e (ok x) = refl
 
-module _ (e : Endpoint) (l8 : length (e .lengths) ≡ queueSize) (l512 : length (e .blocks) ≡ placesSize) (c : Arguments) {p : Plan} (w : Plans e c p) where
+-- where the block handed up comes from is where the struct has it
+from-is : (e : Endpoint) (c : Call) (s : List ℕ) → blockFrom c (e .«held_lengths») (e .«held_blocks») s ≡ up.source c s (view e)
+unfolding blockFrom up.source
+from-is e call.Request s = sym (first-held e)
+from-is e call.Receive s = refl
+
+-- a block stands where it was handed up to, and where it was received
+handed-stands : (c : Call) (s u b : List ℕ) (n : ℕ) {from : Block} → (n ≡ 5 → b ≡ from) → (n ≢ 5 → b ≡ []) → (c ≡ call.Receive → from ≡ drop dataBlockAt s)
+    → blockPart c s (handedTo c b u) (length b) ≡ b
+unfolding blockPart handedTo put
+handed-stands call.Request s u b n some none f = take-at b (drop (0 + length b) u) (length b) refl
+handed-stands call.Receive s u b n some none f =
+    by-eq n 5 (λ z. let k = some z ∙ f refl in rw k (take-all (length (drop dataBlockAt s)) (drop dataBlockAt s) (omega arith)))
+    (λ z. let k = none z in rw k refl)
+
+source-received : (c : Call) (s : List ℕ) (e : Endpoint) → c ≡ call.Receive → up.source c s (view e) ≡ drop dataBlockAt s
+unfolding up.source
+source-received c s e h = rw h refl
+
+module _ (e : Endpoint) (long : Long e) (c : Arguments) {p : Plan} (w : Plans e c p) where
   abbrev o : Outcome Step
   o = outcomeOf e c
 
   abbrev joins : Block
-  joins = joinedBy (p .queue) (c .octets)
+  joins = joinsQueue p (c .octets)
 
-  -- a plan that is accepted: the buffer has room, the record is sound
+  abbrev early : Block
+  early = joinsHeld p (c .octets)
+
+  -- the octets reach to what joins
+  pub queue-there : Reaches (p .queue) sendBlockAt (c .octets)
+  queue-there = queue-reaches sendBlockAt (c .octets) (p .queue) _ (w .room)
+
+  pub held-there : Reaches (p .held) dataBlockAt (c .octets)
+  held-there = held-reaches dataBlockAt (c .octets) (p .held) _ (w .place)
+
+  -- a plan that is accepted: the buffers have room, the record is sound
   module _ (z : p .number ≡ 0) where
     is-accepted : numberOf o ≡ 0
     is-accepted = sym (w .number) ∙ z
 
-    passed : (longestFrame ≤ c .room) × (sound e ≡ true)
+    passed : Passes (sound e) c
     unfolding outcomeOf
     passed = passes (sound e) (view e) c is-accepted
 
     -- its frame can be sent
     pub sendable : (getD (e .lengths) 0 0 ≤ longestBlock) × ((length joins ≤ longestBlock) × (longestFrame ≤ c .room))
-    sendable = (first-short e (passed .1) l8 l512, (joined-short (p .queue) (c .octets) _ (w .room), passed .0))
+    sendable = (first-short e (passed .is-fine) long, (queue-short sendBlockAt (c .octets) (p .queue) _ (w .room), passed .frame-room))
 
     -- it can be carried out
-    pub ready-to : (e .waiting ≤ queueSize) × ((length joins ≤ longestBlock) × Room (p .queue) joins (e .waiting))
-    ready-to = (few e (passed .1) l8 l512, (sendable .1 .0, rw (count e) at (w .room)))
+    pub ready-to : Fits p joins early
+    ready-to = (
+      (queue-in-eight (p .queue) joins (e .waiting) (few e (passed .is-fine) long) (rw (count e) at (w .room)), sendable .1 .0),
+      (held-in-eight (p .held) early _ (w .place), held-short dataBlockAt (c .octets) (p .held) _ (w .place)),
+    )
 
     -- and it leaves the record that is answered
-    pub leaves : carried p joins e ≡ stepAnswerOf e o .endpoint
-    leaves = carries e (passed .1) l8 l512 w
+    pub leaves : carried p joins early e ≡ stepAnswerOf e o .endpoint
+    leaves = carries e (passed .is-fine) long w
 
-  -- the block that is handed up stands in what the call was given
-  pub long-enough : p .notice ≡ 5 → dataBlockAt ≤ length (c .octets)
-  unfolding outcomeOf
-  long-enough z = right (sound e) (view e) c .some (sym (w .notice) ∙ z) .1
+    -- the block that is handed up is there
+    handy-at : (k : Call) → blockRoomOk k (c .blockRoom) ≡ true → There k (c .octets) → Handy k (e .«held_lengths») (c .octets) (c .blockRoom)
+    unfolding blockRoomOk
+    handy-at call.Request b t = (held-short-at e (passed .is-fine) long, leb-true longestBlock (c .blockRoom) b)
+    handy-at call.Receive b t = t
 
-  pub hands-up : blockBy (p .notice) (c .octets) ≡ blockOf o
-  unfolding outcomeOf
-  hands-up = ap (λ (n : ℕ). blockBy n (c .octets)) (w .notice) ∙ told (right (sound e) (view e) c)
+    pub handy : p .notice ≡ 5 → Handy (c .call) (e .«held_lengths») (c .octets) (c .blockRoom)
+    unfolding outcomeOf
+    handy y = handy-at (c .call) (passed .block-room) (right (sound e) (view e) c .some (sym (w .notice) ∙ y) .1)
 
-  pub stands : blockPart (c .octets) (length (blockOf o)) ≡ blockOf o
+  pub hands-up : blockBy (p .notice) (blockFrom (c .call) (e .«held_lengths») (e .«held_blocks») (c .octets)) ≡ blockOf o
   unfolding outcomeOf
-  stands = part (right (sound e) (view e) c)
+  hands-up = ap₂ (λ (n : ℕ) (b : Block). blockBy n b) (w .notice) (from-is e (c .call) (c .octets)) ∙ told (right (sound e) (view e) c)
+
+  -- it stands where it was handed up to
+  pub stands : (u : List ℕ) → blockPart (c .call) (c .octets) (blockBufferAfter (c .call) u o) (length (blockOf o)) ≡ blockOf o
+  unfolding outcomeOf
+  stands u =
+      let r = right (sound e) (view e) c in
+      ap (λ (l : List ℕ). blockPart (c .call) (c .octets) l (length (blockOf o))) (sym (handed-is (c .call) o u))
+      ∙ handed-stands (c .call) (c .octets) u (blockOf o) (noticeOf o) (λ y. r .some y .0) (r .nothing) (source-received (c .call) (c .octets) e)
 
   -- what is sent is what the outcome sends
   pub sends : {out out′ : List ℕ} {n : ℕ} → Sends (sentBy (p .reply) (blockOut (p .queue) joins (placeBlock (e .lengths) (e .blocks) 0))) out out′ n
       → Sends (sentIn o) out out′ n
   sends s = rw (w .sent) at s
 
-  answers : {r : StepAnswer} {out out′ : List ℕ} → r ≡ stepAnswerOf e o → out′ ≡ bufferAfter out o → Advances e o (c .octets) out out′ r
-  answers h k =
-      record { answer = h; octets = k; block = ap (λ (x : StepAnswer). blockPart (c .octets) (x .block)) h ∙ ap (blockPart (c .octets)) (sym (block-is e o)) ∙ stands }
+  answers : {r : StepAnswer} {out u out′ u′ : List ℕ} → r ≡ stepAnswerOf e o → out′ ≡ bufferAfter out o → u′ ≡ blockBufferAfter (c .call) u o → Advances e c out u out′ u′ r
+  answers {u = u} h k m =
+      record {
+        answer = h;
+        octets = k;
+        block-octets = m;
+        block =
+            ap₂ (λ (x : StepAnswer) (l : List ℕ). blockPart (c .call) (c .octets) l (x .block)) h m
+            ∙ ap (λ (n : ℕ). blockPart (c .call) (c .octets) (blockBufferAfter (c .call) u o) n) (sym (block-is e o))
+            ∙ stands u;
+      }
 
-  pub turns-down : p .number ≢ 0 → (out : List ℕ) → Advances e o (c .octets) out out (record { number = p .number; endpoint = e; notice = 0; sent = 0; block = 0 })
+  none-handed : (k : Call) (u : List ℕ) (n : ℕ) → blockBufferAfter k u (refused n) ≡ u
+  unfolding blockBufferAfter mapped left
+  none-handed call.Request u n = refl
+  none-handed call.Receive u n = refl
+
+  pub turns-down : p .number ≢ 0 → (out u : List ℕ) → Advances e c out u out u (record { number = p .number; endpoint = e; notice = 0; sent = 0; block = 0 })
   unfolding stepAnswerOf bufferAfter mapped left
-  turns-down z out =
+  turns-down z out u =
       let k : o ≡ refused (p .number) = rw (w .number) (is-refused o (λ y. z (w .number ∙ y))) in
-      answers (rw k refl) (rw k refl)
+      answers (rw k refl) (rw k refl) (rw k (sym (none-handed (c .call) u (p .number))))
 
   pub accepts : p .number ≡ 0 → {out out′ : List ℕ} {n : ℕ} → Sends (sentBy (p .reply) (blockOut (p .queue) joins (placeBlock (e .lengths) (e .blocks) 0))) out out′ n
-      → {a : Endpoint} → a ≡ carried p joins e → {b : Block} → b ≡ blockBy (p .notice) (c .octets)
-      → Advances e o (c .octets) out out′ (record { number = 0; endpoint = a; notice = p .notice; sent = n; block = length b })
-  accepts z {out} s a b =
+      → {a : Endpoint} → a ≡ carried p joins early e
+      → {u u′ : List ℕ} {m : ℕ} → HandsUp (c .call) (blockBy (p .notice) (blockFrom (c .call) (e .«held_lengths») (e .«held_blocks») (c .octets))) u u′ m
+      → Advances e c out u out′ u′ (record { number = 0; endpoint = a; notice = p .notice; sent = n; block = m })
+  accepts z {out} s a {u} h =
       let t = sends s in
-      answers (accepted-is e o (is-accepted z) (a ∙ leaves z) (w .notice) (t .count) (ap length (b ∙ hands-up))) (sends-is out o t)
+      let g = rw hands-up at h in
+      answers (accepted-is e o (is-accepted z) (a ∙ leaves z) (w .notice) (t .count) (g .count)) (sends-is out o t) (hands-is (c .call) u o g)

@@ -5,8 +5,6 @@ use mathlib.Core.Path.{_≡_, refl, subst}
 use mathlib.Core.Bool.{Bool, true}
 use mathlib.Core.List.{List}
 use native.Mathlib.Omega.{arith}
-use lib.ListN.{length}
-use Rattle.octets.specs.Sizes.{queueSize}
 use Rattle.octets.specs.Test.{first, Outcome, refused, ok, mapped, andThen}
 use Rattle.octets.specs.Octets.{Octets}
 use Rattle.octets.proofs.Test.{all-yes, passing}
@@ -19,12 +17,13 @@ use Rattle.protocol.specs.Endpoint as abstract
 use Rattle.protocol.specs.Limits.{Bounded, Readable, LeavesSound, LeavesBounded}
 use Rattle.protocol.proofs.Limits.{call-sound, call-bounded}
 use Rattle.endpoint.specs.declared.Endpoint.{Endpoint}
-use Rattle.endpoint.specs.View.{placesSize, pack, view}
+use Rattle.endpoint.specs.View.{pack, view}
 use Rattle.endpoint.specs.Sound.{sound}
 use Rattle.call_spec.specs.declared.Call.{Call}
 use Rattle.call_spec.specs.declared.Call.the-variants as call
 use Rattle.call_spec.specs.Calls.{Arguments, reads, does, ownQuestions, asked}
 use Rattle.call_spec.proofs.Lift.{read-sized}
+use Rattle.endpoint.proofs.Packs.{Long}
 use Rattle.endpoint.proofs.Sounds.{view-sound}
 use Rattle.endpoint.proofs.Held.{held, pack-sound}
 use Rattle.endpoint_step.specs.Calls.{outcomeOf}
@@ -58,9 +57,9 @@ performs call.Receive s a o h = let f = mapped-ok deliver (readFrame s) _ h in (
 pub accepts : (fine : Bool) (a : abstract.Endpoint) (c : Arguments) → InOctets (c .call) (c .octets) → {x : Step} → asked fine a c ≡ ok x → Accepted fine a x
 unfolding asked
 accepts fine a c o h =
-    let r = passing (first (ownQuestions fine (c .room))) h in
+    let r = passing (first (ownQuestions fine c)) h in
     let q = performs (c .call) (c .octets) a o (r .1) in
-    record { is-sound = all-yes 12 fine _ (all-yes 11 _ _ (r .0) tt .1) tt .0; call = q .0; readable = q .1; performs = q .2 }
+    record { is-sound = all-yes 12 fine _ (all-yes 11 _ _ (all-yes 11 _ _ (r .0) tt .1) tt .1) tt .0; call = q .0; readable = q .1; performs = q .2 }
 
 -- What an accepted call leaves: a sound endpoint, whose struct is sound and holds it, and where the numbers had 32 bits they have.
 pub record Leaves (a : abstract.Endpoint) (x : Step) : Type 0 where
@@ -69,12 +68,12 @@ pub record Leaves (a : abstract.Endpoint) (x : Step) : Type 0 where
   pub holds : view (pack (x .endpoint)) ≡ x .endpoint
   pub bounded : Bounded a → Bounded (x .endpoint)
 
-pub leaves : (e : Endpoint) → length (e .lengths) ≡ queueSize → length (e .blocks) ≡ placesSize → (c : Arguments) → InOctets (c .call) (c .octets) → {x : Step}
+pub leaves : (e : Endpoint) → Long e → (c : Arguments) → InOctets (c .call) (c .octets) → {x : Step}
     → outcomeOf e c ≡ ok x → Leaves (view e) x
 unfolding outcomeOf
-leaves e l8 l512 c o h =
+leaves e long c o h =
     let a = accepts (sound e) (view e) c o h in
-    let v = view-sound e (a .is-sound) l8 l512 in
+    let v = view-sound e (a .is-sound) long in
     let s = subst LeavesSound (a .performs) (call-sound (a .call) (view e) v (a .readable)) in
     record {
       is-sound = s;

@@ -1,4 +1,5 @@
 pub mod Ready
+pub mod HeldPlaces
 pub mod Carries
 pub mod Laws
 pub mod Places

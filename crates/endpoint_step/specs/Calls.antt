@@ -1,4 +1,4 @@
--- The step by value: what it answers, and what it leaves in the buffer for the frame.
+-- The step by value: what it answers, and what it leaves in the buffers for a frame and for a block.
 use Prim.Native.Nat.{ℕ}
 use mathlib.Core.Path.{_≡_}
 use mathlib.Core.List.{List}
@@ -6,7 +6,7 @@ use lib.ListN.{length}
 use Rattle.octets.specs.Test.{Outcome, refused, ok}
 use Rattle.call_spec.specs.Calls.{Arguments, asked, wire, bufferAfter}
 use Rattle.protocol.specs.Table.{noticeNumber, Step}
-use Rattle.call_spec.specs.Answers.{blockIn, blockOf, blockPart}
+use Rattle.call_spec.specs.Answers.{blockIn, blockOf, blockPart, blockBufferAfter}
 use Rattle.endpoint.specs.declared.Endpoint.{Endpoint}
 use Rattle.endpoint_step.specs.declared.StepAnswer.{StepAnswer}
 use Rattle.endpoint.specs.View.{pack, view}
@@ -28,9 +28,9 @@ stepAnswerOf e (ok x) =
       block = length (blockIn (x .notice));
     }
 
--- What a call of e with this outcome answers, and what it leaves of the buffer out. The block handed up stands in the octets s that
--- the call was given.
-pub record Advances (e : Endpoint) (o : Outcome Step) (s out out′ : List ℕ) (r : StepAnswer) : Type 0 where
-  pub answer : r ≡ stepAnswerOf e o
-  pub octets : out′ ≡ bufferAfter out o
-  pub block : blockPart s (r .block) ≡ blockOf o
+-- What a call of e answers, and what it leaves of the buffers out and up; where the block handed up stands.
+pub record Advances (e : Endpoint) (c : Arguments) (out up out′ up′ : List ℕ) (r : StepAnswer) : Type 0 where
+  pub answer : r ≡ stepAnswerOf e (outcomeOf e c)
+  pub octets : out′ ≡ bufferAfter out (outcomeOf e c)
+  pub block-octets : up′ ≡ blockBufferAfter (c .call) up (outcomeOf e c)
+  pub block : blockPart (c .call) (c .octets) up′ (r .block) ≡ blockOf (outcomeOf e c)

@@ -1,44 +1,88 @@
 -- Plans for a record, and what carrying one out leaves. No public call's contract needs this.
-use Prim.Native.Nat.{ℕ, _+_, _*_, _≤_}
+use Prim.Native.Nat.{ℕ, _+_, _*_, _≤_, _<_}
+use mathlib.Core.Path.{_≡_}
 use mathlib.Core.List.{List, [], _∷_, _++_}
-use lib.ListN.{length, drop, replicate}
-use Rattle.octets.specs.Sizes.{longestBlock}
+use lib.ListN.{length, getD, drop, replicate}
+use Rattle.octets.specs.Sizes.{longestBlock, queueSize}
 use Rattle.octets.specs.Octets.{put}
 use Rattle.frame.specs.Frame.{Block}
+use Rattle.frame.specs.Layout.{sendBlockAt, dataBlockAt}
+use Rattle.call_spec.specs.declared.Call.{Call}
+use Rattle.call_spec.specs.declared.Call.the-variants.{Request, Receive}
 use Rattle.call_spec.specs.Calls.{Arguments}
 use Rattle.step_plan.specs.declared.Plan.{Plan}
-use Rattle.step_plan.specs.declared.Queue.{Queue}
-use Rattle.step_plan.specs.declared.Queue.the-variants.{Keep, Join, Release}
+use Rattle.step_plan.specs.declared.Places.{Places}
+use Rattle.step_plan.specs.declared.Places.the-variants.{Keep, Join, Release}
 use Rattle.step_plan.specs.Internal.{joinedBy, Comes}
 use Rattle.endpoint.specs.declared.Endpoint.{Endpoint}
 use Rattle.endpoint.specs.View.{placeBlock, view}
 use Rattle.endpoint.specs.Internal.{recordOf, numbersOf}
 use Rattle.endpoint_step.specs.Calls.{outcomeOf}
 
+-- the blocks that join those that wait and those held, where a call is given the octets s
+abbrev pub joinsQueue : Plan → List ℕ → Block
+joinsQueue p s = joinedBy (p .queue) sendBlockAt s
+
+abbrev pub joinsHeld : Plan → List ℕ → Block
+joinsHeld p s = joinedBy (p .held) dataBlockAt s
+
 -- p is the plan of a call of the record e
 abbrev pub Plans : Endpoint → Arguments → Plan → Type 0
-Plans e c p = Comes (numbersOf e) (view e .queue) (joinedBy (p .queue) (c .octets)) (placeBlock (e .lengths) (e .blocks) 0) (outcomeOf e c) p
+Plans e c p =
+    Comes (numbersOf e) (view e .queue) (view e .held) (joinsQueue p (c .octets)) (joinsHeld p (c .octets)) (placeBlock (e .lengths) (e .blocks) 0)
+    (outcomeOf e c) p
 
--- Places of so many octets after a plan, where w of them are in use: s joins in the next; where some leave, the others move to the front
--- and zeros follow.
-unfoldable pub placesAfter : Queue → ℕ → ℕ → List ℕ → List ℕ → List ℕ
-placesAfter Keep width w s d = d
-placesAfter Join width w s d = put d (w * width) s
-placesAfter (Release k) width w s d = drop (k * width) d ++ replicate (k * width) 0
+-- Places of so many octets after a plan: s joins at its place; where some leave, the others move to the front and zeros follow.
+unfoldable pub placesAfter : Places → ℕ → List ℕ → List ℕ → List ℕ
+placesAfter Keep width s d = d
+placesAfter (Join i) width s d = put d (i * width) s
+placesAfter (Release k) width s d = drop (k * width) d ++ replicate (k * width) 0
 
 -- they have room for it
-abbrev pub PlaceFor : Queue → ℕ → ℕ → List ℕ → List ℕ → Type 0
-PlaceFor Keep width w s d = Unit {0}
-PlaceFor Join width w s d = w * width + length s ≤ length d
-PlaceFor (Release k) width w s d = k * width ≤ length d
+abbrev pub PlaceFor : Places → ℕ → List ℕ → List ℕ → Type 0
+PlaceFor Keep width s d = Unit {0}
+PlaceFor (Join i) width s d = i * width + length s ≤ length d
+PlaceFor (Release k) width s d = k * width ≤ length d
 
--- the lengths and the blocks after a plan, where b is the block that joins
-abbrev pub lengthsAfter : Queue → ℕ → Block → List ℕ → List ℕ
-lengthsAfter k w b = placesAfter k 1 w (length b ∷ [])
+-- there are eight of them
+abbrev pub InEight : Places → Type 0
+InEight Keep = Unit {0}
+InEight (Join i) = i < queueSize
+InEight (Release k) = k ≤ queueSize
 
-abbrev pub blocksAfter : Queue → ℕ → Block → List ℕ → List ℕ
-blocksAfter k w b = placesAfter k longestBlock w b
+-- both kinds of places have room for what joins them
+abbrev pub Fits : Plan → Block → Block → Type 0
+Fits p b x = (InEight (p .queue) × (length b ≤ longestBlock)) × (InEight (p .held) × (length x ≤ longestBlock))
 
--- the record after a plan
-unfoldable pub carried : Plan → Block → Endpoint → Endpoint
-carried p b e = recordOf (p .numbers) (lengthsAfter (p .queue) (e .waiting) b (e .lengths)) (blocksAfter (p .queue) (e .waiting) b (e .blocks))
+-- the lengths and the blocks after a plan, where b joins
+abbrev pub lengthsAfter : Places → Block → List ℕ → List ℕ
+lengthsAfter k b = placesAfter k 1 (length b ∷ [])
+
+abbrev pub blocksAfter : Places → Block → List ℕ → List ℕ
+blocksAfter k b = placesAfter k longestBlock b
+
+-- the record after a plan, where b joins the blocks that wait and x those held
+unfoldable pub carried : Plan → Block → Block → Endpoint → Endpoint
+carried p b x e =
+    recordOf (p .numbers) (lengthsAfter (p .queue) b (e .lengths)) (blocksAfter (p .queue) b (e .blocks))
+    (lengthsAfter (p .held) x (e .«held_lengths»)) (blocksAfter (p .held) x (e .«held_blocks»))
+
+-- where a block that is handed up comes from: the first of the held places, or the frame s
+unfoldable pub blockFrom : Call → List ℕ → List ℕ → List ℕ → Block
+blockFrom Request lengths blocks s = placeBlock lengths blocks 0
+blockFrom Receive lengths blocks s = drop dataBlockAt s
+
+-- it can be handed up
+abbrev pub Handy : Call → List ℕ → List ℕ → ℕ → Type 0
+Handy Request lengths s room = (getD lengths 0 0 ≤ longestBlock) × (longestBlock ≤ room)
+Handy Receive lengths s room = dataBlockAt ≤ length s
+
+-- what is left in the buffer for a block where b is handed up
+unfoldable pub handedTo : Call → Block → List ℕ → List ℕ
+handedTo Request b up = put up 0 b
+handedTo Receive b up = up
+
+-- and the count of its octets
+pub record HandsUp (c : Call) (b : Block) (up up′ : List ℕ) (n : ℕ) : Type 0 where
+  pub count : n ≡ length b
+  pub octets : up′ ≡ handedTo c b up

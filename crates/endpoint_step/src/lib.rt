@@ -3,44 +3,61 @@
 use call_spec::Call;
 use endpoint::Endpoint;
 use octets::refusal;
+use step_plan::Places;
 use step_plan::Plan;
-use step_plan::Queue;
 use step_rules::Numbers;
 ghost use mathlib.Core.Path.{_≡_};
 ghost use mathlib.Core.List.{_++_};
 ghost use Prim.Native.Nat.{_≤_};
 ghost use lib.ListN.{length, getD, take, drop, replicate};
-ghost use Rattle.octets.specs.Sizes.{longestFrame, longestBlock, queueSize};
+ghost use Rattle.octets.specs.Sizes.{longestFrame, longestBlock, queueSize, heldSize};
 ghost use Rattle.octets.specs.Octets.{put};
-ghost use Rattle.call_spec.specs.Calls.{given};
-ghost use Rattle.step_plan.specs.Internal.{Room, blockOut, sentBy, Sends};
+ghost use Rattle.call_spec.specs.declared.Call.the-variants.{Request};
+ghost use Rattle.call_spec.specs.Calls.{given, rooms, blockRoomOk};
+ghost use Rattle.step_plan.specs.Internal.{blockBy, blockOut, sentBy, Sends};
 ghost use Rattle.endpoint.specs.View.{placesSize, placeBlock};
 ghost use Rattle.endpoint.specs.Internal.{recordOf};
-ghost use Rattle.endpoint_step.specs.Calls.{outcomeOf, Advances};
-ghost use Rattle.endpoint_step.specs.Internal.{Plans, placesAfter, PlaceFor, carried};
+ghost use Rattle.endpoint_step.specs.Calls.{Advances};
+ghost use Rattle.endpoint_step.specs.Internal.{Plans, placesAfter, PlaceFor, blockFrom, Handy, HandsUp, Fits, carried};
 
-// The plan of a call of the record of these numbers, lengths and blocks: s has the octets of a request or of a frame, room is the
-// length of the buffer for a frame out. 11 and 12 come first.
+// Question 11 of the buffer for a block, which is lent to the calls that make requests.
+pub fn block_room_ok(call: Call, room: usize) -> bool
+    ensures { λ r. ⌜ r ≡ blockRoomOk call room ⌝ }
+{
+    match call {
+        Call::Request => Endpoint::LONGEST_BLOCK <= room,
+        Call::Receive => true,
+    }
+}
+
+// The plan of a call of the record of these numbers, lengths and blocks: s has the octets of a request or of a frame, room and block_room
+// are the lengths of the buffers for a frame out and for a block. 11 and 12 come first.
 pub fn plan_call<'a>(
     call: Call,
     n: Numbers,
     lengths: &'a [u8],
     blocks: &'a [u8],
+    held_lengths: &'a [u8],
+    held_blocks: &'a [u8],
     s: &[u8],
     room: usize,
+    block_room: usize,
 ) -> Plan
-    requires { ⌜ (length (now blocks) ≡ placesSize) × (length (now lengths) ≡ queueSize) ⌝ }
-    ensures { λ r. ⌜ Plans (recordOf n (now (lengths .entry)) (now (blocks .entry))) (given call (now (s .entry)) room) r ⌝ }
+    requires { ⌜ ((length (now blocks) ≡ placesSize) × (length (now lengths) ≡ queueSize)) × ((length (now «held_blocks») ≡ placesSize) × (length (now «held_lengths») ≡ heldSize)) ⌝ }
+    ensures { λ r. ⌜ Plans (recordOf n (now (lengths .entry)) (now (blocks .entry)) (now («held_lengths» .entry)) (now («held_blocks» .entry))) (given call (now (s .entry)) (rooms room «block_room»)) r ⌝ }
 {
     if room < Endpoint::LONGEST_FRAME {
         return step_plan::refuse(n, refusal::SHORT_BUFFER);
     }
-    if !endpoint::is_sound(n, lengths, blocks) {
+    if !block_room_ok(call, block_room) {
+        return step_plan::refuse(n, refusal::SHORT_BUFFER);
+    }
+    if !endpoint::is_sound(n, lengths, blocks, held_lengths, held_blocks) {
         return step_plan::refuse(n, refusal::UNSOUND);
     }
     match call {
-        Call::Request => step_request::request(n, s),
-        Call::Receive => step_receive::receive(n, s),
+        Call::Request => step_request::request(n, held_lengths, s),
+        Call::Receive => step_receive::receive(n, held_lengths, s),
     }
 }
 
@@ -81,30 +98,69 @@ fn drop_front(gone: usize, d: &mut [u8])
     refill(d, &kept);
 }
 
-// What a plan makes of places of so many octets, the waiting blocks' or their lengths': s joins in the next one.
-pub fn change_places(queue: Queue, width: usize, waiting: usize, s: &[u8], d: &mut [u8])
-    requires { ⌜ (length (now d) ≤ placesSize) × PlaceFor queue width waiting (now s) (now d) ⌝ }
-    ensures { λ _. ⌜ now (d .exit) ≡ placesAfter queue width waiting (now (s .entry)) (now (d .entry)) ⌝ }
+// What a plan makes of places of so many octets, of blocks or of their lengths; s joins.
+pub fn change_places(places: Places, width: usize, s: &[u8], d: &mut [u8])
+    requires { ⌜ (length (now d) ≤ placesSize) × PlaceFor places width (now s) (now d) ⌝ }
+    ensures { λ _. ⌜ now (d .exit) ≡ placesAfter places width (now (s .entry)) (now (d .entry)) ⌝ }
 {
-    match queue {
-        Queue::Keep => {}
-        Queue::Join => octets::copy(d, waiting * width, s),
-        Queue::Release(gone) => drop_front(gone * width, d),
+    match places {
+        Places::Keep => {}
+        Places::Join(i) => octets::copy(d, i * width, s),
+        Places::Release(gone) => drop_front(gone * width, d),
     }
 }
 
-// The record after the plan.
-fn carry_out(e: Endpoint, p: Plan, joined: &[u8]) -> Endpoint
-    requires { ⌜ (e .waiting ≤ queueSize) × ((length (now joined) ≤ longestBlock) × Room (p .queue) (now joined) (e .waiting)) ⌝ }
-    ensures { λ r. ⌜ r ≡ carried p (now (joined .entry)) e ⌝ }
+// Copies the block that a request hands up to the start of up, and answers its length: the first of the held ones, with notice 5.
+fn collect<'a>(notice: u8, lengths: &'a [u8], blocks: &'a [u8], up: &mut [u8]) -> usize
+    requires { ⌜ ((length (now blocks) ≡ placesSize) × (length (now lengths) ≡ heldSize)) × (notice ≡ 5 → (getD (now lengths) 0 0 ≤ longestBlock) × (longestBlock ≤ length (now up))) ⌝ }
+    ensures { λ r. ⌜ HandsUp Request (blockBy notice (placeBlock (now (lengths .entry)) (now (blocks .entry)) 0)) (now (up .entry)) (now (up .exit)) r ⌝ }
 {
-    let waiting = octets::wide(e.waiting);
+    if notice != step_plan::HANDED_UP {
+        return 0;
+    }
+    let count = octets::wide(lengths[0]);
+    octets::copy(up, 0, &blocks[0..count]);
+    count
+}
+
+// Hands up the block that a notice tells of, and answers its length: a request's is copied to up, one received stays where it is, in s.
+pub fn hand_up<'a>(
+    call: Call,
+    notice: u8,
+    lengths: &'a [u8],
+    blocks: &'a [u8],
+    s: &[u8],
+    up: &mut [u8],
+) -> usize
+    requires { ⌜ ((length (now blocks) ≡ placesSize) × (length (now lengths) ≡ heldSize)) × (notice ≡ 5 → Handy call (now lengths) (now s) (length (now up))) ⌝ }
+    ensures { λ r. ⌜ HandsUp call (blockBy notice (blockFrom call (now (lengths .entry)) (now (blocks .entry)) (now (s .entry)))) (now (up .entry)) (now (up .exit)) r ⌝ }
+{
+    match call {
+        Call::Request => collect(notice, lengths, blocks, up),
+        Call::Receive => {
+            let block = step_plan::handed_up(notice, s);
+            block.len()
+        }
+    }
+}
+
+// The record after the plan: joined is the block that joins those that wait, early the one that joins those held.
+fn carry_out<'a>(e: Endpoint, p: Plan, joined: &'a [u8], early: &'a [u8]) -> Endpoint
+    requires { ⌜ Fits p (now joined) (now early) ⌝ }
+    ensures { λ r. ⌜ r ≡ carried p (now (joined .entry)) (now (early .entry)) e ⌝ }
+{
     let queue = p.queue;
     let count = [joined.len() as u8];
     let mut lengths = e.lengths;
-    change_places(queue, 1, waiting, &count, &mut lengths);
+    change_places(queue, 1, &count, &mut lengths);
     let mut blocks = e.blocks;
-    change_places(queue, Endpoint::LONGEST_BLOCK, waiting, joined, &mut blocks);
+    change_places(queue, Endpoint::LONGEST_BLOCK, joined, &mut blocks);
+    let held = p.held;
+    let early_count = [early.len() as u8];
+    let mut held_lengths = e.held_lengths;
+    change_places(held, 1, &early_count, &mut held_lengths);
+    let mut held_blocks = e.held_blocks;
+    change_places(held, Endpoint::LONGEST_BLOCK, early, &mut held_blocks);
     let n = p.numbers;
     Endpoint {
         state: n.state,
@@ -115,12 +171,14 @@ fn carry_out(e: Endpoint, p: Plan, joined: &[u8]) -> Endpoint
         waiting: n.waiting,
         lengths,
         blocks,
+        held_lengths,
+        held_blocks,
     }
 }
 
 // What a call by value answers. number is document 01's number of the refusal, 0 for success; sent the length of the frame sent, which
-// stands at the start of the caller's buffer (0: none); block the length of the block handed up, which stands in the caller's own
-// received frame, from octet 14 on (0: none).
+// stands at the start of the caller's buffer (0: none); block the length of the block handed up (0: none), which stands in the caller's
+// own received frame, from octet 14 on, or, of a request, at the start of the buffer lent for it.
 pub struct StepAnswer {
     pub number: u8,
     pub endpoint: Endpoint,
@@ -129,12 +187,23 @@ pub struct StepAnswer {
     pub block: usize,
 }
 
-// A request, the timer call among them, or receiving, by value: s has the octets of the request or of the frame, out room for a frame.
-pub fn step(call: Call, e: Endpoint, s: &[u8], out: &mut [u8]) -> StepAnswer
-    ensures { λ r. ⌜ Advances e (outcomeOf e (given call (now (s .entry)) (length (now (out .entry))))) (now (s .entry)) (now (out .entry)) (now (out .exit)) r ⌝ }
+// A request, the timer call among them, or receiving, by value: s has the octets of the request or of the frame, out room for a frame, up
+// room for a block, which receiving does not need.
+pub fn step(call: Call, e: Endpoint, s: &[u8], out: &mut [u8], up: &mut [u8]) -> StepAnswer
+    ensures { λ r. ⌜ Advances e (given call (now (s .entry)) (rooms (length (now (out .entry))) (length (now (up .entry))))) (now (out .entry)) (now (up .entry)) (now (out .exit)) (now (up .exit)) r ⌝ }
 {
     let n = endpoint::numbers_of(e);
-    let p = plan_call(call, n, &e.lengths, &e.blocks, s, out.len());
+    let p = plan_call(
+        call,
+        n,
+        &e.lengths,
+        &e.blocks,
+        &e.held_lengths,
+        &e.held_blocks,
+        s,
+        out.len(),
+        up.len(),
+    );
     if p.number != step_plan::ACCEPTED {
         return StepAnswer {
             number: p.number,
@@ -145,15 +214,17 @@ pub fn step(call: Call, e: Endpoint, s: &[u8], out: &mut [u8]) -> StepAnswer
         };
     }
     let queue = p.queue;
-    let joined = step_plan::joined(queue, s);
+    let joined = step_plan::joined(queue, frame::SEND_BLOCK_AT, s);
     let sent = send(p, joined, &e.lengths, &e.blocks, out);
-    let after = carry_out(e, p, joined);
-    let block = step_plan::handed_up(p.notice, s);
+    let block = hand_up(call, p.notice, &e.held_lengths, &e.held_blocks, s, up);
+    let held = p.held;
+    let early = step_plan::joined(held, frame::DATA_BLOCK_AT, s);
+    let after = carry_out(e, p, joined, early);
     StepAnswer {
         number: step_plan::ACCEPTED,
         endpoint: after,
         notice: p.notice,
         sent,
-        block: block.len(),
+        block,
     }
 }

@@ -2,6 +2,7 @@
 use frame::ACK;
 use frame::ACK_NUMBERS;
 use frame::CLOSE;
+use frame::COLLECT;
 use frame::CONNECT;
 use frame::CONTROL_NUMBERS;
 use frame::CRAO;
@@ -48,7 +49,7 @@ pub fn class_of(s: &[u8]) -> Class
     let kind = s[0];
     match kind {
         CRAO..=ACK => Class::Frame,
-        CONNECT..=TIMER => Class::Request,
+        CONNECT..=COLLECT => Class::Request,
         _ => Class::Unknown,
     }
 }
@@ -166,7 +167,8 @@ fn request_of(kind: u8) -> RequestKind
         END_LISTENING => RequestKind::EndListening,
         CLOSE => RequestKind::Close,
         SEND => RequestKind::Send,
-        _ => RequestKind::Timer,
+        TIMER => RequestKind::Timer,
+        _ => RequestKind::Collect,
     }
 }
 

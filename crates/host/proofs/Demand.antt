@@ -37,7 +37,7 @@ alike e rest s b c =
     ∙ ap (λ z. asked (sound (pack e)) z c) (lawful .keeps e rest s b ∙ sym (held e s)))
 
 -- what `advance` leaves of the struct that it is lent is what a call of a list leaves
-pub lent : (x : End Endpoint) (c : Arguments) {s out out′ : List ℕ} {r : StepAnswer} {e : Endpoint} → Advances (x .rec) (outcomeOf (x .rec) c) s out out′ r
+pub lent : (x : End Endpoint) (c : Arguments) {out up out′ up′ : List ℕ} {r : StepAnswer} {e : Endpoint} → Advances (x .rec) c out up out′ up′ r
     → e ≡ r .endpoint → e ≡ called ends c x .rec
 unfolding called
 lent x c a k = k ∙ ap (λ (r : StepAnswer). r .endpoint) (a .answer)
@@ -48,7 +48,7 @@ packs =
     record {
       starts = λ r f. f;
       fair = λ a b i r k. fair a b i;
-      comes = λ a b i r k c. (first (ownQuestions (sound r) (c .room)), rw (k, held (now a) (limited i .is-sound)) refl);
+      comes = λ a b i r k c. (first (ownQuestions (sound r) c), rw (k, held (now a) (limited i .is-sound)) refl);
       refuses = λ r e k c n. k;
       accepts = λ a b g i j r k c x e. ap pack (sym e);
     }

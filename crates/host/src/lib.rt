@@ -4,24 +4,24 @@ use endpoint::Endpoint;
 use endpoint_step::StepAnswer;
 ghost use mathlib.Core.Path.{_≡_};
 ghost use lib.ListN.{length};
-ghost use Rattle.call_spec.specs.Calls.{given};
-ghost use Rattle.endpoint_step.specs.Calls.{outcomeOf, Advances};
+ghost use Rattle.call_spec.specs.Calls.{given, rooms};
+ghost use Rattle.endpoint_step.specs.Calls.{Advances};
 
 // The step by value on a record that is lent. A refusal's answer has the record as it was.
-pub fn advance(call: Call, e: &mut Endpoint, s: &[u8], out: &mut [u8]) -> StepAnswer
-    ensures { λ r. ⌜ Advances (now (e .entry)) (outcomeOf (now (e .entry)) (given call (now (s .entry)) (length (now (out .entry))))) (now (s .entry)) (now (out .entry)) (now (out .exit)) r × (now (e .exit) ≡ r .endpoint) ⌝ }
+pub fn advance(call: Call, e: &mut Endpoint, s: &[u8], out: &mut [u8], up: &mut [u8]) -> StepAnswer
+    ensures { λ r. ⌜ Advances (now (e .entry)) (given call (now (s .entry)) (rooms (length (now (out .entry))) (length (now (up .entry))))) (now (out .entry)) (now (up .entry)) (now (out .exit)) (now (up .exit)) r × (now (e .exit) ≡ r .endpoint) ⌝ }
 {
-    let r = endpoint_step::step(call, *e, s, out);
+    let r = endpoint_step::step(call, *e, s, out, up);
     *e = r.endpoint;
     r
 }
 
 // The same for callers that hold the record by value, who need no walk: it is lent from here, and answered as the call left it.
-pub fn lend(call: Call, e: Endpoint, s: &[u8], out: &mut [u8]) -> StepAnswer
-    ensures { λ r. ⌜ Advances e (outcomeOf e (given call (now (s .entry)) (length (now (out .entry))))) (now (s .entry)) (now (out .entry)) (now (out .exit)) r ⌝ }
+pub fn lend(call: Call, e: Endpoint, s: &[u8], out: &mut [u8], up: &mut [u8]) -> StepAnswer
+    ensures { λ r. ⌜ Advances e (given call (now (s .entry)) (rooms (length (now (out .entry))) (length (now (up .entry))))) (now (out .entry)) (now (up .entry)) (now (out .exit)) (now (up .exit)) r ⌝ }
 {
     let mut held = e;
-    let mut r = advance(call, &mut held, s, out);
+    let mut r = advance(call, &mut held, s, out, up);
     r.endpoint = held;
     r
 }

@@ -3,11 +3,12 @@ use Prim.Native.Nat.{ℕ}
 use mathlib.Core.Path.{_≡_, refl, ap}
 use mathlib.Core.List.{List, []}
 use lib.ListN.{take, replicate}
-use Rattle.octets.specs.Sizes.{longestFrame}
+use Rattle.octets.specs.Sizes.{longestFrame, longestBlock}
 use Rattle.octets.specs.Test.{Outcome, refused, mapped}
 use Rattle.octets.specs.Octets.{left}
 use Rattle.frame.specs.Frame.{Block}
 use Rattle.protocol.specs.Table.{Step}
+use Rattle.call_spec.specs.declared.Call.{Call}
 use Rattle.call_spec.specs.Calls.{wire, recordAfter}
 use Rattle.call_spec.specs.Answers.{sentIn, blockOf}
 use Rattle.link.specs.declared.Answer.{Answer}
@@ -17,12 +18,15 @@ use Rattle.answer_text.specs.Text.{textOf, Begins}
 use Rattle.line_answer.specs.Text.{text}
 use Rattle.line_answer.specs.Internal.{Gives}
 
--- the buffer for a frame out
+-- the buffers for a frame out and for a block
 abbrev pub room : List ℕ
 room = replicate longestFrame 0
 
-pub gives : (o : Outcome Step) (rec s out : List ℕ) {rec′ frame out′ : List ℕ} {a : Answer} {r : ℕ} {b : Block}
-    → Called o rec s room rec′ frame a → b ≡ blockOf o → Begins (textOf (a .status) b (take (a .sent) frame)) out out′ r → Gives o rec out rec′ out′ r
+abbrev pub blockRoom : List ℕ
+blockRoom = replicate longestBlock 0
+
+pub gives : {c : Call} (o : Outcome Step) (rec s out : List ℕ) {rec′ frame up out′ : List ℕ} {a : Answer} {r : ℕ} {b : Block}
+    → Called c o rec s room blockRoom rec′ frame up a → b ≡ blockOf o → Begins (textOf (a .status) b (take (a .sent) frame)) out out′ r → Gives o rec out rec′ out′ r
 unfolding text answerOf
 gives o rec s out l h w =
     let e = l .answer in

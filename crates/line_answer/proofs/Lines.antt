@@ -7,35 +7,43 @@ use mathlib.Core.List.{List, [], _∷_}
 use borrow.Author.Tests.{le-leb, lt-leb}
 use lib.Dec.{leb}
 use lib.ListN.{length}
-use Rattle.octets.specs.Sizes.{longestFrame}
+use Rattle.octets.specs.Sizes.{longestFrame, longestBlock}
 use Rattle.octets.specs.Test.{when, first, Outcome, refused, ok, outcome, refusing, mapped, numberOf}
 use Rattle.octets.specs.Octets.{left}
 use Rattle.hex.specs.Line.{unhex, lineQuestions, readInto, lineOf}
 use Rattle.hex.specs.declared.Line.the-variants.{Refused}
 use Rattle.hex.proofs.Asked.{turned-away}
 use Rattle.protocol.specs.Table.{Step}
-use Rattle.call_spec.specs.Calls.{asked, performed}
+use Rattle.call_spec.specs.declared.Call.{Call}
+use Rattle.call_spec.specs.declared.Call.the-variants.{Request, Receive}
+use Rattle.call_spec.specs.Calls.{blockRoomOk, asked, performed}
 use Rattle.link.specs.Record.{format, recordQuestions}
 use Rattle.answer_text.specs.declared.Output.{Output}
 use Rattle.answer_text.specs.declared.Output.the-variants as output
 use Rattle.answer_text.specs.Text.{outputOf, answerRoom}
 use Rattle.answer_text.proofs.Outputs.{output-fits}
-use Rattle.line_answer.specs.Line.{lineCall, lineOutcome}
+use Rattle.line_answer.specs.Line.{callIn, lineCall, lineOutcome}
 use Rattle.line_answer.specs.Text.{text, inRoom, recordLeft, LineAnswered}
 use Rattle.line_answer.specs.Internal.{refusedLine, Gives}
 
 -- 11 and 12 of the record come before 1 and 2 of the line, and the call asks them too
-in-order : (a b : Bool) (qs : List (ℕ × Bool)) (o : Outcome Step) → first qs ≡ 0
-    → refusing (first ((11, a) ∷ (12, b) ∷ qs)) (refusing (first ((11, a) ∷ [])) (refusing (first ((11, true) ∷ (12, b) ∷ [])) o))
-    ≡ refusing (first ((11, a) ∷ [])) (refusing (first ((11, true) ∷ (12, b) ∷ [])) o)
+in-order : (a b c : Bool) (qs : List (ℕ × Bool)) (o : Outcome Step) → c ≡ true → first qs ≡ 0
+    → refusing (first ((11, a) ∷ (12, b) ∷ qs)) (refusing (first ((11, a) ∷ [])) (refusing (first ((11, true) ∷ (11, c) ∷ (12, b) ∷ [])) o))
+    ≡ refusing (first ((11, a) ∷ [])) (refusing (first ((11, true) ∷ (11, c) ∷ (12, b) ∷ [])) o)
 unfolding refusing first when
-in-order false b qs o h = refl
-in-order true false qs o h = refl
-in-order true true qs o h = rw h refl
+in-order false b c qs o k h = refl
+in-order true false c qs o k h = rw k refl
+in-order true true c qs o k h = rw (h, k) refl
+
+-- a line's call has room for a block
+enough : (c : Call) → blockRoomOk c longestBlock ≡ true
+unfolding blockRoomOk
+enough Request = refl
+enough Receive = refl
 
 pub line-asks : (rec line : List ℕ) → first (lineQuestions line) ≡ 0 → lineOutcome rec line ≡ performed format rec (lineCall (unhex line))
 unfolding lineOutcome performed asked
-line-asks rec line h = in-order (leb (format .size) (length rec)) (format .sound rec) (lineQuestions line) _ h
+line-asks rec line h = in-order (leb (format .size) (length rec)) (format .sound rec) _ (lineQuestions line) _ (enough (callIn (unhex line))) h
 
 in-turn : (a b : Bool) (m : ℕ) (qs : List (ℕ × Bool)) (o : Outcome Step) → first qs ≡ suc m
     → refusing (first ((11, a) ∷ (12, b) ∷ qs)) o ≡ refusing (first ((11, a) ∷ (12, b) ∷ [])) (refused (suc m))

@@ -34,11 +34,12 @@ fn ask(rec: &mut [u8], s: &[u8], out: &mut [u8]) -> usize
     ensures { λ r. ⌜ Gives (performed format (now (rec .entry)) (lineCall (now (s .entry)))) (now (rec .entry)) (now (out .entry)) (now (rec .exit)) (now (out .exit)) r ⌝ }
 {
     let mut frame = [0u8; octets::LONGEST_FRAME];
+    let mut up = [0u8; octets::LONGEST_BLOCK];
     let call = call_in(s);
-    let a = link::perform(call, rec, s, &mut frame);
+    let a = link::perform(call, rec, s, &mut frame, &mut up);
     let told = a.status;
     let sent = a.sent;
-    let block = step_plan::handed_up(told.notice, s);
+    let block = step_plan::block_part(call, s, &up, a.block);
     answer_text::write_text(told, block, &frame[..sent], out)
 }
 

@@ -1,14 +1,14 @@
 -- What a call on a lent record answers, from its plan.
 use Prim.Native.Nat.{ℕ, _≤_, _<_}
-use mathlib.Core.Path.{_≡_, refl, sym, ap, _∙_}
+use mathlib.Core.Path.{_≡_, refl, sym, ap, ap₂, _∙_}
 use mathlib.Core.Logic.{_≢_}
 use mathlib.Core.List.{List, []}
 use native.Mathlib.Omega.{arith}
 use borrow.Author.Tests.{le-leb, lt-leb}
-use lib.ListN.{length, take, drop, length-drop, take-append-drop}
+use lib.ListN.{length, getD, take, drop, length-drop, take-append-drop}
 use lib.Seq.{length-take-le}
 use Rattle.frame.specs.Layout.{dataBlockAt}
-use Rattle.octets.specs.Sizes.{longestFrame, longestBlock, queueSize}
+use Rattle.octets.specs.Sizes.{longestFrame, longestBlock, queueSize, heldSize}
 use Rattle.octets.specs.Test.{when, first, Outcome, refused, ok, refusing, mapped, numberOf}
 use Rattle.octets.specs.Octets.{put, left, Octets}
 use Rattle.octets.proofs.Test.{by-eq}
@@ -17,20 +17,25 @@ use Rattle.octets.proofs.Outcomes.{after-question, is-refused}
 use Rattle.frame.specs.Frame.{Block}
 use Rattle.protocol.specs.Endpoint as abstract
 use Rattle.protocol.specs.Table.{Step}
-use Rattle.call_spec.specs.declared.Call.the-variants.{Request}
-use Rattle.call_spec.specs.Calls.{Arguments, given, wire, asked, performed, recordAfter, bufferAfter}
+use Rattle.call_spec.specs.declared.Call.{Call}
+use Rattle.call_spec.specs.declared.Call.the-variants.{Request, Receive}
+use Rattle.call_spec.specs.Calls.{Arguments, Rooms, rooms, given, wire, performed, recordAfter, bufferAfter}
 use Rattle.step_plan.specs.declared.Plan.{Plan}
-use Rattle.call_spec.specs.Answers.{noticeOf, sentIn, blockOf, blockPart, endpointAfter}
-use Rattle.step_plan.specs.Internal.{blockBy, joinedBy, blockOut, sentBy, Sends}
-use Rattle.step_plan.proofs.Up.{Right, right, refusing-silent, request-silent}
+use Rattle.call_spec.specs.Answers.{noticeOf, sentIn, blockOf, blockPart, blockBufferAfter, endpointAfter}
+use Rattle.step_plan.specs.Internal.{blockBy, blockOut, sentBy, Sends}
+use Rattle.step_plan.proofs.Up.{Right, There, source, right, none-right}
 use Rattle.step_plan.proofs.Up as up
 use Rattle.endpoint.specs.declared.Endpoint.{Endpoint}
 use Rattle.endpoint.specs.View.{placesSize, placeBlock, pack, view}
-use Rattle.endpoint.specs.Record.{recordSize, encode, decode, lengthsAt, blocksAt}
+use Rattle.endpoint.specs.Record.{recordSize, encode, decode, lengthsAt, blocksAt, heldLengthsAt, heldBlocksAt}
+use Rattle.endpoint.specs.Sound.{sound}
+use Rattle.endpoint.proofs.Packs.{Long}
+use Rattle.endpoint.proofs.Sounds.{by-lt, facts}
 use Rattle.endpoint.proofs.Record.{encode-decode}
 use Rattle.endpoint_step.specs.Calls.{outcomeOf, stepAnswerOf}
-use Rattle.endpoint_step.specs.Internal.{Plans, carried}
-use Rattle.endpoint_step.proofs.Carries.{leaves, hands-up, sends, sends-is}
+use Rattle.endpoint_step.specs.Internal.{joinsQueue, joinsHeld, Plans, carried, blockFrom, HandsUp}
+use Rattle.endpoint_step.proofs.Ready.{passes}
+use Rattle.endpoint_step.proofs.Carries.{leaves, hands-up, stands, hands-is, sends, sends-is}
 use Rattle.link.specs.declared.Answer.{Answer}
 use Rattle.link.specs.Record.{format}
 use Rattle.link.specs.Lent.{toldOf, statusOf, sentOf, answerOf, Called}
@@ -65,16 +70,29 @@ rewritten rec long o =
     rw (encode-decode rec o long, l) (take-append-drop recordSize rec)
 
 -- a refusal leaves all, and tells how the record stands
-pub turned-down : {o : Outcome Step} {n : ℕ} → o ≡ refused n → (rec s out : List ℕ) {r : Answer} → r ≡ answerOf rec (refused n) → Called o rec s out rec out r
-unfolding answerOf blockOf blockPart recordAfter bufferAfter mapped left
-turned-down e rec s out h = rw (e, h) (record { answer = refl; end = refl; buffer = refl; block = refl })
+pub turned-down : {o : Outcome Step} {n : ℕ} → o ≡ refused n → (c : Call) (rec s out up : List ℕ) {r : Answer} → r ≡ answerOf rec (refused n) → Called c o rec s out up rec out up r
+unfolding answerOf blockOf blockPart recordAfter bufferAfter blockBufferAfter mapped left
+turned-down e Request rec s out up h = rw (e, h) (record { answer = refl; end = refl; buffer = refl; block-buffer = refl; block = refl })
+turned-down e Receive rec s out up h = rw (e, h) (record { answer = refl; end = refl; buffer = refl; block-buffer = refl; block = refl })
 
 -- an answer with the same block's length
-pub with-block : {o : Outcome Step} {rec s out rec′ out′ : List ℕ} (a : Answer) → Called o rec s out rec′ out′ a → (b : ℕ) → b ≡ a .block
-    → Called o rec s out rec′ out′ (record { status = a .status; sent = a .sent; block = b })
-with-block {s = s} a c b e =
+pub with-block : {k : Call} {o : Outcome Step} {rec s out up rec′ out′ up′ : List ℕ} (a : Answer) → Called k o rec s out up rec′ out′ up′ a → (b : ℕ) → b ≡ a .block
+    → Called k o rec s out up rec′ out′ up′ (record { status = a .status; sent = a .sent; block = b })
+with-block {k} {s = s} {up′ = up′} a c b e =
     let h : record { status = a .status; sent = a .sent; block = b } ≡ a = λ i. record { status = a .status; sent = a .sent; block = e i } in
-    record { answer = h ∙ c .answer; end = c .end; buffer = c .buffer; block = ap (blockPart s) e ∙ c .block }
+    record { answer = h ∙ c .answer; end = c .end; buffer = c .buffer; block-buffer = c .block-buffer; block = ap (λ (n : ℕ). blockPart k s up′ n) e ∙ c .block }
+
+-- the block handed up is as long as the answer tells
+pub part-long : {k : Call} {o : Outcome Step} {rec s out up rec′ out′ up′ : List ℕ} {a : Answer} → Called k o rec s out up rec′ out′ up′ a
+    → length (blockPart k s up′ (a .block)) ≡ a .block
+unfolding answerOf
+part-long {a = a} c = ap length (c .block) ∙ sym (ap (λ (x : Answer). x .block) (c .answer))
+
+-- receiving leaves the buffer for a block
+pub received-same : {o : Outcome Step} {rec s out up rec′ out′ up′ : List ℕ} {a : Answer} → Called Receive o rec s out up rec′ out′ up′ a
+    → Called Receive o rec s out up rec′ out′ up a
+unfolding blockPart blockBufferAfter
+received-same c = record { answer = c .answer; end = c .end; buffer = c .buffer; block-buffer = refl; block = c .block }
 
 -- what a refusal tells: of a buffer that is too short for a record nothing, else its numbers
 pub tells-short : (rec : List ℕ) (n : ℕ) → length rec < recordSize
@@ -107,72 +125,110 @@ module _ (rec : List ℕ) (long : recordSize ≤ length rec) where
   stored oc (refused n) = rewritten rec long oc
   stored oc (ok x) = refl
 
-  pub lengths-long : length (decode rec .lengths) ≡ queueSize
+  pub decode-long : Long (decode rec)
   unfolding decode
-  lengths-long = length-take-le queueSize (drop lengthsAt rec) (rw length-drop (omega arith))
-
-  pub blocks-long : length (decode rec .blocks) ≡ placesSize
-  unfolding decode
-  blocks-long = length-take-le placesSize (drop blocksAt rec) (rw length-drop (omega arith))
+  decode-long = record {
+    lengths = length-take-le queueSize (drop lengthsAt rec) (rw length-drop (omega arith));
+    blocks = length-take-le placesSize (drop blocksAt rec) (rw length-drop (omega arith));
+    held-lengths = length-take-le heldSize (drop heldLengthsAt rec) (rw length-drop (omega arith));
+    held-blocks = length-take-le placesSize (drop heldBlocksAt rec) (rw length-drop (omega arith));
+  }
 
   module _ (c : Arguments) {p : Plan} (w : Plans (decode rec) c p) where
     abbrev o : Outcome Step
     o = outcomeOf (decode rec) c
 
     abbrev joins : Block
-    joins = joinedBy (p .queue) (c .octets)
+    joins = joinsQueue p (c .octets)
 
-    pub refuses : p .number ≢ 0 → (out : List ℕ) {r : Answer} → r ≡ answerOf rec (refused (p .number)) → Called (performed format rec c) rec (c .octets) out rec out r
-    refuses z out h = turned-down (enough c ∙ is-refused o (λ y. z (w .number ∙ y)) ∙ ap (λ (n : ℕ). refused n) (sym (w .number))) rec (c .octets) out h
+    abbrev early : Block
+    early = joinsHeld p (c .octets)
+
+    pub refuses : p .number ≢ 0 → (out up : List ℕ) {r : Answer} → r ≡ answerOf rec (refused (p .number))
+        → Called (c .call) (performed format rec c) rec (c .octets) out up rec out up r
+    refuses z out up h = turned-down (enough c ∙ is-refused o (λ y. z (w .number ∙ y)) ∙ ap (λ (n : ℕ). refused n) (sym (w .number))) (c .call) rec (c .octets) out up h
 
     pub accepts : Octets rec → p .number ≡ 0 → {out out′ : List ℕ} {n : ℕ}
         → Sends (sentBy (p .reply) (blockOut (p .queue) joins (placeBlock (decode rec .lengths) (decode rec .blocks) 0))) out out′ n
-        → {rec′ : List ℕ} → rec′ ≡ put rec 0 (encode (carried p joins (decode rec))) → {b : Block} → b ≡ blockBy (p .notice) (c .octets)
-        → Called (performed format rec c) rec (c .octets) out rec′ out′
-        (record { status = record { number = 0; state = p .numbers .state; notice = p .notice; local = p .numbers .local; remote = p .numbers .remote }; sent = n; block = length b })
+        → {u u′ : List ℕ} {m : ℕ} → HandsUp (c .call) (blockBy (p .notice) (blockFrom (c .call) (decode rec .«held_lengths») (decode rec .«held_blocks») (c .octets))) u u′ m
+        → {rec′ : List ℕ} → rec′ ≡ put rec 0 (encode (carried p joins early (decode rec)))
+        → Called (c .call) (performed format rec c) rec (c .octets) out u rec′ out′ u′
+        (record { status = record { number = 0; state = p .numbers .state; notice = p .notice; local = p .numbers .local; remote = p .numbers .remote }; sent = n; block = m })
     unfolding answerOf statusOf view outcomeOf
-    accepts oc z {out} s {rec′} er {b} eb =
+    accepts oc z {out} s {u} h {rec′} er =
         let k = w .endpoint in
-        let t = sends (decode rec) lengths-long blocks-long c w s in
-        let hb : b ≡ blockOf o = eb ∙ hands-up (decode rec) lengths-long blocks-long c w in
+        let t = sends (decode rec) decode-long c w s in
+        let g = rw (hands-up (decode rec) decode-long c w) at h in
         let st : p .numbers .state ≡ toldOf rec o .state = ap (λ (x : abstract.Endpoint). x .state) k ∙ told o .state in
         let lo : p .numbers .local ≡ toldOf rec o .local = ap (λ (x : abstract.Endpoint). x .local) k ∙ told o .local in
         let re : p .numbers .remote ≡ toldOf rec o .remote = ap (λ (x : abstract.Endpoint). x .remote) k ∙ told o .remote in
         let nu : 0 ≡ numberOf o = sym z ∙ w .number in
+        let eu = hands-is (c .call) u o g in
         rw (enough c)
         (record {
-          answer = λ i. record { status = record { number = nu i; state = st i; notice = w .notice i; local = lo i; remote = re i }; sent = (t .count ∙ sent-is o) i; block = length (hb i) };
-          end = er ∙ ap (λ (x : Endpoint). put rec 0 (encode x)) (leaves (decode rec) lengths-long blocks-long c w z) ∙ stored oc o;
+          answer = λ i. record { status = record { number = nu i; state = st i; notice = w .notice i; local = lo i; remote = re i }; sent = (t .count ∙ sent-is o) i; block = g .count i };
+          end = er ∙ ap (λ (x : Endpoint). put rec 0 (encode x)) (leaves (decode rec) decode-long c w z) ∙ stored oc o;
           buffer = sends-is out o t;
-          block = ap (λ (x : Block). blockPart (c .octets) (length x)) hb ∙ up.part (right (format .sound rec) (format .holds rec) c);
+          block-buffer = eu;
+          block = ap₂ (λ (l : List ℕ) (j : ℕ). blockPart (c .call) (c .octets) l j) eu (g .count) ∙ stands (decode rec) decode-long c w u;
         })
 
--- the block that is handed up is told by the notice; a request hands nothing up
-shown : (rec : List ℕ) (c : Arguments) → Right (c .octets) (blockOf (performed format rec c)) (noticeOf (performed format rec c))
+-- The block that is handed up is told by the notice.
+shown : (rec : List ℕ) (c : Arguments)
+    → Right (source (c .call) (c .octets) (format .holds rec)) (blockOf (performed format rec c)) (There (c .call) (c .octets)) (noticeOf (performed format rec c))
 unfolding performed
 shown rec c =
-    after-question (λ (o : Outcome Step). Right (c .octets) (blockOf o) (noticeOf o)) (up.none-right (c .octets)) _ _ (right (format .sound rec) (format .holds rec) c)
+    after-question (λ (o : Outcome Step). Right (source (c .call) (c .octets) (format .holds rec)) (blockOf o) (There (c .call) (c .octets)) (noticeOf o)) (none-right _ _) _ _
+    (right (format .sound rec) (format .holds rec) c)
 
-pub block-five : (rec : List ℕ) (c : Arguments) → noticeOf (performed format rec c) ≡ 5 → drop dataBlockAt (c .octets) ≡ blockOf (performed format rec c)
-block-five rec c h = sym (shown rec c .some h .0)
+module _ (rec s : List ℕ) (r : Rooms) where
+  abbrev received : Outcome Step
+  received = performed format rec (given Receive s r)
 
-pub block-none : (rec : List ℕ) (c : Arguments) → noticeOf (performed format rec c) ≢ 5 → [] ≡ blockOf (performed format rec c)
-block-none rec c h = sym (shown rec c .nothing h)
+  pub long-enough : noticeOf received ≡ 5 → dataBlockAt ≤ length s
+  long-enough h = shown rec (given Receive s r) .some h .1
 
-pub long-enough : (rec : List ℕ) (c : Arguments) → noticeOf (performed format rec c) ≡ 5 → dataBlockAt ≤ length (c .octets)
-long-enough rec c h = shown rec c .some h .1
+  pub hands-it-up : blockBy (noticeOf received) (drop dataBlockAt s) ≡ blockOf received
+  unfolding source
+  hands-it-up = up.told (shown rec (given Receive s r))
 
-pub hands-it-up : (rec : List ℕ) (c : Arguments) → blockBy (noticeOf (performed format rec c)) (c .octets) ≡ blockOf (performed format rec c)
-hands-it-up rec c = up.told (shown rec c)
+-- a call with notice 5 is accepted
+five : (o : Outcome Step) → noticeOf o ≡ 5 → numberOf o ≡ 0
+unfolding noticeOf numberOf
+five (refused n) h = absurd (omega arith)
+five (ok x) h = refl
 
--- a block handed up has at most 64 octets, since its frame has no more than the longest
-pub block-short : (rec : List ℕ) (c : Arguments) → length (c .octets) ≤ longestFrame → length (blockOf (performed format rec c)) ≤ longestBlock
-block-short rec c h =
-    let r = shown rec c in
+-- the first of the held blocks of a record that a call was accepted of has at most 64 octets
+held-fits : (rec : List ℕ) (c : Arguments) → numberOf (performed format rec c) ≡ 0 → 1 ≤ length (getD (format .holds rec .held) 0 [])
+    → length (getD (format .holds rec .held) 0 []) ≤ longestBlock
+unfolding outcomeOf numberOf
+held-fits rec c h n =
+    by-lt (length rec) recordSize (λ s. absurd (omega (arith, sym h ∙ ap numberOf (too-short rec c s))))
+    (λ l.
+    let f = passes (sound (decode rec)) (view (decode rec)) c (sym (ap numberOf (enough rec l c)) ∙ h) .is-fine in
+    facts (decode rec) f (decode-long rec l) .fitting 0 n .0)
+
+-- a block handed up has at most 64 octets: one received since its frame has no more than the longest, one collected since the record is sound
+pub received-short : (rec s : List ℕ) (r : Rooms) → length s ≤ longestFrame → length (blockOf (performed format rec (given Receive s r))) ≤ longestBlock
+unfolding source
+received-short rec s r h =
+    let w = shown rec (given Receive s r) in
+    by-eq (noticeOf (performed format rec (given Receive s r))) 5
+    (λ z. omega (arith, ap length (w .some z .0), length-drop dataBlockAt s))
+    (λ z. omega (arith, ap length (w .nothing z)))
+
+pub collected-short : (rec s : List ℕ) (r : Rooms) → length (blockOf (performed format rec (given Request s r))) ≤ longestBlock
+unfolding source
+collected-short rec s r =
+    let c = given Request s r in
+    let w = shown rec c in
     by-eq (noticeOf (performed format rec c)) 5
-    (λ z. omega (arith, ap length (r .some z .0), length-drop dataBlockAt (c .octets)))
-    (λ z. omega (arith, ap length (r .nothing z)))
+    (λ z. by-eq (length (blockOf (performed format rec c))) 0 (λ y. omega arith) (λ y. let e = w .some z .0 in omega (arith, ap length e, held-fits rec c (five (performed format rec c) z) (omega (arith, ap length e)))))
+    (λ z. omega (arith, ap length (w .nothing z)))
 
-pub none-up : (rec s : List ℕ) (room : ℕ) → blockOf (performed format rec (given Request s room)) ≡ []
-unfolding performed asked
-none-up rec s room = refusing-silent _ _ (refusing-silent _ _ (request-silent s (format .holds rec))) .block
+block-short-by : (rec : List ℕ) (c : Call) (s : List ℕ) (r : Rooms) → length s ≤ longestFrame → length (blockOf (performed format rec (given c s r))) ≤ longestBlock
+block-short-by rec Request s r h = collected-short rec s r
+block-short-by rec Receive s r h = received-short rec s r h
+
+pub block-short : (rec : List ℕ) (c : Arguments) → length (c .octets) ≤ longestFrame → length (blockOf (performed format rec c)) ≤ longestBlock
+block-short rec c h = block-short-by rec (c .call) (c .octets) (rooms (c .room) (c .blockRoom)) h

@@ -1,21 +1,23 @@
 -- A plan that is carried out where the record lies leaves the octets of the record after it.
 use Prim.Native.Nat.{ℕ, _+_, _≤_}
 use mathlib.Core.Path.{_≡_, refl, sym, ap, _∙_}
-use mathlib.Core.List.{List, _++_, append-assoc}
+use mathlib.Core.List.{List, [], _∷_, _++_, append-assoc}
 use native.Mathlib.Omega.{arith}
-use lib.ListN.{length, take, drop, length-append}
+use lib.ListN.{length, take, drop, length-append, length-drop}
 use lib.Seq.{drop-at, drop-drop, length-take-le}
-use Rattle.octets.specs.Sizes.{queueSize}
+use Rattle.octets.specs.Sizes.{longestBlock, queueSize, heldSize}
 use Rattle.endpoint.specs.View.{placesSize}
 use Rattle.octets.specs.Octets.{put}
 use Rattle.octets.proofs.Octets.{length-put}
 use Rattle.frame.specs.Frame.{Block}
 use Rattle.step_plan.specs.declared.Plan.{Plan}
+use Rattle.step_plan.specs.declared.Places.{Places}
 use Rattle.endpoint.specs.declared.Endpoint.{Endpoint}
-use Rattle.endpoint.specs.Record.{encode, decode, lengthsAt, blocksAt, recordSize}
+use Rattle.endpoint.specs.Record.{encode, decode, lengthsAt, blocksAt, heldLengthsAt, heldBlocksAt, recordSize}
 use Rattle.endpoint.specs.Internal.{recordOf, numbersIn}
 use Rattle.endpoint.proofs.Record.{numbers-long, encode-puts}
-use Rattle.endpoint_step.specs.Internal.{lengthsAfter, blocksAfter, carried}
+use Rattle.endpoint_step.specs.Internal.{InEight, Fits, lengthsAfter, blocksAfter, carried}
+use Rattle.endpoint_step.proofs.Places.{length-after, for-lengths, for-blocks}
 
 -- a part that is lent and comes back is a write
 lent : (x s : List ℕ) (at n : ℕ) → length s ≡ n → take at x ++ (s ++ drop n (drop at x)) ≡ put x at s
@@ -30,33 +32,107 @@ after-put x s at m e h =
     let l : length p ≡ m = length-append (take at x) s ∙ rw (length-take-le at x (omega arith)) e in
     rw (e, ← append-assoc (take at x) s (drop m x)) (drop-at p (drop m x) m l)
 
--- the octets x after their lengths are lent and come back as l
-abbrev back : List ℕ → List ℕ → List ℕ
-back x l = take lengthsAt x ++ (l ++ drop queueSize (drop lengthsAt x))
+-- the n octets of x from at on are lent, and come back as s
+abbrev back : List ℕ → ℕ → ℕ → List ℕ → List ℕ
+back x at n s = take at x ++ (s ++ drop n (drop at x))
 
-module _ (rec : List ℕ) (p : Plan) (b : Block) {w : ℕ} (long : recordSize ≤ length rec) (k : w ≡ decode rec .waiting) {x l : List ℕ}
-    (ex : x ≡ put rec 0 (numbersIn (p .numbers)))
-    (el : l ≡ lengthsAfter (p .queue) w b (take queueSize (drop lengthsAt x))) (l8 : length l ≡ queueSize) where
-  same-18 : drop lengthsAt x ≡ drop lengthsAt rec
-  same-18 = ap (drop lengthsAt) ex ∙ after-put rec (numbersIn (p .numbers)) 0 lengthsAt (omega (arith, numbers-long (p .numbers))) (omega arith)
+-- what follows them stays as it is in rec, and so does the length
+module _ (rec x s : List ℕ) (at n m : ℕ) (e : at + n ≡ m) (k : length s ≡ n) (l : length x ≡ length rec) (h : m ≤ length rec) (same : drop at x ≡ drop at rec) where
+  later : drop m (back x at n s) ≡ drop m rec
+  later =
+      ap (drop m) (lent x s at n k) ∙ after-put x s at m (omega arith) (omega arith)
+      ∙ ap (λ (i : ℕ). drop i x) (sym e) ∙ sym (drop-drop n at x) ∙ ap (drop n) same ∙ drop-drop n at rec ∙ ap (λ (i : ℕ). drop i rec) e
 
+  as-long : length (back x at n s) ≡ length rec
+  as-long = ap length (lent x s at n k) ∙ length-put x s at (omega arith) ∙ l
+
+-- the lengths and the blocks of eight places are as many after a plan
+module _ (b : Block) (k : Places) (f : InEight k × (length b ≤ longestBlock)) (x : List ℕ) (at : ℕ) where
+  lengths-kept : at + queueSize ≤ length x → {l : List ℕ} → l ≡ lengthsAfter k b (take queueSize (drop at x)) → length l ≡ queueSize
+  lengths-kept h e =
+      let d = length-take-le queueSize (drop at x) (rw length-drop (omega arith)) in
+      ap length e ∙ length-after k 1 (length b ∷ []) (take queueSize (drop at x)) (for-lengths b (f .1) k (f .0) _ d) ∙ d
+
+  blocks-kept : at + placesSize ≤ length x → {l : List ℕ} → l ≡ blocksAfter k b (take placesSize (drop at x)) → length l ≡ placesSize
+  blocks-kept h e =
+      let d = length-take-le placesSize (drop at x) (rw length-drop (omega arith)) in
+      ap length e ∙ length-after k longestBlock b (take placesSize (drop at x)) (for-blocks b (f .1) k (f .0) _ d) ∙ d
+
+-- the record while its four arrays are lent, one after the other
+module _ (x l c hl : List ℕ) where
+  abbrev x1 : List ℕ
+  x1 = back x lengthsAt queueSize l
+
+  abbrev x2 : List ℕ
+  x2 = back x1 blocksAt placesSize c
+
+  abbrev x3 : List ℕ
+  x3 = back x2 heldLengthsAt heldSize hl
+
+module _ (rec : List ℕ) (p : Plan) (b y : Block) (long : recordSize ≤ length rec) {x l c hl hc : List ℕ} (ex : x ≡ put rec 0 (numbersIn (p .numbers)))
+    (el : l ≡ lengthsAfter (p .queue) b (take queueSize (drop lengthsAt x)))
+    (ec : c ≡ blocksAfter (p .queue) b (take placesSize (drop blocksAt (x1 x l c hl))))
+    (ehl : hl ≡ lengthsAfter (p .held) y (take heldSize (drop heldLengthsAt (x2 x l c hl))))
+    (ehc : hc ≡ blocksAfter (p .held) y (take placesSize (drop heldBlocksAt (x3 x l c hl)))) (fits : Fits p b y) where
   length-x : length x ≡ length rec
   length-x = ap length ex ∙ length-put rec (numbersIn (p .numbers)) 0 (omega (arith, numbers-long (p .numbers)))
 
-  same-26 : drop blocksAt (back x l) ≡ drop blocksAt rec
-  same-26 =
-      ap (drop blocksAt) (lent x l lengthsAt queueSize l8) ∙ after-put x l lengthsAt blocksAt (omega arith) (omega (arith, length-x))
-      ∙ sym (drop-drop queueSize lengthsAt x) ∙ ap (drop queueSize) same-18 ∙ drop-drop queueSize lengthsAt rec
+  same-x : drop lengthsAt x ≡ drop lengthsAt rec
+  same-x = ap (drop lengthsAt) ex ∙ after-put rec (numbersIn (p .numbers)) 0 lengthsAt (omega (arith, numbers-long (p .numbers))) (omega arith)
 
-  module _ {c : List ℕ} (ec : c ≡ blocksAfter (p .queue) w b (take placesSize (drop blocksAt (back x l)))) (c512 : length c ≡ placesSize) where
-    new : recordOf (p .numbers) l c ≡ carried p b (decode rec)
-    unfolding carried decode
-    new =
-        let n = p .numbers in
-        let e : l ≡ lengthsAfter (p .queue) (decode rec .waiting) b (take queueSize (drop lengthsAt rec)) = rw (← k) (el ∙ ap (λ (z : List ℕ). lengthsAfter (p .queue) w b (take queueSize z)) same-18) in
-        let f : c ≡ blocksAfter (p .queue) (decode rec .waiting) b (take placesSize (drop blocksAt rec)) = rw (← k) (ec ∙ ap (λ (z : List ℕ). blocksAfter (p .queue) w b (take placesSize z)) same-26) in
-        λ i. record { state = n .state; local = n .local; remote = n .remote; accepted = n .accepted; delivered = n .delivered; waiting = n .waiting; lengths = e i; blocks = f i }
+  l8 : length l ≡ queueSize
+  l8 = lengths-kept b (p .queue) (fits .0) x lengthsAt (omega (arith, length-x)) el
 
-    pub carried-out : take blocksAt (back x l) ++ (c ++ drop placesSize (drop blocksAt (back x l))) ≡ put rec 0 (encode (carried p b (decode rec)))
-    carried-out =
-        encode-puts (p .numbers) l c rec l8 c512 long ex (lent x l lengthsAt queueSize l8) (lent (back x l) c blocksAt placesSize c512) ∙ ap (λ (e : Endpoint). put rec 0 (encode e)) new
+  length-1 : length (x1 x l c hl) ≡ length rec
+  length-1 = as-long rec x l lengthsAt queueSize blocksAt refl l8 length-x (omega arith) same-x
+
+  same-1 : drop blocksAt (x1 x l c hl) ≡ drop blocksAt rec
+  same-1 = later rec x l lengthsAt queueSize blocksAt refl l8 length-x (omega arith) same-x
+
+  c512 : length c ≡ placesSize
+  c512 = blocks-kept b (p .queue) (fits .0) (x1 x l c hl) blocksAt (omega (arith, length-1)) ec
+
+  length-2 : length (x2 x l c hl) ≡ length rec
+  length-2 = as-long rec (x1 x l c hl) c blocksAt placesSize heldLengthsAt refl c512 length-1 (omega arith) same-1
+
+  same-2 : drop heldLengthsAt (x2 x l c hl) ≡ drop heldLengthsAt rec
+  same-2 = later rec (x1 x l c hl) c blocksAt placesSize heldLengthsAt refl c512 length-1 (omega arith) same-1
+
+  hl8 : length hl ≡ heldSize
+  hl8 = lengths-kept y (p .held) (fits .1) (x2 x l c hl) heldLengthsAt (omega (arith, length-2)) ehl
+
+  length-3 : length (x3 x l c hl) ≡ length rec
+  length-3 = as-long rec (x2 x l c hl) hl heldLengthsAt heldSize heldBlocksAt refl hl8 length-2 (omega arith) same-2
+
+  hc512 : length hc ≡ placesSize
+  hc512 = blocks-kept y (p .held) (fits .1) (x3 x l c hl) heldBlocksAt (omega (arith, length-3)) ehc
+
+  same-3 : drop heldBlocksAt (x3 x l c hl) ≡ drop heldBlocksAt rec
+  same-3 = later rec (x2 x l c hl) hl heldLengthsAt heldSize heldBlocksAt refl hl8 length-2 (omega arith) same-2
+
+  new : recordOf (p .numbers) l c hl hc ≡ carried p b y (decode rec)
+  unfolding carried decode
+  new =
+      let n = p .numbers in
+      let e1 = el ∙ ap (λ (z : List ℕ). lengthsAfter (p .queue) b (take queueSize z)) same-x in
+      let e2 = ec ∙ ap (λ (z : List ℕ). blocksAfter (p .queue) b (take placesSize z)) same-1 in
+      let e3 = ehl ∙ ap (λ (z : List ℕ). lengthsAfter (p .held) y (take heldSize z)) same-2 in
+      let e4 = ehc ∙ ap (λ (z : List ℕ). blocksAfter (p .held) y (take placesSize z)) same-3 in
+      λ i. record {
+        state = n .state;
+        local = n .local;
+        remote = n .remote;
+        accepted = n .accepted;
+        delivered = n .delivered;
+        waiting = n .waiting;
+        lengths = e1 i;
+        blocks = e2 i;
+        «held_lengths» = e3 i;
+        «held_blocks» = e4 i;
+      }
+
+  pub carried-out : back (x3 x l c hl) heldBlocksAt placesSize hc ≡ put rec 0 (encode (carried p b y (decode rec)))
+  carried-out =
+      encode-puts (p .numbers) l c hl hc rec (record { lengths = l8; blocks = c512; held-lengths = hl8; held-blocks = hc512 }) long ex
+      (lent x l lengthsAt queueSize l8) (lent (x1 x l c hl) c blocksAt placesSize c512) (lent (x2 x l c hl) hl heldLengthsAt heldSize hl8) (lent (x3 x l c hl) hc heldBlocksAt placesSize hc512)
+      ∙ ap (λ (e : Endpoint). put rec 0 (encode e)) new

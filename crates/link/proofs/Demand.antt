@@ -1,29 +1,31 @@
 -- The record's format is lawful, so demand 3 holds of the calls in octets, and each does what the protocol says.
-use Prim.Native.Nat.{ℕ, _≤_}
-use mathlib.Core.Path.{_≡_, refl, ap, _∙_}
+use Prim.Native.Nat.{ℕ, _+_, _≤_, _<_}
+use mathlib.Core.Path.{_≡_, ap, _∙_}
 use mathlib.Core.Bool.{true}
 use mathlib.Core.List.{List, _++_}
 use native.Mathlib.Omega.{arith}
-use borrow.Author.Tests.{le-leb}
 use lib.ListN.{length, length-append}
 use Rattle.octets.proofs.Buffers.{length-padded}
-use Rattle.octets.specs.Sizes.{longestFrame, queueSize}
-use Rattle.octets.specs.Test.{when, first, ok, refusing, andThen}
+use Rattle.octets.specs.Sizes.{longestFrame, longestBlock, queueSize, heldSize, lastNumber}
+use Rattle.octets.specs.Test.{ok}
 use Rattle.octets.specs.Octets.{octetsOf, lay}
 use Rattle.protocol.specs.Endpoint as abstract
 use Rattle.protocol.specs.History as protocol
 use Rattle.protocol.specs.Claim.{NoEndAlone}
 use Rattle.protocol.specs.Limits.{Bounded}
-use Rattle.protocol.proofs.Sound.{sound-so}
-use Rattle.endpoint.specs.View.{placesSize, placesOf, lengthsOf, pack, view}
+use Rattle.protocol.specs.Endpoint.{lengthsOf}
+use Rattle.protocol.proofs.Sound.{sound-so, lengths-length}
+use Rattle.endpoint.specs.View.{placesSize, placesOf, pack, view}
 use Rattle.endpoint.specs.Sound.{sound}
 use Rattle.endpoint.specs.Record.{recordSize, encode, RecordFits}
-use Rattle.endpoint.proofs.Packs.{length-lengths, length-places}
-use Rattle.endpoint.proofs.Held.{small-of, held, pack-sound}
+use Rattle.endpoint.proofs.Packs.{length-places}
+use Rattle.endpoint.proofs.Held.{small-of, small-held, held, pack-sound}
 use Rattle.endpoint.proofs.Record.{decode-encode}
-use Rattle.call_spec.specs.Calls.{Arguments, said, does, asked, performed}
+use Rattle.call_spec.specs.Calls.{Arguments, said, performed}
 use Rattle.call_spec.specs.Claim.{Lawful}
+use Rattle.call_spec.specs.Sequence.{InSequence}
 use Rattle.call_spec.proofs.Lift.{demand-3}
+use Rattle.call_spec.proofs.Sequence as sequence
 use Rattle.link.specs.Record.{format, ends}
 
 -- the struct that holds an endpoint whose numbers have 32 bits
@@ -39,13 +41,20 @@ packed-fits e s b =
       accepted = omega (arith, b .accepted≤);
       delivered = omega (arith, b .delivered≤);
       waiting = omega (arith, f .laden .places);
-      lengths = length-padded queueSize (lengthsOf q) (omega (arith, length-lengths q, f .laden .places));
+      lengths = length-padded queueSize (lengthsOf q) (omega (arith, lengths-length q, f .laden .places));
       blocks = length-padded placesSize (placesOf q) (omega (arith, length-places q (small-of q (f .blocks)), f .laden .places));
+      held-lengths = length-padded heldSize (lengthsOf (e .held)) (omega (arith, lengths-length (e .held), f .laden .eight));
+      held-blocks = length-padded placesSize (placesOf (e .held)) (omega (arith, length-places (e .held) (small-held e s), f .laden .eight));
     }
 
 length-encode : (e : abstract.Endpoint) → RecordFits (pack e) → length (encode (pack e)) ≡ recordSize
 unfolding encode lay octetsOf
-length-encode e f = let l = length-append (pack e .lengths) (pack e .blocks) in omega (arith, l, f .lengths, f .blocks)
+length-encode e f =
+    let p = pack e in
+    let l = length-append (p .lengths) (p .blocks ++ (p .«held_lengths» ++ p .«held_blocks»)) in
+    let b = length-append (p .blocks) (p .«held_lengths» ++ p .«held_blocks») in
+    let h = length-append (p .«held_lengths») (p .«held_blocks») in
+    omega (arith, l, b, h, f .lengths, f .blocks, f .held-lengths, f .held-blocks)
 
 pub lawful : Lawful format
 lawful =
@@ -59,12 +68,12 @@ lawful =
 pub no-end-alone : NoEndAlone ends
 no-end-alone = demand-3 format lawful
 
--- A call on the record of a sound endpoint does what the protocol's call does that its octets say: so what holds of the one, the cases
--- at the edges among it, holds of the other.
+-- a call on the record of a sound endpoint does what the protocol's call does that its octets say
 pub performs : (e : abstract.Endpoint) (rest : List ℕ) → abstract.sound e ≡ true → Bounded e → (c : Arguments) {x : protocol.Call}
-    → said c ≡ ok x → longestFrame ≤ c .room → performed format (format .octets e ++ rest) c ≡ protocol.perform x e
-unfolding performed asked does refusing andThen first when
-performs e rest s b c h room =
-    let l = length-append (format .octets e) rest in
-    let n = lawful .long e s b in
-    rw (le-leb recordSize (length (format .octets e ++ rest)) (omega (arith, l, n)), le-leb longestFrame (c .room) room, lawful .passes e rest s b, lawful .keeps e rest s b, h) refl
+    → said c ≡ ok x → longestFrame ≤ c .room → longestBlock ≤ c .blockRoom → performed format (format .octets e ++ rest) c ≡ protocol.perform x e
+performs = sequence.performs format lawful
+
+-- the eight come up in sequence
+pub in-sequence : (e : abstract.Endpoint) → abstract.sound e ≡ true → Bounded e → e .state ≡ abstract.established → e .held ≡ abstract.noneHeld
+    → e .delivered + 7 < lastNumber → InSequence format e
+in-sequence = sequence.in-sequence format lawful

@@ -19,10 +19,10 @@ use Rattle.endpoint_step.proofs.Laws.{InOctets, leaves}
 use Rattle.call_spec.specs.Calls.{Arguments, performed, recordAfter}
 use Rattle.link.specs.Record.{format}
 use Rattle.link.proofs.Demand.{lawful}
-use Rattle.link.proofs.Answers.{lengths-long, blocks-long}
+use Rattle.link.proofs.Answers.{decode-long}
 
 -- the numbers of a record in octets have 32 bits
-bounded : (rec : List ℕ) → Octets rec → recordSize ≤ length rec → Bounded (view (decode rec))
+pub bounded : (rec : List ℕ) → Octets rec → recordSize ≤ length rec → Bounded (view (decode rec))
 unfolding view decode
 bounded rec o l =
     record {
@@ -38,5 +38,5 @@ unfolding performed outcomeOf recordAfter mapped left put
 stays-sound rec o c i {x} h =
     let r = passing (first ((11, _) ∷ [])) h in
     let l = leb-true recordSize (length rec) (all-yes 11 _ _ (r .0) tt .0) in
-    let k = leaves (decode rec) (lengths-long rec l) (blocks-long rec l) c i (r .1) in
+    let k = leaves (decode rec) (decode-long rec l) c i (r .1) in
     rw h (lawful .passes (x .endpoint) _ (k .is-sound) (k .bounded (bounded rec o l)))

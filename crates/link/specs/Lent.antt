@@ -7,12 +7,13 @@ use lib.ListN.{length}
 use Rattle.octets.specs.Test.{when, first, Outcome, refused, ok, outcome, numberOf}
 use Rattle.protocol.specs.Endpoint.{fresh}
 use Rattle.protocol.specs.Table.{Step}
-use Rattle.call_spec.specs.Answers.{noticeOf, blockOf, blockPart}
+use Rattle.call_spec.specs.declared.Call.{Call}
+use Rattle.call_spec.specs.Answers.{noticeOf, blockOf, blockPart, blockBufferAfter}
 use Rattle.endpoint.specs.declared.Endpoint.{Endpoint}
 use Rattle.endpoint.specs.View.{pack}
 use Rattle.endpoint.specs.Record.{recordSize, decode}
 use Rattle.call_spec.specs.declared.Status.{Status}
-use Rattle.call_spec.specs.Calls.{wire, recordAfter, bufferAfter}
+use Rattle.call_spec.specs.Calls.{Arguments, given, rooms, wire, performed, recordAfter, bufferAfter}
 use Rattle.link.specs.declared.Answer.{Answer}
 use Rattle.link.specs.Record.{format}
 
@@ -34,13 +35,21 @@ sentOf (ok x) = length (wire (x .sent))
 unfoldable pub answerOf : List ℕ → Outcome Step → Answer
 answerOf rec o = record { status = statusOf rec o; sent = sentOf o; block = length (blockOf o) }
 
--- A call with this outcome, of the record rec, the octets s of a request or of a frame, and the buffer out. The block handed up is a
--- part of s.
-pub record Called (o : Outcome Step) (rec s out rec′ out′ : List ℕ) (r : Answer) : Type 0 where
+-- A call with this outcome, of the record rec, the octets s of a request or of a frame, and the buffers out and up: every octet that it
+-- leaves, and where the block handed up stands.
+pub record Called (c : Call) (o : Outcome Step) (rec s out up rec′ out′ up′ : List ℕ) (r : Answer) : Type 0 where
   pub answer : r ≡ answerOf rec o
   pub end : rec′ ≡ recordAfter format rec o
   pub buffer : out′ ≡ bufferAfter out o
-  pub block : blockPart s (r .block) ≡ blockOf o
+  pub block-buffer : up′ ≡ blockBufferAfter c up o
+  pub block : blockPart c s up′ (r .block) ≡ blockOf o
+
+-- a call with these octets and these buffers, and all that it does
+abbrev pub lentCall : Call → List ℕ → List ℕ → List ℕ → Arguments
+lentCall c s out up = given c s (rooms (length out) (length up))
+
+abbrev pub CalledLent : Call → List ℕ → List ℕ → List ℕ → List ℕ → List ℕ → List ℕ → List ℕ → Answer → Type 0
+CalledLent c rec s out up rec′ out′ up′ r = Called c (performed format rec (lentCall c s out up)) rec s out up rec′ out′ up′ r
 
 -- the answer in numbers
 abbrev pub answerIn : ℕ → ℕ → ℕ → ℕ → ℕ → ℕ → ℕ → Answer

@@ -1,4 +1,4 @@
--- How an end's record lies in its 538 octets, the questions that are asked of it, and the ends that are lent such records.
+-- How an end's record lies in its 1,058 octets, the questions that are asked of it, and the ends that are lent such records.
 use Prim.Native.Nat.{ℕ}
 use mathlib.Core.List.{List, [], _∷_}
 use lib.Dec.{leb}

@@ -1,27 +1,27 @@
-// The calls of an end on lent buffers: its record of 538 octets, a request or a frame, and room for a frame out. A call is planned
-// first; then come its stores, in this order: the frame out, the record, the numbers told.
+// The calls of an end on lent buffers: its record of 1,058 octets, a request or a frame, room for a frame out, and a request's room for a
+// block. A call is planned first; then come its stores, in this order: the frame out, the block, the record, the numbers told.
 use call_spec::Call;
 use call_spec::Status;
 use endpoint::BLOCKS_AT;
 use endpoint::Endpoint;
+use endpoint::HELD_BLOCKS_AT;
+use endpoint::HELD_LENGTHS_AT;
 use endpoint::LENGTHS_AT;
 use octets::refusal;
 use step_plan::Plan;
 ghost use mathlib.Core.Path.{_≡_};
+ghost use mathlib.Core.List.{[]};
 ghost use Prim.Native.Nat.{_≤_};
 ghost use lib.ListN.{length};
-ghost use Rattle.octets.specs.Sizes.{longestBlock, queueSize};
 ghost use Rattle.octets.specs.Test.{first, refused, numberOf};
 ghost use Rattle.octets.specs.Octets.{put, left};
 ghost use Rattle.call_spec.specs.declared.Call.the-variants.{Receive};
-ghost use Rattle.call_spec.specs.Calls.{given, performed};
+ghost use Rattle.call_spec.specs.Calls.{given, rooms, performed};
 ghost use Rattle.call_spec.specs.Answers.{blockOf};
-ghost use Rattle.step_plan.specs.Internal.{Room};
 ghost use Rattle.endpoint.specs.Record.{recordSize, encode, decode};
-ghost use Rattle.endpoint_step.specs.Internal.{Plans, carried};
+ghost use Rattle.endpoint_step.specs.Internal.{Plans, Fits, carried};
 ghost use Rattle.link.specs.Record.{format, recordQuestions};
-ghost use Rattle.link.specs.Lent.{answerOf, Called, answerIn, freshIn};
-ghost use Rattle.link.specs.Internal.{PlannedCall, Stored};
+ghost use Rattle.link.specs.Lent.{answerOf, lentCall, CalledLent, answerIn, freshIn};
 
 // The octets of a record.
 pub const RECORD_SIZE: usize = endpoint::RECORD_SIZE;
@@ -50,7 +50,13 @@ pub fn is_sound(rec: &[u8]) -> bool
     ensures { λ r. ⌜ r ≡ format .sound (now (rec .entry)) ⌝ }
 {
     let n = endpoint::load_numbers(rec);
-    endpoint::is_sound(n, &rec[LENGTHS_AT..BLOCKS_AT], &rec[BLOCKS_AT..RECORD_SIZE])
+    endpoint::is_sound(
+        n,
+        &rec[LENGTHS_AT..BLOCKS_AT],
+        &rec[BLOCKS_AT..HELD_LENGTHS_AT],
+        &rec[HELD_LENGTHS_AT..HELD_BLOCKS_AT],
+        &rec[HELD_BLOCKS_AT..RECORD_SIZE],
+    )
 }
 
 // Questions 11 and 12 of a record: 0 where both are passed.
@@ -97,62 +103,94 @@ pub fn refuse(rec: &[u8], number: u8) -> Answer
     }
 }
 
-// The plan of a call, from the record's own octets: s has those of a request or of a frame, room is the length of the buffer for a
-// frame out. Nothing is stored.
-pub fn plan_call(call: Call, rec: &[u8], s: &[u8], room: usize) -> Plan
+// The plan of a call, from the record's own octets: s has those of a request or of a frame, room and block_room are the lengths of the
+// buffers for a frame out and for a block. Nothing is stored.
+pub fn plan_call(call: Call, rec: &[u8], s: &[u8], room: usize, block_room: usize) -> Plan
     requires { ⌜ recordSize ≤ length (now rec) ⌝ }
-    ensures { λ r. ⌜ Plans (decode (now (rec .entry))) (given call (now (s .entry)) room) r ⌝ }
+    ensures { λ r. ⌜ Plans (decode (now (rec .entry))) (given call (now (s .entry)) (rooms room «block_room»)) r ⌝ }
 {
     let n = endpoint::load_numbers(rec);
     endpoint_step::plan_call(
         call,
         n,
         &rec[LENGTHS_AT..BLOCKS_AT],
-        &rec[BLOCKS_AT..RECORD_SIZE],
+        &rec[BLOCKS_AT..HELD_LENGTHS_AT],
+        &rec[HELD_LENGTHS_AT..HELD_BLOCKS_AT],
+        &rec[HELD_BLOCKS_AT..RECORD_SIZE],
         s,
         room,
+        block_room,
     )
 }
 
-// Changes the record where it lies: its numbers, and of the lengths and blocks what the plan says; joined is the block that joins.
-fn store(p: Plan, joined: &[u8], rec: &mut [u8])
-    requires { ⌜ (recordSize ≤ length (now rec)) × ((decode (now rec) .waiting ≤ queueSize) × ((length (now joined) ≤ longestBlock) × Room (p .queue) (now joined) (decode (now rec) .waiting))) ⌝ }
-    ensures { λ _. ⌜ now (rec .exit) ≡ put (now (rec .entry)) 0 (encode (carried p (now (joined .entry)) (decode (now (rec .entry))))) ⌝ }
+// Changes the record where it lies: its numbers, and of the lengths and blocks what the plan says; joined is the block that joins those
+// that wait, early the one that joins those held.
+fn store<'a>(p: Plan, joined: &'a [u8], early: &'a [u8], rec: &mut [u8])
+    requires { ⌜ (recordSize ≤ length (now rec)) × Fits p (now joined) (now early) ⌝ }
+    ensures { λ _. ⌜ now (rec .exit) ≡ put (now (rec .entry)) 0 (encode (carried p (now (joined .entry)) (now (early .entry)) (decode (now (rec .entry))))) ⌝ }
 {
-    let waiting = octets::wide(rec[endpoint::WAITING_AT]);
-    let queue = p.queue;
     let n = p.numbers;
     endpoint::store_numbers(n, rec);
+    let queue = p.queue;
     let count = [joined.len() as u8];
-    endpoint_step::change_places(queue, 1, waiting, &count, &mut rec[LENGTHS_AT..BLOCKS_AT]);
+    endpoint_step::change_places(queue, 1, &count, &mut rec[LENGTHS_AT..BLOCKS_AT]);
     endpoint_step::change_places(
         queue,
         Endpoint::LONGEST_BLOCK,
-        waiting,
         joined,
-        &mut rec[BLOCKS_AT..RECORD_SIZE],
+        &mut rec[BLOCKS_AT..HELD_LENGTHS_AT],
+    );
+    let held = p.held;
+    let early_count = [early.len() as u8];
+    endpoint_step::change_places(
+        held,
+        1,
+        &early_count,
+        &mut rec[HELD_LENGTHS_AT..HELD_BLOCKS_AT],
+    );
+    endpoint_step::change_places(
+        held,
+        Endpoint::LONGEST_BLOCK,
+        early,
+        &mut rec[HELD_BLOCKS_AT..RECORD_SIZE],
     );
 }
 
-// The stores of a planned call, and its answer: the frame out, then the record. A plan that refuses stores nothing.
-pub fn finish(p: Plan, rec: &mut [u8], s: &[u8], out: &mut [u8]) -> Answer
-    requires { ⌜ (recordSize ≤ length (now rec)) × PlannedCall (now rec) (now s) (length (now out)) p ⌝ }
-    ensures { λ r. ⌜ Stored p (now (rec .entry)) (now (s .entry)) (now (out .entry)) (now (rec .exit)) (now (out .exit)) r ⌝ }
+// The stores of a planned call, and its answer: the frame out, the block handed up, then the record. A plan that refuses stores nothing.
+pub fn finish(
+    call: Call,
+    p: Plan,
+    rec: &mut [u8],
+    s: &[u8],
+    out: &mut [u8],
+    up: &mut [u8],
+) -> Answer
+    requires { ⌜ (recordSize ≤ length (now rec)) × Plans (decode (now rec)) (lentCall call (now s) (now out) (now up)) p ⌝ }
+    ensures { λ r. ⌜ CalledLent call (now (rec .entry)) (now (s .entry)) (now (out .entry)) (now (up .entry)) (now (rec .exit)) (now (out .exit)) (now (up .exit)) r ⌝ }
 {
     if p.number != step_plan::ACCEPTED {
         return refuse(rec, p.number);
     }
     let queue = p.queue;
-    let joined = step_plan::joined(queue, s);
+    let joined = step_plan::joined(queue, frame::SEND_BLOCK_AT, s);
     let sent = endpoint_step::send(
         p,
         joined,
         &rec[LENGTHS_AT..BLOCKS_AT],
-        &rec[BLOCKS_AT..RECORD_SIZE],
+        &rec[BLOCKS_AT..HELD_LENGTHS_AT],
         out,
     );
-    store(p, joined, rec);
-    let block = step_plan::handed_up(p.notice, s);
+    let block = endpoint_step::hand_up(
+        call,
+        p.notice,
+        &rec[HELD_LENGTHS_AT..HELD_BLOCKS_AT],
+        &rec[HELD_BLOCKS_AT..RECORD_SIZE],
+        s,
+        up,
+    );
+    let held = p.held;
+    let early = step_plan::joined(held, frame::DATA_BLOCK_AT, s);
+    store(p, joined, early, rec);
     let after = p.numbers;
     Answer {
         status: Status {
@@ -163,19 +201,19 @@ pub fn finish(p: Plan, rec: &mut [u8], s: &[u8], out: &mut [u8]) -> Answer
             remote: after.remote,
         },
         sent,
-        block: block.len(),
+        block,
     }
 }
 
-// A call of an end: a request, the timer call among them, or a frame received.
-pub fn perform(call: Call, rec: &mut [u8], s: &[u8], out: &mut [u8]) -> Answer
-    ensures { λ r. ⌜ Called (performed format (now (rec .entry)) (given call (now (s .entry)) (length (now (out .entry))))) (now (rec .entry)) (now (s .entry)) (now (out .entry)) (now (rec .exit)) (now (out .exit)) r ⌝ }
+// A call of an end: a request, the timer call among them, or a frame received. Receiving neither asks nor writes up.
+pub fn perform(call: Call, rec: &mut [u8], s: &[u8], out: &mut [u8], up: &mut [u8]) -> Answer
+    ensures { λ r. ⌜ CalledLent call (now (rec .entry)) (now (s .entry)) (now (out .entry)) (now (up .entry)) (now (rec .exit)) (now (out .exit)) (now (up .exit)) r ⌝ }
 {
     if rec.len() < RECORD_SIZE {
         return refuse(rec, refusal::SHORT_BUFFER);
     }
-    let p = plan_call(call, rec, s, out.len());
-    finish(p, rec, s, out)
+    let p = plan_call(call, rec, s, out.len(), up.len());
+    finish(call, p, rec, s, out, up)
 }
 
 // Receives the frame s. Gives the block handed up, a part of s, empty where there is none; the number, state, notice, L, D and
@@ -191,9 +229,10 @@ pub fn receive<'a>(
     remote: &mut u32,
     sent: &mut usize,
 ) -> &'a [u8]
-    ensures { λ r. ⌜ Called (performed format (now (rec .entry)) (given Receive (now (s .entry)) (length (now (out .entry))))) (now (rec .entry)) (now (s .entry)) (now (out .entry)) (now (rec .exit)) (now (out .exit)) (answerIn (now (number .exit)) (now (state .exit)) (now (notice .exit)) (now (local .exit)) (now (remote .exit)) (now (sent .exit)) (length (now r))) × (now r ≡ blockOf (performed format (now (rec .entry)) (given Receive (now (s .entry)) (length (now (out .entry)))))) ⌝ }
+    ensures { λ r. ⌜ CalledLent Receive (now (rec .entry)) (now (s .entry)) (now (out .entry)) [] (now (rec .exit)) (now (out .exit)) [] (answerIn (now (number .exit)) (now (state .exit)) (now (notice .exit)) (now (local .exit)) (now (remote .exit)) (now (sent .exit)) (length (now r))) × (now r ≡ blockOf (performed format (now (rec .entry)) (lentCall Receive (now (s .entry)) (now (out .entry)) []))) ⌝ }
 {
-    let a = perform(Call::Receive, rec, s, out);
+    let mut none = [0u8; 0];
+    let a = perform(Call::Receive, rec, s, out, &mut none);
     let told = a.status;
     *number = told.number;
     *state = told.state;

@@ -15,7 +15,7 @@ use Rattle.protocol.specs.Endpoint.{Endpoint, waiting}
 use Rattle.protocol.specs.Table.{Notice, none, connected, rejected, closedByPartner, closeFinished, handedUp, Sent}
 use Rattle.protocol.specs.History.{Call, Event, History, now, sent}
 use Rattle.protocol.specs.Claim.{Opens, blockUp, handedUpIn, blockSent, acceptedFor, OpenedWith, Prefix}
-use Rattle.protocol.proofs.Facts.{silent, Laden, load, Carry, keeps, clears, begins, takes, releases, queues, stepTo}
+use Rattle.protocol.proofs.Facts.{silent, Laden, load, Carry, keeps, clears, begins, takes, overtakes, releases, queues, stepTo}
 use Rattle.protocol.proofs.Facts.{Says, silence, crao, crpo, crack, rej, reset-said, dr, drack, drack-to-other, datum, ack}
 use Rattle.protocol.proofs.Calls.{Of, with-new, event}
 use Rattle.protocol.proofs.Invariant.{Back}
@@ -32,7 +32,7 @@ pub record Stands (ys : List Block) (n : ℕ) (b : Block) : Type 0 where
   pub below : n < length ys
   pub is : getD ys n [] ≡ b
 
-stands-grow : (ys zs : List Block) {n : ℕ} {b : Block} → Stands ys n b → Stands (ys ++ zs) n b
+pub stands-grow : (ys zs : List Block) {n : ℕ} {b : Block} → Stands ys n b → Stands (ys ++ zs) n b
 stands-grow ys zs {n} h = record { below = omega (arith, length-append ys zs, h .below); is = List·getD-append ys zs [] n (h .below) ∙ h .is }
 
 -- where the next block of ys is b, one block more is still a prefix
@@ -183,7 +183,8 @@ nothing-taken : {e x : Endpoint} {f : Frame} {n : Notice} {bs : List Block} → 
 nothing-taken (keeps t) u = refl
 nothing-taken (clears t t′) u = refl
 nothing-taken (begins p q t) u = refl
-nothing-taken (takes k r d p n) u = refl
+nothing-taken (takes p s) u = refl
+nothing-taken (overtakes k r d p a b) u = refl
 nothing-taken (releases p q r) u = refl
 nothing-taken (queues b p q r) u = absurd (u p)
 
@@ -251,11 +252,19 @@ module _ (c : Call) (o : Sent) (f : Frame) {h : History} (nm : Named h) (st : St
         taken = ap length a;
         queued = ap (λ (l : List Block). drop 0 l) a;
       }
-  counts-on s (takes k r d p n) e =
+  counts-on s (takes {b = b} p o) e =
       let u = st .counts p in
       let a = sent-none _ h s L D in
       record {
-        up = ap length (up-here _ h) ∙ length-append (handedUpIn L h) (f .block ∷ []) ∙ ap (λ (k : ℕ). k + 1) (u .up);
+        up = ap length (up-here _ h) ∙ length-append (handedUpIn L h) (b ∷ []) ∙ ap (λ (k : ℕ). k + 1) (u .up);
+        taken = ap length a ∙ u .taken;
+        queued = ap (λ (l : List Block). drop first l) a ∙ u .queued;
+      }
+  counts-on s (overtakes k r d p i j) e =
+      let u = st .counts p in
+      let a = sent-none _ h s L D in
+      record {
+        up = ap length (up-silent _ h tt L) ∙ u .up;
         taken = ap length a ∙ u .taken;
         queued = ap (λ (l : List Block). drop first l) a ∙ u .queued;
       }
@@ -296,7 +305,8 @@ module _ (c : Call) (o : Sent) (f : Frame) {h : History} (nm : Named h) (st : St
   up-none-on (keeps t) l u = up-silent _ h t l ∙ st .up-none l u
   up-none-on (clears t t′) l u = up-silent _ h t′ l ∙ st .up-none l u
   up-none-on (begins p q t) l u = up-silent _ h t l ∙ st .up-none l u
-  up-none-on (takes k r d p n) l u =
+  up-none-on (overtakes k r d p a b) l u = up-silent _ h tt l ∙ st .up-none l u
+  up-none-on (takes p s) l u =
       up-other _ h l (λ e. u D (subst (λ (m : ℕ). OpenedWith h m D) e (nm .here p)))
       ∙ st .up-none l u
   up-none-on (releases p q r) l u = up-silent _ h tt l ∙ st .up-none l u

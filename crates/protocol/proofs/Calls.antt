@@ -11,15 +11,15 @@ use lib.ListN.{length, getD, length-append}
 use lib.Seq.{getD-append-seam}
 use Rattle.octets.specs.Test.{Question, first, Outcome, refused, ok, outcome}
 use Rattle.octets.proofs.Test.{split, if-eq}
-use Rattle.frame.specs.Frame.{Block, Frame, control, dataFrame, Request, connect, listen, endListening, close, timer, send}
+use Rattle.frame.specs.Frame.{Block, Frame, control, dataFrame, Request, connect, listen, endListening, close, timer, collect, send}
 use Rattle.protocol.specs.Endpoint.{Endpoint, waiting}
 use Rattle.protocol.specs.Table.{Sent, nothing, frame, Step}
 use Rattle.octets.specs.Sizes.{lastNumber, queueSize}
-use Rattle.protocol.specs.Requests.{questions, refusal, queueing, oldest, resent, accept, request}
+use Rattle.protocol.specs.Requests.{questions, refusal, queueing, oldest, resent, collected, accept, request}
 use Rattle.protocol.specs.History.{Call, ask, deliver, perform, Event, History, now, also, sent, recorded, after, Due}
 use Rattle.protocol.specs.Claim.{blockSent}
-use Rattle.protocol.proofs.Facts.{alone, stays, hangs-up, drops, keeps, clears, queues, Sane, Laden}
-use Rattle.protocol.proofs.Facts.{Says, silence, crao, crpo, dr, datum, Fires, fires, heard}
+use Rattle.protocol.proofs.Facts.{alone, stays, hangs-up, drops, was-held, keeps, clears, takes, queues, Sane, Laden}
+use Rattle.protocol.proofs.Facts.{Says, silence, crao, crpo, dr, datum, ack, Fires, fires, heard}
 
 -- Questions: what holds of a refusal, and of the value where all answers are yes, holds of the outcome.
 abbrev Numbered : List Question → Type 0
@@ -45,6 +45,7 @@ within listen = false
 within endListening = true
 within close = true
 within timer = true
+within collect = true
 within (send b) = true
 
 -- when a request is allowed
@@ -55,6 +56,7 @@ Allowed endListening e = e .state ≡ 1
 Allowed close e = e .state ≡ 4
 Allowed (send b) e = (e .state ≡ 4) × (e .accepted < lastNumber) × (length (e .queue) < queueSize)
 Allowed timer e = Unit {0}
+Allowed collect e = e .state ≡ 4
 
 pub requested : (P : Outcome Step → Type 0) (q : Request) (e : Endpoint) → ((n : ℕ) → P (refused n)) → (Allowed q e → P (ok (accept q e)))
     → P (request q e)
@@ -65,6 +67,7 @@ requested P endListening e n y = asked P (questions endListening e) tt n (λ z. 
 requested P close e n y = asked P (questions close e) tt n (λ z. y (omega (arith, eqb-true, ltb-true)))
 requested P (send b) e n y = asked P (questions (send b) e) tt n (λ z. y (omega (arith, eqb-true, ltb-true)))
 requested P timer e n y = asked P (questions timer e) tt n (λ z. y tt)
+requested P collect e n y = asked P (questions collect e) tt n (λ z. y (omega (arith, eqb-true, ltb-true)))
 
 -- The requests that begin no incarnation are as if some frame f were heard.
 module _ {e : Endpoint} (f : Frame) (s : Sane e) (l : Laden e) where
@@ -86,6 +89,11 @@ module _ {e : Endpoint} (f : Frame) (s : Sane e) (l : Laden e) where
       datum (e .accepted) b h (omega arith) (omega arith)
       (ap (λ (n : ℕ). getD (e .queue ++ (b ∷ [])) n []) (omega arith) ∙ getD-append-seam (e .queue) b [] [])
 
+  collects : e .state ≡ 4 → (b : Block) → getD (e .held) 0 [] ≡ b → Fires e f [] (collected e b)
+  unfolding collected
+  collects h [] p = fires (stays refl refl refl) (keeps tt) silence
+  collects h (x ∷ b) p = fires (stays refl refl refl) (takes h (was-held p (omega arith))) (ack _ h refl)
+
   pub asks-on : (q : Request) → T (within q) → Allowed q e → Fires e f (blockSent (ask q)) (accept q e)
   unfolding accept
   asks-on connect t a = absurd t
@@ -94,6 +102,7 @@ module _ {e : Endpoint} (f : Frame) (s : Sane e) (l : Laden e) where
   asks-on close t a = fires (hangs-up (omega arith) (s .remote≥ (omega arith))) (clears tt tt) (dr refl)
   asks-on (send b) t a = fires (stays refl refl refl) (queues b (a .0) (a .1) (a .2)) (newest b (a .0))
   asks-on timer t a = fires (stays refl refl refl) (keeps tt) timed
+  asks-on collect t a = collects a (getD (e .held) 0 []) refl
 
 -- of the frame sent, if there is one
 abbrev pub Of : (Frame → Type 0) → Sent → Type 0
@@ -128,6 +137,7 @@ module _ {a b : History} (s : Sane (now a)) (l : Laden (now a)) where
   allowed endListening y = goes no-frame (asks-on _ s l endListening tt y)
   allowed close y = goes no-frame (asks-on _ s l close tt y)
   allowed timer y = goes no-frame (asks-on _ s l timer tt y)
+  allowed collect y = goes no-frame (asks-on _ s l collect tt y)
   allowed (send c) y = goes no-frame (asks-on _ s l (send c) tt y)
 
   pub deed : (c : Call) → Due b c → Deed a b c (after c a)

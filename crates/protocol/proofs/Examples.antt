@@ -3,7 +3,7 @@ use mathlib.Core.Path.{refl}
 use mathlib.Core.List.{List, [], _∷_, List·Memᴰ, List·Memᴰ·head, List·Memᴰ·tail}
 use Rattle.octets.specs.Test.{when, ifEq, ifLt, first, outcome}
 use Rattle.frame.specs.Frame.{Frame}
-use Rattle.protocol.specs.Table.{whenListening, whenActive, whenPassive, dataRow, openRows, whenEstablished, rule, apply, step}
+use Rattle.protocol.specs.Table.{whenListening, whenActive, whenPassive, dataRow, openRows, whenEstablished, rule, movedDown, apply, step}
 use Rattle.protocol.specs.Requests.{questions, refusal, accept, request}
 use Rattle.protocol.specs.History.{perform, now, sent, recorded}
 use Rattle.protocol.specs.World.{called, ends}
@@ -26,7 +26,7 @@ unfolding called recorded perform now sent step rule apply whenActive
 both-call = record { due = (tt, (tt, (last, (last, (last, tt))))); a-open = refl; b-open = refl }
 
 pub they-talk : BothOpen talk
-unfolding called recorded perform now sent step rule apply whenListening whenActive whenPassive whenEstablished openRows dataRow
+unfolding called recorded perform now sent step rule apply whenListening whenActive whenPassive whenEstablished openRows dataRow movedDown
     request refusal questions accept first outcome ifEq ifLt when
 they-talk = record {
   due = (tt, (tt, (last, (last, (last, (tt, (tt, (last, (tt, (last, (List·Memᴰ·tail last, (tt, (last, tt)))))))))))));
@@ -35,7 +35,7 @@ they-talk = record {
 }
 
 pub they-hear : HandsUp talk (pong ∷ []) (ping ∷ pong ∷ [])
-unfolding handedUpIn called recorded perform now sent step rule apply whenListening whenActive whenPassive whenEstablished openRows dataRow
+unfolding handedUpIn called recorded perform now sent step rule apply whenListening whenActive whenPassive whenEstablished openRows dataRow movedDown
     request refusal questions accept first outcome ifEq ifLt when
 they-hear = record { by-a = refl; by-b = refl }
 

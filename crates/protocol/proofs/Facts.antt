@@ -1,27 +1,28 @@
 -- What the step table does, as far as the theorem needs to know: how the endpoint moves, what becomes of its blocks, and
 -- what it says. The rest of the proof sees these facts and not the table.
-use Prim.Native.Nat.{ℕ, _-_, _≤_, _<_}
-use mathlib.Core.Path.{_≡_, refl}
+use Prim.Native.Nat.{ℕ, zero, suc, _+_, _-_, _≤_, _<_}
+use mathlib.Core.Path.{_≡_, refl, sym, subst, ap, _∙_}
 use mathlib.Core.Logic.{_≢_}
 use mathlib.Core.Bool.{Bool, true, false, not}
-use mathlib.Core.List.{List, [], _∷_}
+use mathlib.Core.List.{List, [], _∷_, _++_}
 use native.Mathlib.Omega.{arith}
 use lib.Dec.{T, eqb}
-use lib.ListN.{length, getD, length-append, length-drop}
-use Rattle.octets.specs.Test.{ifEq, ifLt}
-use Rattle.octets.proofs.Test.{if-eq, if-lt}
+use lib.ListN.{length, drop, getD, replicate, length-append, length-drop, length-set}
+use lib.Seq.{getD-drop, getD-set-same, getD-set-other}
+use Rattle.octets.specs.Test.{ifEq, ifLt, zeros}
+use Rattle.octets.proofs.Test.{if-eq, if-lt, by-eq}
 use Rattle.frame.specs.Frame.{Block, CRAO, CRPO, CRACK, REJ, RESET, DR, DRACK, DATA, Frame, control, dataFrame, ackFrame}
 use Rattle.protocol.specs.declared.Rule.{Rule}
 use Rattle.protocol.specs.declared.Rule.the-variants.{Ignore, Refuse, AcceptDisconnect, Answer, Reset, OpenAndConfirm}
 use Rattle.protocol.specs.declared.Rule.the-variants.{CallAgain, Open, Rejected, RejectedByDisconnect, ListenAgain}
-use Rattle.protocol.specs.declared.Rule.the-variants.{ClosedByPartner, Confirm, HandUp, Acknowledge, Release}
+use Rattle.protocol.specs.declared.Rule.the-variants.{ClosedByPartner, Confirm, HandUp, Hold, Acknowledge, Release}
 use Rattle.protocol.specs.declared.Rule.the-variants.{FinishedByDisconnect, Finished}
-use Rattle.protocol.specs.Endpoint.{Endpoint, waiting}
+use Rattle.protocol.specs.Endpoint.{Endpoint, waiting, noneHeld, lengthsOf}
 use Rattle.protocol.specs.Table.{whenClosed, whenListening, whenActive, whenPassive, dataRow, ackRow, openRows}
 use Rattle.protocol.specs.Table.{whenEstablished, whenClosing, rule}
 use Rattle.protocol.specs.Table.{Notice, none, connected, rejected, closedByPartner, closeFinished, handedUp, Sent, nothing, frame, Step}
-use Rattle.protocol.specs.Table.{turned, delivering, releasing, apply, step}
-use Rattle.octets.specs.Sizes.{lastNumber, queueSize}
+use Rattle.protocol.specs.Table.{movedDown, firstCopy, heldAt, turned, delivering, holdingEarly, releasing, apply, step}
+use Rattle.octets.specs.Sizes.{lastNumber, queueSize, heldSize}
 use Rattle.protocol.specs.Requests.{queueing}
 
 -- Why an endpoint that hears f may give its partner up.
@@ -52,13 +53,19 @@ silent closedByPartner = true
 silent closeFinished = true
 silent (handedUp b) = false
 
+-- Where a block that is handed up comes from: the DATA heard, or the first of the places.
+pub data Source (e : Endpoint) (f : Frame) : Block → Type 0 where
+  arrives : f .kind ≡ DATA → f .quoted ≡ e .local → f .sender ≡ e .remote → f .number ≡ e .delivered → Source e f (f .block)
+  was-held : {b : Block} → getD (e .held) 0 [] ≡ b → 1 ≤ length b → Source e f b
+
 -- What becomes of the blocks: e turns into x with the notice n, and accepts bs to send.
 pub data Carry (e : Endpoint) (f : Frame) : Endpoint → Notice → List Block → Type 0 where
   keeps : {n : Notice} → T (silent n) → Carry e f e n []
   clears : {st d : ℕ} {n : Notice} → T (not (eqb st 4)) → T (silent n) → Carry e f (turned st d e) n []
   begins : {d : ℕ} {n : Notice} → 2 ≤ e .state → e .state ≤ 3 → T (silent n) → Carry e f (turned 4 d e) n []
-  takes : f .kind ≡ DATA → f .quoted ≡ e .local → f .sender ≡ e .remote → e .state ≡ 4 → f .number ≡ e .delivered
-      → Carry e f (delivering e) (handedUp (f .block)) []
+  takes : {b : Block} → e .state ≡ 4 → Source e f b → Carry e f (delivering e) (handedUp b) []
+  overtakes : f .kind ≡ DATA → f .quoted ≡ e .local → f .sender ≡ e .remote → e .state ≡ 4 → e .delivered ≤ f .number → f .number < e .delivered + heldSize
+      → Carry e f (holdingEarly (f .number) (f .block) e) none []
   releases : e .state ≡ 4 → e .accepted - waiting e < f .number → f .number ≤ e .accepted → Carry e f (releasing (f .number) e) none []
   queues : (b : Block) → e .state ≡ 4 → e .accepted < lastNumber → waiting e < queueSize → Carry e f (queueing b e) none (b ∷ [])
 
@@ -72,7 +79,8 @@ pub record Sane (e : Endpoint) : Type 0 where
 pub record Laden (e : Endpoint) : Type 0 where
   pub waits : length (e .queue) ≤ e .accepted
   pub places : length (e .queue) ≤ 8
-  pub idle : e .state ≢ 4 → (e .accepted ≡ 0) × (e .delivered ≡ 0)
+  pub eight : length (e .held) ≡ 8
+  pub idle : e .state ≢ 4 → (e .accepted ≡ 0) × (e .delivered ≡ 0) × (zeros (lengthsOf (e .held)) ≡ true)
 
 -- What an endpoint that is x after hearing f says.
 pub data Says (x : Endpoint) (f : Frame) : Sent → Type 0 where
@@ -118,6 +126,8 @@ pub data Found (e : Endpoint) (f : Frame) : Rule → Type 0 where
   partner : 1 ≤ e .state → f .kind ≡ DR → e .remote ≤ f .sender → Found e f ClosedByPartner
   confirm : e .state ≡ 4 → Found e f Confirm
   hand-up : e .state ≡ 4 → f .kind ≡ DATA → f .sender ≡ e .remote → f .quoted ≡ e .local → f .number ≡ e .delivered → Found e f HandUp
+  hold : e .state ≡ 4 → f .kind ≡ DATA → f .sender ≡ e .remote → f .quoted ≡ e .local → e .delivered ≤ f .number → f .number < e .delivered + heldSize
+      → Found e f Hold
   acknowledge : e .state ≡ 4 → Found e f Acknowledge
   release : e .state ≡ 4 → e .accepted - waiting e < f .number → f .number ≤ e .accepted → Found e f Release
   finish-dr : 1 ≤ e .state → f .kind ≡ DR → e .remote ≤ f .sender → Found e f FinishedByDisconnect
@@ -133,7 +143,7 @@ ruleset opening = (refuse-crao, refuse-crpo, accept-dr, accept-other, answer, re
 
 ruleset ending = (reject, reject-dr, listen-rej, listen-reset, partner, finish-dr, finish, newer, rejects, ended)
 
-ruleset talking = (confirm, hand-up, acknowledge, release)
+ruleset talking = (confirm, hand-up, hold, acknowledge, release)
 
 -- what is found by a row, and by the rows below it
 ruleset row = (eq-found, lt-found, ignore, opening, ending, talking)
@@ -208,7 +218,8 @@ does (listen-rej h k r d) = fires (relistens k r d h) (clears tt tt) silence
 does (listen-reset h k r d) = fires (resets k r d h) (clears tt tt) silence
 does (partner h k d) = fires (drops h (hung-up k d)) (clears tt tt) (drack k (omega arith))
 does (confirm h) = fires (stays refl refl refl) (keeps tt) (crack h)
-does (hand-up h k m r n) = fires (stays refl refl refl) (takes k r m h n) (ack _ h refl)
+does (hand-up h k m r n) = fires (stays refl refl refl) (takes h (arrives k r m n)) (ack _ h refl)
+does (hold h k m r a b) = fires (stays refl refl refl) (overtakes k r m h a b) (ack _ h refl)
 does (acknowledge h) = fires (stays refl refl refl) (keeps tt) (ack _ h refl)
 does (release h i j) = fires (stays refl refl refl) (releases h i j) silence
 does (finish-dr h k d) = fires (drops h (hung-up k d)) (clears tt tt) (drack k (omega arith))
@@ -218,17 +229,92 @@ pub heard : (e : Endpoint) (f : Frame) → Fires e f [] (step e f)
 unfolding step
 heard e f = does (found e f)
 
+-- The places for early blocks.
+pub length-moved : (held : List Block) → length held ≡ 8 → length (movedDown held) ≡ 8
+unfolding movedDown
+length-moved held h = omega (arith, length-append (drop 1 held) ([] ∷ []), length-drop 1 held)
+
+pub length-held : (i : ℕ) (b : Block) (held : List Block) → length (heldAt i b held) ≡ length held
+unfolding heldAt
+length-held i b held = length-set held i (firstCopy (getD held i []) b)
+
+-- one place more, with nothing in it, is as none
+more-none : (held : List Block) (i : ℕ) → getD (held ++ ([] ∷ [])) i [] ≡ getD held i []
+more-none [] zero = refl
+more-none [] (suc i) = refl
+more-none (b ∷ held) zero = refl
+more-none (b ∷ held) (suc i) = more-none held i
+
+pub getD-moved : (held : List Block) (i : ℕ) → getD (movedDown held) i [] ≡ getD held (1 + i) []
+unfolding movedDown
+getD-moved held i = more-none (drop 1 held) i ∙ getD-drop 1 held i []
+
+none-in : (n i : ℕ) → getD {A = Block} (replicate n []) i [] ≡ []
+none-in zero i = refl
+none-in (suc n) zero = refl
+none-in (suc n) (suc i) = none-in n i
+
+pub none-at : (i : ℕ) → getD noneHeld i [] ≡ []
+none-at i = none-in 8 i
+
+-- What holds of each block that is held, and of its place.
+abbrev pub Each : (ℕ → Block → Type 0) → List Block → Type 0
+Each P held = (i : ℕ) → 1 ≤ length (getD held i []) → P i (getD held i [])
+
+-- nothing is held in eight empty places
+pub none-held : {A : Type 0} (i : ℕ) → 1 ≤ length (getD noneHeld i []) → A
+none-held i n = absurd (omega (arith, ap length (none-at i)))
+
+pub each-moved : (P Q : ℕ → Block → Type 0) (held : List Block) → ((i : ℕ) (b : Block) → P (1 + i) b → Q i b) → Each P held → Each Q (movedDown held)
+each-moved P Q held f h i n =
+    let e = getD-moved held i in
+    subst (λ (b : Block). Q i b) (sym e) (f i (getD held (1 + i) []) (h (1 + i) (subst (λ (b : Block). 1 ≤ length b) e n)))
+
+pub first-is : (P : Block → Type 0) (c b : Block) → (1 ≤ length c → P c) → P b → P (firstCopy c b)
+unfolding firstCopy
+first-is P [] b h k = k
+first-is P (x ∷ c) b h k = h (omega arith)
+
+pub held-same : (i : ℕ) (b : Block) (held : List Block) → i < length held → getD (heldAt i b held) i [] ≡ firstCopy (getD held i []) b
+unfolding heldAt
+held-same i b held h = getD-set-same held i (firstCopy (getD held i []) b) [] h
+
+pub held-other : (i j : ℕ) (b : Block) (held : List Block) → j ≢ i → getD (heldAt i b held) j [] ≡ getD held j []
+unfolding heldAt
+held-other i j b held h = getD-set-other held i j (firstCopy (getD held i []) b) [] h
+
+pub each-held : (P : ℕ → Block → Type 0) (i : ℕ) (b : Block) (held : List Block) → i < length held → P i b → Each P held → Each P (heldAt i b held)
+each-held P i b held l p h j n =
+    by-eq j i
+    (λ e.
+    subst (λ (k : ℕ). P k (getD (heldAt i b held) k [])) (sym e)
+    (subst (λ (c : Block). P i c) (sym (held-same i b held l)) (first-is (λ (c : Block). P i c) (getD held i []) b (h i) p)))
+    (λ e.
+    let o = held-other i j b held e in
+    subst (λ (c : Block). P j c) (sym o) (h j (subst (λ (c : Block). 1 ≤ length c) o n)))
+
+pub none-lengths : zeros (lengthsOf noneHeld) ≡ true
+unfolding zeros lengthsOf
+none-lengths = refl
+
 pub load : {e x : Endpoint} {f : Frame} {n : Notice} {bs : List Block} → Laden e → Carry e f x n bs → Laden x
 load l (keeps t) = l
-load l (clears t u) = record { waits = omega arith; places = omega arith; idle = λ n. (refl, refl) }
-load l (begins p q t) = record { waits = omega arith; places = omega arith; idle = λ n. (refl, refl) }
-load l (takes k r d p n) = record { waits = l .waits; places = l .places; idle = λ n. absurd (n p) }
+load l (clears t u) = record { waits = omega arith; places = omega arith; eight = refl; idle = λ n. (refl, refl, none-lengths) }
+load l (begins p q t) = record { waits = omega arith; places = omega arith; eight = refl; idle = λ n. (refl, refl, none-lengths) }
+load {e} l (takes p s) = record { waits = l .waits; places = l .places; eight = length-moved (e .held) (l .eight); idle = λ n. absurd (n p) }
+load {e} {f = f} l (overtakes k r d p a b) =
+    record {
+      waits = l .waits;
+      places = l .places;
+      eight = length-held (f .number - e .delivered) (f .block) (e .held) ∙ l .eight;
+      idle = λ n. absurd (n p);
+    }
 load {e} {f = f} l (releases p q r) =
     let len = length-drop (f .number - (e .accepted - waiting e)) (e .queue) in
-    record { waits = omega (arith, l .waits); places = omega (arith, l .places); idle = λ n. absurd (n p) }
+    record { waits = omega (arith, l .waits); places = omega (arith, l .places); eight = l .eight; idle = λ n. absurd (n p) }
 load {e} l (queues b p t w) =
     let len = length-append (e .queue) (b ∷ []) in
-    record { waits = omega (arith, l .waits); places = omega arith; idle = λ n. absurd (n p) }
+    record { waits = omega (arith, l .waits); places = omega arith; eight = l .eight; idle = λ n. absurd (n p) }
 
 -- A move keeps the numbers sane, if a frame that may open has a sender.
 pub sane-on : {e x : Endpoint} {f : Frame} → Sane e → (1 ≤ f .kind → f .kind ≢ REJ → f .kind ≢ DRACK → 1 ≤ f .sender) → Move e f x → Sane x

@@ -7,6 +7,7 @@ pub mod Blocks
 pub mod Order
 pub mod Limits
 pub mod World
+pub mod Sequence
 pub mod Theorem
 pub mod Told
 pub mod Edges

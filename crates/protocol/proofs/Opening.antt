@@ -10,7 +10,7 @@ use Rattle.protocol.specs.Table.{Sent, Notice, Step}
 use Rattle.protocol.specs.Requests.{begun, accept}
 use Rattle.protocol.specs.History.{Call, ask, Event, History, now, sent}
 use Rattle.protocol.specs.Claim.{BegunByConnect, Opens, Met}
-use Rattle.protocol.proofs.Facts.{Laden, load, Move, Says, crao, silence, Fires, fires, Carry, stepTo}
+use Rattle.protocol.proofs.Facts.{Laden, none-lengths, load, Move, Says, crao, silence, Fires, fires, Carry, stepTo}
 use Rattle.protocol.proofs.Calls.{Heard, no-frame, from, with-new, event, Deed, refuses, connects, listens, goes}
 use Rattle.protocol.proofs.Invariant.{Party, EndHolds, Holds, back, agreed, ends-i, ends-j, holds-i, holds-j, said}
 use Rattle.protocol.proofs.Invariant.{Begins, begins-i, begins-j, begun-i, begun-j}
@@ -124,7 +124,7 @@ module _ {a b : History} (h : Joint a b) where
           by-b = h .by-b;
           ends-a = hx;
           ends-b = hy;
-          laden-a = record { waits = omega arith; places = omega arith; idle = λ _. (refl, refl) };
+          laden-a = record { waits = omega arith; places = omega arith; eight = refl; idle = λ _. (refl, refl, none-lengths) };
           laden-b = h .laden-b;
           holds-a = with-new o
               (said hx hy (omega arith) w) (λ g m. begun-i (h .ends-a) (h .ends-b) z t (h .holds-a g m));
@@ -149,8 +149,8 @@ fresh-ends = record {
   by-b = 0;
   ends-a = omega arith;
   ends-b = omega arith;
-  laden-a = record { waits = omega arith; places = omega arith; idle = λ _. (refl, refl) };
-  laden-b = record { waits = omega arith; places = omega arith; idle = λ _. (refl, refl) };
+  laden-a = record { waits = omega arith; places = omega arith; eight = refl; idle = λ _. (refl, refl, none-lengths) };
+  laden-b = record { waits = omega arith; places = omega arith; eight = refl; idle = λ _. (refl, refl, none-lengths) };
   holds-a = λ g m. absurd (List·Memᴰ·not-nil m);
   holds-b = λ g m. absurd (List·Memᴰ·not-nil m);
   called-a = λ e. absurd (omega arith);

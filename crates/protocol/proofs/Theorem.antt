@@ -48,7 +48,7 @@ roomy =
           let k = reach .goes-on a b r c (d .1) in
           record {
             reached-both = k;
-            room-a = room-on (h .room-a) (h .room-b) (d .0) (k .joint .ends-a .sane) (k .joint .laden-a) (deed (r .joint .ends-a .sane) (r .joint .laden-a) c (d .1));
+            room-a = room-on (r .joint .laden-a) (h .room-a) (h .room-b) (d .0) (k .joint .ends-a .sane) (k .joint .laden-a) (deed (r .joint .ends-a .sane) (r .joint .laden-a) c (d .1));
             room-b = h .room-b;
           };
       meets = λ a b h c d. reach .meets a b (h .reached-both) c (d .1);
@@ -61,6 +61,7 @@ limited h = record {
     sane = h .reached-both .joint .ends-a .sane;
     laden = h .reached-both .joint .laden-a;
     blocks = h .room-a .blocks;
+    fitting = h .room-a .fitting;
   });
   bounded = h .room-a .bounded;
   fits = h .room-a .fits;

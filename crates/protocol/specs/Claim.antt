@@ -4,7 +4,7 @@ use mathlib.Core.Path.{_≡_}
 use mathlib.Core.Logic.{_⊎_, _≢_}
 use mathlib.Core.List.{List, [], _∷_, _++_, List·Memᴰ}
 use Rattle.octets.specs.Test.{ifEq, ok}
-use Rattle.frame.specs.Frame.{Block, Frame, connect, listen, endListening, close, timer, send}
+use Rattle.frame.specs.Frame.{Block, Frame, connect, listen, endListening, close, timer, collect, send}
 use Rattle.protocol.specs.Endpoint.{closed, activeOpening, established, closing, Endpoint}
 use Rattle.protocol.specs.Table.{Notice, none, connected, rejected, closedByPartner, closeFinished, handedUp}
 use Rattle.protocol.specs.Table.{frame, quiet, says, turned, step}
@@ -63,6 +63,7 @@ blockSent (ask listen) = []
 blockSent (ask endListening) = []
 blockSent (ask close) = []
 blockSent (ask timer) = []
+blockSent (ask collect) = []
 blockSent (ask (send b)) = b ∷ []
 blockSent (deliver f) = []
 

@@ -1,10 +1,10 @@
--- The eleven cases that document 01 marks P, "at the edges", as one table: what each call edgeAnswers, whole.
+-- The eleven cases that document 01 marks P, "at the edges", as one table: what each call edgeAnswers, whole; and N2's.
 use Prim.Native.Nat.{ℕ}
 use mathlib.Core.List.{List, [], _∷_, map}
 use Rattle.octets.specs.Test.{Outcome, refused, ok}
-use Rattle.frame.specs.Frame.{Block, CRAO, REJ, RESET, control, dataFrame, ackFrame, connect, send}
-use Rattle.protocol.specs.Endpoint.{closed, listening, activeOpening, passiveOpening, established, closing, Endpoint}
-use Rattle.protocol.specs.Table.{none, rejected, closeFinished, Step, quiet, says}
+use Rattle.frame.specs.Frame.{Block, CRAO, REJ, RESET, DR, DRACK, control, dataFrame, ackFrame, connect, close, collect, send}
+use Rattle.protocol.specs.Endpoint.{closed, listening, activeOpening, passiveOpening, established, closing, Endpoint, noneHeld}
+use Rattle.protocol.specs.Table.{none, rejected, closedByPartner, closeFinished, handedUp, Step, quiet, says}
 use Rattle.protocol.specs.History.{Call, ask, deliver, perform}
 
 -- one line of the table
@@ -18,11 +18,19 @@ edge e c x = record { before = e; call = c; answer = x }
 
 -- an endpoint with no blocks: state, L, D
 abbrev at : ℕ → ℕ → ℕ → Endpoint
-at st l d = record { state = st; local = l; remote = d; accepted = 0; delivered = 0; queue = [] }
+at st l d = record { state = st; local = l; remote = d; accepted = 0; delivered = 0; queue = []; held = noneHeld }
+
+-- an open endpoint with L = 1 and D = 2, that has handed up e blocks and holds those of h
+abbrev having : ℕ → List Block → Endpoint
+having e h = record { state = established; local = 1; remote = 2; accepted = 0; delivered = e; queue = []; held = h }
+
+-- block e + 1 is held
+abbrev early : Block → List Block
+early b = [] ∷ b ∷ [] ∷ [] ∷ [] ∷ [] ∷ [] ∷ [] ∷ []
 
 -- an open endpoint that has accepted n blocks, none of them acknowledged, and handed up none
 abbrev holding : ℕ → List Block → Endpoint
-holding n q = record { state = established; local = 1; remote = 2; accepted = n; delivered = 0; queue = q }
+holding n q = record { state = established; local = 1; remote = 2; accepted = n; delivered = 0; queue = q; held = noneHeld }
 
 abbrev block : Block
 block = 7 ∷ []
@@ -38,11 +46,48 @@ edges =
     ∷ edge (at closing 5 3) (deliver (control CRAO 3 5)) (ok (quiet (at closing 5 3) none))
     ∷ edge (at passiveOpening 2 6) (deliver (control RESET 7 2)) (ok (quiet (at listening 2 0) none))
     ∷ edge (at passiveOpening 2 6) (deliver (control RESET 5 2)) (ok (quiet (at passiveOpening 2 6) none))
-    ∷ edge (holding 0 []) (deliver (dataFrame 2 1 1 block)) (ok (says (holding 0 []) none (ackFrame 1 2 0)))
+    ∷ edge (holding 0 []) (deliver (dataFrame 2 1 1 block)) (ok (says (having 0 (early block)) none (ackFrame 1 2 0)))
     ∷ edge (at closed 4294967294 0) (ask connect) (ok (says (at activeOpening 4294967295 0) none (control CRAO 4294967295 0)))
     ∷ edge (at closed 4294967295 0) (ask connect) (refused 9)
     ∷ edge (holding 7 seven) (ask (send block)) (ok (says (holding 8 (block ∷ seven)) none (dataFrame 1 2 7 block)))
     ∷ edge (holding 8 (block ∷ seven)) (ask (send block)) (refused 10)
+    ∷ []
+
+-- N2's own, in the same form.
+abbrev other : Block
+other = 8 ∷ []
+
+-- blocks e and e + 1 are held, and block e + 1 alone where e has risen
+abbrev two : List Block
+two = block ∷ other ∷ [] ∷ [] ∷ [] ∷ [] ∷ [] ∷ [] ∷ []
+
+abbrev one : List Block
+one = other ∷ [] ∷ [] ∷ [] ∷ [] ∷ [] ∷ [] ∷ [] ∷ []
+
+-- block e + 7 is held
+abbrev last : Block → List Block
+last b = [] ∷ [] ∷ [] ∷ [] ∷ [] ∷ [] ∷ [] ∷ b ∷ []
+
+unfoldable pub overtakings : List Edge
+overtakings =
+    -- DATA e + 7, e + 8, e - 1, and e + 1 a second time, with other octets
+    edge (having 1 noneHeld) (deliver (dataFrame 2 1 8 block)) (ok (says (having 1 (last block)) none (ackFrame 1 2 1)))
+    ∷ edge (having 1 noneHeld) (deliver (dataFrame 2 1 9 block)) (ok (says (having 1 noneHeld) none (ackFrame 1 2 1)))
+    ∷ edge (having 1 noneHeld) (deliver (dataFrame 2 1 0 block)) (ok (says (having 1 noneHeld) none (ackFrame 1 2 1)))
+    ∷ edge (having 0 (early block)) (deliver (dataFrame 2 1 1 other)) (ok (says (having 0 (early block)) none (ackFrame 1 2 0)))
+    -- DATA e where e is held: what arrives is handed up, and the held copy goes
+    ∷ edge (having 0 two) (deliver (dataFrame 2 1 0 other)) (ok (says (having 1 one) (handedUp other) (ackFrame 1 2 1)))
+    -- collect where e is held, where it is not, and where the end is not open
+    ∷ edge (having 0 two) (ask collect) (ok (says (having 1 one) (handedUp block) (ackFrame 1 2 1)))
+    ∷ edge (having 0 (early block)) (ask collect) (ok (quiet (having 0 (early block)) none))
+    ∷ edge (at closed 5 0) (ask collect) (refused 8)
+    ∷ edge (at listening 5 0) (ask collect) (refused 8)
+    ∷ edge (at activeOpening 5 3) (ask collect) (refused 8)
+    ∷ edge (at passiveOpening 5 3) (ask collect) (refused 8)
+    ∷ edge (at closing 5 3) (ask collect) (refused 8)
+    -- leaving open
+    ∷ edge (having 0 (early block)) (deliver (control DR 2 1)) (ok (says (at closed 1 0) closedByPartner (control DRACK 1 2)))
+    ∷ edge (having 0 (early block)) (ask close) (ok (says (at closing 1 2) none (control DR 1 2)))
     ∷ []
 
 -- what the table says, and what the calls answer

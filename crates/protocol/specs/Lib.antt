@@ -5,5 +5,6 @@ pub mod History
 pub mod World
 pub mod Claim
 pub mod Limits
+pub mod Sequence
 pub mod Edges
 pub mod Examples

@@ -1,13 +1,14 @@
 -- Requests and the timer call: questions 8, 9 and 10 of document 01, and what a request does where all answers are yes.
 use Prim.Native.Nat.{ℕ, _+_, _-_}
 use mathlib.Core.List.{List, [], _∷_, _++_}
+use lib.ListN.{getD}
 use lib.Dec.{ltb, eqb}
 use Rattle.octets.specs.Sizes.{lastNumber, queueSize}
 use Rattle.octets.specs.Test.{ifEq, Question, first, Outcome, outcome}
-use Rattle.frame.specs.Frame.{Block, CRAO, CRPO, DR, control, dataFrame}
-use Rattle.frame.specs.Frame.{Request, connect, listen, endListening, close, timer, send}
-use Rattle.protocol.specs.Endpoint.{closed, listening, activeOpening, passiveOpening, established, closing, Endpoint, waiting}
-use Rattle.protocol.specs.Table.{none, Sent, nothing, frame, Step, quiet, says, turned}
+use Rattle.frame.specs.Frame.{Block, CRAO, CRPO, DR, control, dataFrame, ackFrame}
+use Rattle.frame.specs.Frame.{Request, connect, listen, endListening, close, timer, collect, send}
+use Rattle.protocol.specs.Endpoint.{closed, listening, activeOpening, passiveOpening, established, closing, Endpoint, waiting, noneHeld}
+use Rattle.protocol.specs.Table.{none, handedUp, Sent, nothing, frame, Step, quiet, says, turned, delivering}
 
 -- 8: does the state allow the request?
 abbrev pub stateIs : ℕ → Endpoint → Question
@@ -29,6 +30,7 @@ questions endListening e = stateIs listening e ∷ []
 questions close e = stateIs established e ∷ []
 questions (send b) e = stateIs established e ∷ numberLeft (e .accepted) ∷ placeLeft e ∷ []
 questions timer e = []
+questions collect e = stateIs established e ∷ []
 
 -- the number of the refusal, 0 where there is none
 unfoldable pub refusal : Request → Endpoint → ℕ
@@ -36,7 +38,7 @@ refusal q e = first (questions q e)
 
 -- the next incarnation, in state st, with no partner known
 abbrev pub begun : ℕ → Endpoint → Endpoint
-begun st e = record { state = st; local = e .local + 1; remote = 0; accepted = 0; delivered = 0; queue = [] }
+begun st e = record { state = st; local = e .local + 1; remote = 0; accepted = 0; delivered = 0; queue = []; held = noneHeld }
 
 -- the block joins the waiting ones as number t, then t + 1
 abbrev pub queueing : Block → Endpoint → Endpoint
@@ -48,6 +50,7 @@ queueing b e =
       accepted = e .accepted + 1;
       delivered = e .delivered;
       queue = e .queue ++ (b ∷ []);
+      held = e .held;
     }
 
 -- the DATA of the oldest waiting block, which has number t - w, if there is one
@@ -64,6 +67,11 @@ resent e =
     (ifEq (e .state) closing (frame (control DR (e .local) (e .remote)))
     nothing)))
 
+-- what collect does, where b is held as block e: it is handed up; where none is, nothing
+unfoldable pub collected : Endpoint → Block → Step
+collected e [] = quiet e none
+collected e (x ∷ b) = says (delivering e) (handedUp (x ∷ b)) (ackFrame (e .local) (e .remote) (e .delivered + 1))
+
 -- what a request does that is allowed
 unfoldable pub accept : Request → Endpoint → Step
 accept connect e = says (begun activeOpening e) none (control CRAO (e .local + 1) 0)
@@ -72,6 +80,7 @@ accept endListening e = quiet (turned closed 0 e) none
 accept close e = says (turned closing (e .remote) e) none (control DR (e .local) (e .remote))
 accept (send b) e = says (queueing b e) none (dataFrame (e .local) (e .remote) (e .accepted) b)
 accept timer e = record { endpoint = e; notice = none; sent = resent e }
+accept collect e = collected e (getD (e .held) 0 [])
 
 -- what a request answers: its refusal, or the step
 unfoldable pub request : Request → Endpoint → Outcome Step

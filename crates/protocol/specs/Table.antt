@@ -1,15 +1,16 @@
 -- The step table of document 01: which row applies to a frame, and what each row does.
 use Prim.Native.Nat.{ℕ, _+_, _-_}
-use mathlib.Core.List.{[]}
-use lib.ListN.{drop}
+use mathlib.Core.List.{List, [], _∷_, _++_}
+use lib.ListN.{drop, getD, set}
+use Rattle.octets.specs.Sizes.{heldSize}
 use Rattle.octets.specs.Test.{ifEq, ifLt}
 use Rattle.frame.specs.Frame.{Block, CRAO, CRPO, CRACK, REJ, RESET, DR, DRACK, DATA, ACK, Frame, control, ackFrame}
 use Rattle.protocol.specs.declared.Rule.{Rule}
 use Rattle.protocol.specs.declared.Rule.the-variants.{Ignore, Refuse, AcceptDisconnect, Answer, Reset, OpenAndConfirm}
 use Rattle.protocol.specs.declared.Rule.the-variants.{CallAgain, Open, Rejected, RejectedByDisconnect, ListenAgain}
-use Rattle.protocol.specs.declared.Rule.the-variants.{ClosedByPartner, Confirm, HandUp, Acknowledge, Release}
+use Rattle.protocol.specs.declared.Rule.the-variants.{ClosedByPartner, Confirm, HandUp, Hold, Acknowledge, Release}
 use Rattle.protocol.specs.declared.Rule.the-variants.{FinishedByDisconnect, Finished}
-use Rattle.protocol.specs.Endpoint.{closed, listening, activeOpening, passiveOpening, established, closing, Endpoint, waiting}
+use Rattle.protocol.specs.Endpoint.{closed, listening, activeOpening, passiveOpening, established, closing, Endpoint, waiting, noneHeld}
 
 -- Which row applies.
 
@@ -70,9 +71,13 @@ whenPassive e f =
     ∥ f is DR ⇒ (f quotes e ⇒ ClosedByPartner ∥ AcceptDisconnect)
     ∥ Ignore
 
--- open, a DATA: the block numbered e is handed up; every other is acknowledged once more
+-- open, a DATA: the block numbered e is handed up, those numbered e + 1 to e + 7 are held; every other is acknowledged once more
 unfoldable pub dataRow : Endpoint → Frame → Rule
-dataRow e f = ifEq (f .number) (e .delivered) HandUp Acknowledge
+dataRow e f =
+    ifEq (f .number) (e .delivered) HandUp
+    (ifLt (f .number) (e .delivered) Acknowledge
+    (ifLt (f .number) (e .delivered + heldSize) Hold
+    Acknowledge))
 
 -- open, an ACK n: t - w < n ≤ t
 unfoldable pub ackRow : Endpoint → Frame → Rule
@@ -152,7 +157,20 @@ says e n g = record { endpoint = e; notice = n; sent = frame g }
 
 -- The same incarnation in state st, with the partner d. Only an open end has blocks, and it begins with none.
 abbrev pub turned : ℕ → ℕ → Endpoint → Endpoint
-turned st d e = record { state = st; local = e .local; remote = d; accepted = 0; delivered = 0; queue = [] }
+turned st d e = record { state = st; local = e .local; remote = d; accepted = 0; delivered = 0; queue = []; held = noneHeld }
+
+-- as e rises, the places move on by one: what was held as number e leaves, and nothing is held as e + 7
+unfoldable pub movedDown : List Block → List Block
+movedDown held = drop 1 held ++ ([] ∷ [])
+
+-- of two copies of a block the first counts; [] is none
+unfoldable pub firstCopy : Block → Block → Block
+firstCopy [] b = b
+firstCopy (x ∷ c) b = x ∷ c
+
+-- a copy of the block numbered e + i
+unfoldable pub heldAt : ℕ → Block → List Block → List Block
+heldAt i b held = set held i (firstCopy (getD held i []) b)
 
 -- one block more is handed up
 abbrev pub delivering : Endpoint → Endpoint
@@ -164,6 +182,20 @@ delivering e =
       accepted = e .accepted;
       delivered = e .delivered + 1;
       queue = e .queue;
+      held = movedDown (e .held);
+    }
+
+-- the block numbered n is early: its first copy is held
+abbrev pub holdingEarly : ℕ → Block → Endpoint → Endpoint
+holdingEarly n b e =
+    record {
+      state = e .state;
+      local = e .local;
+      remote = e .remote;
+      accepted = e .accepted;
+      delivered = e .delivered;
+      queue = e .queue;
+      held = heldAt (n - e .delivered) b (e .held);
     }
 
 -- the blocks before number n leave; the oldest waiting one has number t - w
@@ -176,6 +208,7 @@ releasing n e =
       accepted = e .accepted;
       delivered = e .delivered;
       queue = drop (n - (e .accepted - waiting e)) (e .queue);
+      held = e .held;
     }
 
 -- kind(L, s), in answer to the frame f
@@ -197,6 +230,7 @@ apply ListenAgain e f = quiet (turned listening 0 e) none
 apply ClosedByPartner e f = says (turned closed 0 e) closedByPartner (reply DRACK e f)
 apply Confirm e f = says e none (control CRACK (e .local) (e .remote))
 apply HandUp e f = says (delivering e) (handedUp (f .block)) (ackFrame (e .local) (e .remote) (e .delivered + 1))
+apply Hold e f = says (holdingEarly (f .number) (f .block) e) none (ackFrame (e .local) (e .remote) (e .delivered))
 apply Acknowledge e f = says e none (ackFrame (e .local) (e .remote) (e .delivered))
 apply Release e f = quiet (releasing (f .number) e) none
 apply FinishedByDisconnect e f = says (turned closed 0 e) closeFinished (reply DRACK e f)

@@ -14,6 +14,7 @@ pub enum Rule {
     ClosedByPartner,
     Confirm,
     HandUp,
+    Hold,
     Acknowledge,
     Release,
     FinishedByDisconnect,

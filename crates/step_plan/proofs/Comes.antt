@@ -1,26 +1,36 @@
 -- What the plans that many rows share come to.
-use Prim.Native.Nat.{ℕ, _+_, _-_, _≤_}
+use Prim.Native.Nat.{ℕ, zero, suc, _+_, _-_, _≤_}
 use mathlib.Core.Path.{_≡_, refl, sym, ap, _∙_}
-use mathlib.Core.List.{List, []}
+use mathlib.Core.Logic.{_≢_}
+use mathlib.Core.Bool.{true, false, false≢true}
+use mathlib.Core.List.{List, [], _∷_, _++_}
 use native.Mathlib.Omega.{arith}
-use lib.ListN.{length, drop, length-drop, drop-of-length-le}
-use Rattle.frame.specs.Layout.{sendBlockAt}
-use Rattle.octets.specs.Test.{Outcome, refused, ok, numberOf}
-use Rattle.octets.specs.Sizes.{longestBlock}
+use borrow.Author.Tests.{eqb-true}
+use lib.Dec.{eqb}
+use lib.ListN.{length, drop, getD, replicate, length-drop, drop-of-length-le, List·getD-eq-default}
+use Rattle.frame.specs.Layout.{sendBlockAt, dataBlockAt}
+use Rattle.octets.specs.Test.{zeros, Outcome, refused, ok, numberOf}
+use Rattle.octets.specs.Sizes.{longestBlock, heldSize}
+use Rattle.octets.proofs.Test.{both, split}
+use Rattle.octets.proofs.Each.{zeros-of}
 use Rattle.frame.specs.Frame.{Block}
-use Rattle.protocol.specs.Endpoint.{Endpoint}
-use Rattle.protocol.specs.Table.{Notice, none, noticeNumber, Step, quiet, turned}
+use Rattle.frame.specs.declared.Header.the-variants.{Ack}
+use Rattle.protocol.specs.Endpoint.{Endpoint, noneHeld, lengthsOf}
+use Rattle.protocol.specs.Table.{Notice, none, handedUp, noticeNumber, Step, quiet, turned, movedDown, delivering, heldAt}
 use Rattle.protocol.specs.Table as table
 use Rattle.protocol.specs.Requests.{begun}
+use Rattle.protocol.proofs.Facts.{getD-moved, none-at}
+use Rattle.protocol.proofs.Sound.{length-at, lengths-length}
 use Rattle.step_rules.specs.declared.Numbers.{Numbers}
 use Rattle.step_rules.specs.Internal.{holding}
 use Rattle.step_plan.specs.declared.Reply.{Reply}
+use Rattle.step_plan.specs.declared.Reply.the-variants.{Frame}
 use Rattle.step_plan.specs.declared.Plan.{Plan}
-use Rattle.step_plan.specs.declared.Queue.{Queue}
-use Rattle.step_plan.specs.declared.Queue.the-variants.{Keep, Join, Release}
+use Rattle.step_plan.specs.declared.Places.{Places}
+use Rattle.step_plan.specs.declared.Places.the-variants.{Keep, Join, Release}
 use Rattle.call_spec.specs.Answers.{noticeOf, sentIn, endpointAfter}
-use Rattle.step_plan.specs.Internal.{joinedBy, queueAfter, Room, blockOut, sentBy, Comes}
-use Rattle.step_plan.specs.Internal.{refusedPlan, keeping, turning, beginning, releasingPlan}
+use Rattle.step_plan.specs.Internal.{joinedBy, Reaches, queueAfter, heldAfter, Room, HeldRoom, blockOut, sentBy, Comes}
+use Rattle.step_plan.specs.Internal.{refusedPlan, keeping, leaving, deliveringNumbers, handing, turning, beginning, holdingPlan, releasingPlan}
 
 -- an accepted call
 abbrev pub answers : Endpoint → Notice → Reply → Block → Outcome Step
@@ -29,93 +39,211 @@ answers e i r old = ok (record { endpoint = e; notice = i; sent = sentBy r old }
 none-left : (n : Numbers) (q : List Block) → length q ≡ n .waiting → drop (n .waiting) q ≡ []
 none-left n q w = drop-of-length-le q {i = n .waiting} (omega arith)
 
-module _ (n : Numbers) (q : List Block) (b old : Block) (w : length q ≡ n .waiting) {o : Outcome Step} {p : Plan} where
-  pub refuses : (k : ℕ) → o ≡ refused k → p ≡ refusedPlan n k → Comes n q b old o p
-  unfolding numberOf noticeOf sentIn endpointAfter queueAfter sentBy
-  refuses k h e =
-      rw (h, e) (record { number = refl; notice = refl; endpoint = refl; counted = sym w; room = tt; sent = refl })
+-- Places without a block in any, and those that are left where some leave.
+pub no-block : (b : Block) → length b ≡ 0 → b ≡ []
+no-block [] h = refl
+no-block (x ∷ b) h = absurd (omega arith)
 
-  pub keeps : (m : Numbers) (i : Notice) (r : Reply) → m .waiting ≡ n .waiting → o ≡ answers (holding m q) i r old → p ≡ keeping m (noticeNumber i) r
-      → Comes n q b old o p
-  unfolding numberOf noticeOf sentIn endpointAfter queueAfter
-  keeps m i r k h e =
-      rw (h, e) (record { number = refl; notice = refl; endpoint = refl; counted = k ∙ sym w; room = tt; sent = refl })
+none-in : (h : List Block) → zeros (lengthsOf h) ≡ true → h ≡ replicate (length h) []
+unfolding zeros lengthsOf
+none-in [] z = refl
+none-in (b ∷ h) z =
+    let y = both (eqb (length b) 0) (zeros (lengthsOf h)) z in
+    rw (no-block b (eqb-true (length b) 0 (y .0))) (ap (λ (l : List Block). [] ∷ l) (none-in h (y .1)))
 
-  pub turns : (st d : ℕ) (i : Notice) (r : Reply) → o ≡ answers (turned st d (holding n q)) i r old → p ≡ turning n st d (noticeNumber i) r
-      → Comes n q b old o p
-  unfolding numberOf noticeOf sentIn endpointAfter queueAfter
-  turns st d i r h e =
-      rw (h, e)
-      (record {
-        number = refl;
-        notice = refl;
-        endpoint = ap (λ (l : List Block). record { state = st; local = n .local; remote = d; accepted = 0; delivered = 0; queue = l }) (none-left n q w);
-        counted = sym (ap length (none-left n q w));
-        room = omega arith;
-        sent = refl;
-      })
+module _ (z : List ℕ) (h : List Block) (lz : lengthsOf h ≡ z) (l8 : length z ≡ heldSize) where
+  eight : length h ≡ heldSize
+  eight = sym (lengths-length h) ∙ ap length lz ∙ l8
 
-  pub begins : (st : ℕ) (r : Reply) → o ≡ answers (begun st (holding n q)) none r old → p ≡ beginning n st r → Comes n q b old o p
-  unfolding numberOf noticeOf sentIn endpointAfter queueAfter noticeNumber
-  begins st r h e =
-      rw (h, e)
-      (record {
-        number = refl;
-        notice = refl;
-        endpoint = ap (λ (l : List Block). record { state = st; local = n .local + 1; remote = 0; accepted = 0; delivered = 0; queue = l }) (none-left n q w);
-        counted = sym (ap length (none-left n q w));
-        room = omega arith;
-        sent = refl;
-      })
+  -- k of them leave, as far as any is held
+  left-by : (k : ℕ) (x : Block) → drop k noneHeld ++ replicate k [] ≡ noneHeld → heldAfter (leaving z k) x h ≡ drop k h ++ replicate k []
+  unfolding leaving heldAfter
+  left-by k x e =
+      split (λ (p : Places). heldAfter p x h ≡ drop k h ++ replicate k []) (zeros z)
+      (λ t. let n : h ≡ noneHeld = none-in h (ap zeros lz ∙ t) ∙ ap (λ (m : ℕ). replicate m []) eight in rw n (sym e))
+      (λ _. refl)
 
-  pub releases : (m : ℕ) → n .waiting ≤ n .accepted → m ≤ n .accepted → o ≡ ok (quiet (table.releasing m (holding n q)) none)
-      → p ≡ releasingPlan n (m - (n .accepted - n .waiting)) → Comes n q b old o p
-  unfolding numberOf noticeOf sentIn endpointAfter queueAfter sentBy noticeNumber
-  releases m lo hi h e =
+  pub moved-by : (x : Block) → heldAfter (leaving z 1) x h ≡ movedDown h
+  unfolding movedDown
+  moved-by x = left-by 1 x refl
+
+  pub cleared-by : (x : Block) → heldAfter (leaving z heldSize) x h ≡ noneHeld
+  cleared-by x = left-by heldSize x refl ∙ ap (λ (l : List Block). l ++ noneHeld) (drop-of-length-le h {i = heldSize} (omega (arith, eight)))
+
+  -- what moves down and stays as it was, or leaves and was not there, is nothing
+  none-moved : drop 1 h ++ replicate 1 [] ≡ h → (i j : ℕ) → heldSize ≤ i + j → getD h i [] ≡ []
+  unfolding movedDown
+  none-moved e i zero l = List·getD-eq-default h [] {n = i} (omega (arith, eight))
+  none-moved e i (suc j) l = ap (λ (q : List Block). getD q i []) (sym e) ∙ getD-moved h i ∙ none-moved e (1 + i) j (omega arith)
+
+  none-held : ((i : ℕ) → getD h i [] ≡ []) → zeros z ≡ true
+  none-held f = ap zeros (sym lz) ∙ zeros-of (lengthsOf h) (λ i _. length-at h i ∙ ap length (f i))
+
+  still-held : zeros z ≡ false → drop 1 h ++ replicate 1 [] ≢ h
+  still-held n e = false≢true (sym n ∙ none-held (λ i. none-moved e i heldSize (omega arith)))
+
+  gone-held : zeros z ≡ false → drop heldSize h ++ replicate heldSize [] ≢ h
+  gone-held n e =
+      let k = ap (λ (l : List Block). l ++ noneHeld) (sym (drop-of-length-le h {i = heldSize} (omega (arith, eight)))) ∙ e in
+      false≢true (sym n ∙ none-held (λ i. ap (λ (l : List Block). getD l i []) (sym k) ∙ none-at i))
+
+  room-by : (k : ℕ) (x : Block) → k ≤ heldSize → (zeros z ≡ false → drop k h ++ replicate k [] ≢ h) → HeldRoom (leaving z k) x h
+  unfolding leaving
+  room-by k x e g = split (λ (p : Places). HeldRoom p x h) (zeros z) (λ _. tt) (λ n. (e, g n))
+
+  pub room-moved : (x : Block) → HeldRoom (leaving z 1) x h
+  room-moved x = room-by 1 x (omega arith) still-held
+
+  pub room-cleared : (x : Block) → HeldRoom (leaving z heldSize) x h
+  room-cleared x = room-by heldSize x (omega arith) gone-held
+
+module _ (n : Numbers) (q h : List Block) (b x old : Block) (w : length q ≡ n .waiting) {o : Outcome Step} {p : Plan} where
+  pub refuses : (k : ℕ) → o ≡ refused k → p ≡ refusedPlan n k → Comes n q h b x old o p
+  unfolding numberOf noticeOf sentIn endpointAfter queueAfter heldAfter sentBy
+  refuses k g e =
+      rw (g, e) (record { number = refl; notice = refl; endpoint = refl; counted = sym w; room = tt; place = tt; sent = refl })
+
+  pub keeps : (i : Notice) (r : Reply) → o ≡ answers (holding n q h) i r old → p ≡ keeping n (noticeNumber i) r → Comes n q h b x old o p
+  unfolding numberOf noticeOf sentIn endpointAfter queueAfter heldAfter
+  keeps i r g e =
+      rw (g, e) (record { number = refl; notice = refl; endpoint = refl; counted = sym w; room = tt; place = tt; sent = refl })
+
+  pub holds : (i : ℕ) → HeldRoom (Join i) x h → o ≡ answers (holding n q (heldAt i x h)) none (Frame (Ack (n .local) (n .remote) (n .delivered))) old
+      → p ≡ holdingPlan n i → Comes n q h b x old o p
+  unfolding numberOf noticeOf sentIn endpointAfter queueAfter heldAfter noticeNumber
+  holds i m g e =
+      rw (g, e) (record { number = refl; notice = refl; endpoint = refl; counted = sym w; room = tt; place = m; sent = refl })
+
+  module _ (z : List ℕ) (lz : lengthsOf h ≡ z) (l8 : length z ≡ heldSize) where
+    pub hands : (y : Block) → o ≡ answers (delivering (holding n q h)) (handedUp y) (Frame (Ack (n .local) (n .remote) (n .delivered + 1))) old
+        → p ≡ handing n z → Comes n q h b x old o p
+    unfolding numberOf noticeOf sentIn endpointAfter queueAfter noticeNumber
+    hands y g e =
+        rw (g, e)
+        (record {
+          number = refl;
+          notice = refl;
+          endpoint = ap (λ (l : List Block). holding (deliveringNumbers n) q l) (moved-by z h lz l8 x);
+          counted = sym w;
+          room = tt;
+          place = room-moved z h lz l8 x;
+          sent = refl;
+        })
+
+    pub turns : (st d : ℕ) (i : Notice) (r : Reply) → o ≡ answers (turned st d (holding n q h)) i r old → p ≡ turning n z st d (noticeNumber i) r
+        → Comes n q h b x old o p
+    unfolding numberOf noticeOf sentIn endpointAfter queueAfter
+    turns st d i r g e =
+        rw (g, e)
+        (record {
+          number = refl;
+          notice = refl;
+          endpoint = λ j. record { state = st; local = n .local; remote = d; accepted = 0; delivered = 0; queue = none-left n q w j; held = cleared-by z h lz l8 x j };
+          counted = sym (ap length (none-left n q w));
+          room = omega arith;
+          place = room-cleared z h lz l8 x;
+          sent = refl;
+        })
+
+    pub begins : (st : ℕ) (r : Reply) → o ≡ answers (begun st (holding n q h)) none r old → p ≡ beginning n z st r → Comes n q h b x old o p
+    unfolding numberOf noticeOf sentIn endpointAfter queueAfter noticeNumber
+    begins st r g e =
+        rw (g, e)
+        (record {
+          number = refl;
+          notice = refl;
+          endpoint = λ j. record { state = st; local = n .local + 1; remote = 0; accepted = 0; delivered = 0; queue = none-left n q w j; held = cleared-by z h lz l8 x j };
+          counted = sym (ap length (none-left n q w));
+          room = omega arith;
+          place = room-cleared z h lz l8 x;
+          sent = refl;
+        })
+
+  pub releases : (m : ℕ) → n .waiting ≤ n .accepted → m ≤ n .accepted → o ≡ ok (quiet (table.releasing m (holding n q h)) none)
+      → p ≡ releasingPlan n (m - (n .accepted - n .waiting)) → Comes n q h b x old o p
+  unfolding numberOf noticeOf sentIn endpointAfter queueAfter heldAfter sentBy noticeNumber
+  releases m lo hi g e =
       let k = m - (n .accepted - n .waiting) in
-      rw (h, e)
+      rw (g, e)
       (record {
         number = refl;
         notice = refl;
-        endpoint = ap (λ (j : ℕ). holding n (drop (m - (n .accepted - j)) q)) (sym w);
+        endpoint = ap (λ (j : ℕ). holding n (drop (m - (n .accepted - j)) q) h) (sym w);
         counted = omega (arith, length-drop k q);
         room = omega arith;
+        place = tt;
         sent = refl;
       })
 
--- the block that joins is the request's
-after-joined : (k : Queue) (s : List ℕ) (q : List Block) → queueAfter k (drop sendBlockAt s) q ≡ queueAfter k (joinedBy k s) q
-unfolding queueAfter joinedBy
-after-joined Keep s q = refl
-after-joined Join s q = refl
-after-joined (Release k) s q = refl
+-- the block that joins is that of the request, or of the frame
+module _ (at : ℕ) (s : List ℕ) where
+  queue-joined : (k : Places) (q : List Block) → queueAfter k (drop at s) q ≡ queueAfter k (joinedBy k at s) q
+  unfolding queueAfter joinedBy
+  queue-joined Keep q = refl
+  queue-joined (Join i) q = refl
+  queue-joined (Release k) q = refl
 
-out-joined : (k : Queue) (s : List ℕ) (old : Block) → blockOut k (drop sendBlockAt s) old ≡ blockOut k (joinedBy k s) old
-unfolding joinedBy
-out-joined Keep s old = refl
-out-joined Join s old = refl
-out-joined (Release k) s old = refl
+  held-joined : (k : Places) (h : List Block) → heldAfter k (drop at s) h ≡ heldAfter k (joinedBy k at s) h
+  unfolding heldAfter joinedBy
+  held-joined Keep h = refl
+  held-joined (Join i) h = refl
+  held-joined (Release k) h = refl
 
-room-joined : (k : Queue) (s : List ℕ) (w : ℕ) → Room k (drop sendBlockAt s) w → Room k (joinedBy k s) w
-unfolding joinedBy
-room-joined Keep s w r = r
-room-joined Join s w r = r
-room-joined (Release k) s w r = r
+  out-joined : (k : Places) (old : Block) → blockOut k (drop at s) old ≡ blockOut k (joinedBy k at s) old
+  unfolding joinedBy
+  out-joined Keep old = refl
+  out-joined (Join i) old = refl
+  out-joined (Release k) old = refl
 
-pub by-joined : {n : Numbers} {q : List Block} (s : List ℕ) {old : Block} {o : Outcome Step} {p : Plan} → Comes n q (drop sendBlockAt s) old o p
-    → Comes n q (joinedBy (p .queue) s) old o p
-by-joined {q = q} s {old} {p = p} c =
+  room-joined : (k : Places) (w : ℕ) → Room k (drop at s) w → Room k (joinedBy k at s) w
+  unfolding joinedBy
+  room-joined Keep w r = r
+  room-joined (Join i) w r = r
+  room-joined (Release k) w r = r
+
+  place-joined : (k : Places) (h : List Block) → HeldRoom k (drop at s) h → HeldRoom k (joinedBy k at s) h
+  unfolding joinedBy
+  place-joined Keep h r = r
+  place-joined (Join i) h r = r
+  place-joined (Release k) h r = r
+
+  long : 1 ≤ length (drop at s) → at ≤ length s
+  long h = omega (arith, length-drop at s)
+
+  pub queue-reaches : (k : Places) (w : ℕ) → Room k (joinedBy k at s) w → Reaches k at s
+  unfolding joinedBy
+  queue-reaches Keep w r = tt
+  queue-reaches (Join i) w r = long (r .1 .1 .0)
+  queue-reaches (Release k) w r = tt
+
+  pub held-reaches : (k : Places) (h : List Block) → HeldRoom k (joinedBy k at s) h → Reaches k at s
+  unfolding joinedBy
+  held-reaches Keep h r = tt
+  held-reaches (Join i) h r = long (r .1 .1 .0)
+  held-reaches (Release k) h r = tt
+
+  pub queue-short : (k : Places) (w : ℕ) → Room k (joinedBy k at s) w → length (joinedBy k at s) ≤ longestBlock
+  unfolding joinedBy
+  queue-short Keep w r = omega arith
+  queue-short (Join i) w r = r .1 .1 .1
+  queue-short (Release k) w r = omega arith
+
+  pub held-short : (k : Places) (h : List Block) → HeldRoom k (joinedBy k at s) h → length (joinedBy k at s) ≤ longestBlock
+  unfolding joinedBy
+  held-short Keep h r = omega arith
+  held-short (Join i) h r = r .1 .1 .1
+  held-short (Release k) h r = omega arith
+
+pub by-joined : {n : Numbers} {q h : List Block} (s : List ℕ) {old : Block} {o : Outcome Step} {p : Plan}
+    → Comes n q h (drop sendBlockAt s) (drop dataBlockAt s) old o p
+    → Comes n q h (joinedBy (p .queue) sendBlockAt s) (joinedBy (p .held) dataBlockAt s) old o p
+by-joined {q = q} {h} s {old} {p = p} c =
     record {
       number = c .number;
       notice = c .notice;
-      endpoint = rw (after-joined (p .queue) s q) at (c .endpoint);
-      counted = rw (after-joined (p .queue) s q) at (c .counted);
-      room = room-joined (p .queue) s (length q) (c .room);
-      sent = rw (out-joined (p .queue) s old) at (c .sent);
+      endpoint = rw (queue-joined sendBlockAt s (p .queue) q, held-joined dataBlockAt s (p .held) h) at (c .endpoint);
+      counted = rw (queue-joined sendBlockAt s (p .queue) q) at (c .counted);
+      room = room-joined sendBlockAt s (p .queue) (length q) (c .room);
+      place = place-joined dataBlockAt s (p .held) h (c .place);
+      sent = rw (out-joined sendBlockAt s (p .queue) old) at (c .sent);
     }
-
-pub joined-short : (k : Queue) (s : List ℕ) (w : ℕ) → Room k (joinedBy k s) w → length (joinedBy k s) ≤ longestBlock
-unfolding joinedBy
-joined-short Keep s w r = omega arith
-joined-short Join s w r = r .1 .1
-joined-short (Release k) s w r = omega arith

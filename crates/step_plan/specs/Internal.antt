@@ -1,54 +1,73 @@
--- A plan: what a call does to the numbers of a record, what becomes of its waiting blocks, and what is sent. No public call's contract needs
--- this.
+-- A plan: what a call does to the numbers of a record, what becomes of its waiting blocks and of those held, and what is sent. No public
+-- call's contract needs this.
 use Prim.Native.Nat.{ℕ, _≤_, _<_, _+_, _-_}
 use mathlib.Core.Path.{_≡_}
+use mathlib.Core.Logic.{_≢_}
 use mathlib.Core.List.{List, [], _∷_, _++_}
-use lib.ListN.{length, take, drop}
-use Rattle.frame.specs.Layout.{dataBlockAt, sendBlockAt}
-use Rattle.octets.specs.Sizes.{longestBlock, queueSize}
-use Rattle.octets.specs.Test.{ifEq, Outcome, refused, ok, numberOf}
+use lib.ListN.{length, drop, getD, replicate}
+use Rattle.octets.specs.Sizes.{longestBlock, queueSize, heldSize}
+use Rattle.octets.specs.Test.{when, ifEq, zeros, Outcome, numberOf}
 use Rattle.octets.specs.Octets.{put}
 use Rattle.frame.specs.Frame.{Block}
+use Rattle.frame.specs.declared.Header.the-variants.{Ack}
 use Rattle.frame.specs.Answer.{frameOf}
-use Rattle.protocol.specs.Endpoint.{Endpoint}
-use Rattle.protocol.specs.Table.{Sent, nothing, frame, Step, noticeNumber, Notice, none, connected, rejected, closedByPartner, closeFinished, handedUp}
+use Rattle.protocol.specs.Endpoint.{Endpoint, lengthsOf}
+use Rattle.protocol.specs.Table.{Sent, nothing, frame, Step, heldAt}
 use Rattle.call_spec.specs.Calls.{wire}
 use Rattle.call_spec.specs.Answers.{noticeOf, sentIn, endpointAfter}
 use Rattle.step_rules.specs.declared.Numbers.{Numbers}
 use Rattle.step_rules.specs.Internal.{holding}
-use Rattle.step_plan.specs.declared.Queue.{Queue}
-use Rattle.step_plan.specs.declared.Queue.the-variants.{Keep, Join, Release}
+use Rattle.step_plan.specs.declared.Places.{Places}
+use Rattle.step_plan.specs.declared.Places.the-variants.{Keep, Join, Release}
 use Rattle.step_plan.specs.declared.Reply.{Reply}
 use Rattle.step_plan.specs.declared.Reply.the-variants as reply
 use Rattle.step_plan.specs.declared.Plan.{Plan}
-use Rattle.step_plan.specs.declared.Reply.the-variants.{Nothing}
+use Rattle.step_plan.specs.declared.Reply.the-variants.{Nothing, Frame}
 
--- the block that a notice tells of: all that follows octet 14 with notice 5, else none
-unfoldable pub blockBy : ℕ → List ℕ → Block
-blockBy n s = ifEq n 5 (drop dataBlockAt s) []
+-- the block that a notice tells of: with notice 5 that of the DATA received or, of a request, the first of the held ones; else none
+unfoldable pub blockBy : ℕ → Block → Block
+blockBy n b = ifEq n 5 b []
 
--- the block that joins: octets 2 on of a send request; none where none joins
-unfoldable pub joinedBy : Queue → List ℕ → Block
-joinedBy Keep s = []
-joinedBy Join s = drop sendBlockAt s
-joinedBy (Release k) s = []
+-- the block that joins some places, which is what follows in the octets s from at on; none where none joins
+unfoldable pub joinedBy : Places → ℕ → List ℕ → Block
+joinedBy Keep at s = []
+joinedBy (Join i) at s = drop at s
+joinedBy (Release k) at s = []
+
+-- s is that long
+abbrev pub Reaches : Places → ℕ → List ℕ → Type 0
+Reaches Keep at s = Unit {0}
+Reaches (Join i) at s = at ≤ length s
+Reaches (Release k) at s = Unit {0}
 
 -- the waiting blocks q after the plan; b is the block that joins
-unfoldable pub queueAfter : Queue → Block → List Block → List Block
+unfoldable pub queueAfter : Places → Block → List Block → List Block
 queueAfter Keep b q = q
-queueAfter Join b q = q ++ (b ∷ [])
+queueAfter (Join i) b q = q ++ (b ∷ [])
 queueAfter (Release k) b q = drop k q
 
--- where b joins w blocks there is a place for it, and no more leave than wait
-abbrev pub Room : Queue → Block → ℕ → Type 0
+-- where b joins w blocks there is a place for it, the next one, and no more leave than wait
+abbrev pub Room : Places → Block → ℕ → Type 0
 Room Keep b w = Unit {0}
-Room Join b w = (w < queueSize) × ((1 ≤ length b) × (length b ≤ longestBlock))
+Room (Join i) b w = (i ≡ w) × ((w < queueSize) × ((1 ≤ length b) × (length b ≤ longestBlock)))
 Room (Release k) b w = k ≤ w
 
+-- the held blocks h in their eight places after the plan; x is the block that joins
+unfoldable pub heldAfter : Places → Block → List Block → List Block
+heldAfter Keep x h = h
+heldAfter (Join i) x h = heldAt i x h
+heldAfter (Release k) x h = drop k h ++ replicate k []
+
+-- where x joins, none is held at its place; where some leave, they are no more than there are places, and something changes
+abbrev pub HeldRoom : Places → Block → List Block → Type 0
+HeldRoom Keep x h = Unit {0}
+HeldRoom (Join i) x h = (i < heldSize) × ((getD h i [] ≡ []) × ((1 ≤ length x) × (length x ≤ longestBlock)))
+HeldRoom (Release k) x h = (k ≤ heldSize) × (drop k h ++ replicate k [] ≢ h)
+
 -- the block that goes out with a DATA: the one that joins, else the oldest
-abbrev pub blockOut : Queue → Block → Block → Block
+abbrev pub blockOut : Places → Block → Block → Block
 blockOut Keep b old = old
-blockOut Join b old = b
+blockOut (Join i) b old = b
 blockOut (Release k) b old = old
 
 unfoldable pub sentBy : Reply → Block → Sent
@@ -60,18 +79,21 @@ abbrev pub Oldest : List Block → Block → Type 0
 Oldest [] old = Unit {0}
 Oldest (b ∷ q) old = b ≡ old
 
--- The plan p comes to the outcome o, of an endpoint with these numbers and the waiting blocks q.
-pub record Comes (n : Numbers) (q : List Block) (b old : Block) (o : Outcome Step) (p : Plan) : Type 0 where
+-- The plan p comes to the outcome o, of an endpoint with these numbers, the waiting blocks q and the held ones h; b is the block that
+-- joins those that wait, x the one that joins those held, old the oldest.
+pub record Comes (n : Numbers) (q h : List Block) (b x old : Block) (o : Outcome Step) (p : Plan) : Type 0 where
   pub number : p .number ≡ numberOf o
   pub notice : p .notice ≡ noticeOf o
-  pub endpoint : holding (p .numbers) (queueAfter (p .queue) b q) ≡ endpointAfter (holding n q) o
+  pub endpoint : holding (p .numbers) (queueAfter (p .queue) b q) (heldAfter (p .held) x h) ≡ endpointAfter (holding n q h) o
   pub counted : p .numbers .waiting ≡ length (queueAfter (p .queue) b q)
   pub room : Room (p .queue) b (length q)
+  pub place : HeldRoom (p .held) x h
   pub sent : sentBy (p .reply) (blockOut (p .queue) b old) ≡ sentIn o
 
--- of every endpoint of these numbers, where b is the block that joins
-abbrev pub Planned : Numbers → Block → (Endpoint → Outcome Step) → Plan → Type 0
-Planned n b does p = (q : List Block) (old : Block) → length q ≡ n .waiting → Oldest q old → Comes n q b old (does (holding n q)) p
+-- of every endpoint of these numbers, whose held blocks have the lengths z
+abbrev pub Planned : Numbers → List ℕ → Block → Block → (Endpoint → Outcome Step) → Plan → Type 0
+Planned n z b x does p =
+    (q h : List Block) (old : Block) → length q ≡ n .waiting → Oldest q old → lengthsOf h ≡ z → Comes n q h b x old (does (holding n q h)) p
 
 -- What is left in the buffer where x is sent, and the count of its octets.
 pub record Sends (x : Sent) (out out′ : List ℕ) (n : ℕ) : Type 0 where
@@ -82,37 +104,59 @@ pub record Sends (x : Sent) (out out′ : List ℕ) (n : ℕ) : Type 0 where
 
 -- nothing is done
 abbrev pub refusedPlan : Numbers → ℕ → Plan
-refusedPlan n k = record { number = k; numbers = n; queue = Keep; notice = 0; reply = Nothing }
+refusedPlan n k = record { number = k; numbers = n; queue = Keep; held = Keep; notice = 0; reply = Nothing }
 
 -- the blocks stay
 abbrev pub keeping : Numbers → ℕ → Reply → Plan
-keeping n noticeNumber reply = record { number = 0; numbers = n; queue = Keep; notice = noticeNumber; reply = reply }
+keeping n noticeNumber reply = record { number = 0; numbers = n; queue = Keep; held = Keep; notice = noticeNumber; reply = reply }
+
+-- the first k held places, of these lengths, leave; where nothing is held, they stay
+unfoldable pub leaving : List ℕ → ℕ → Places
+leaving z k = when (zeros z) Keep (Release k)
+
+-- one block more is handed up, and the held places move down
+abbrev pub deliveringNumbers : Numbers → Numbers
+deliveringNumbers n =
+    record { state = n .state; local = n .local; remote = n .remote; accepted = n .accepted; delivered = n .delivered + 1; waiting = n .waiting }
+
+abbrev pub handing : Numbers → List ℕ → Plan
+handing n z =
+    record {
+      number = 0;
+      numbers = deliveringNumbers n;
+      queue = Keep;
+      held = leaving z 1;
+      notice = 5;
+      reply = Frame (Ack (n .local) (n .remote) (n .delivered + 1));
+    }
 
 -- all blocks leave, in the same incarnation and in the next
-abbrev pub turning : Numbers → ℕ → ℕ → ℕ → Reply → Plan
-turning n st d noticeNumber reply =
+abbrev pub turning : Numbers → List ℕ → ℕ → ℕ → ℕ → Reply → Plan
+turning n z st d noticeNumber reply =
     record {
       number = 0;
       numbers = record { state = st; local = n .local; remote = d; accepted = 0; delivered = 0; waiting = 0 };
       queue = Release (n .waiting);
+      held = leaving z heldSize;
       notice = noticeNumber;
       reply = reply;
     }
 
-abbrev pub beginning : Numbers → ℕ → Reply → Plan
-beginning n st reply =
+abbrev pub beginning : Numbers → List ℕ → ℕ → Reply → Plan
+beginning n z st reply =
     record {
       number = 0;
       numbers = record { state = st; local = n .local + 1; remote = 0; accepted = 0; delivered = 0; waiting = 0 };
       queue = Release (n .waiting);
+      held = leaving z heldSize;
       notice = 0;
       reply = reply;
     }
 
--- one block more is handed up
-abbrev pub deliveringNumbers : Numbers → Numbers
-deliveringNumbers n =
-    record { state = n .state; local = n .local; remote = n .remote; accepted = n .accepted; delivered = n .delivered + 1; waiting = n .waiting }
+-- the frame's block is held at place i
+abbrev pub holdingPlan : Numbers → ℕ → Plan
+holdingPlan n i =
+    record { number = 0; numbers = n; queue = Keep; held = Join i; notice = 0; reply = Frame (Ack (n .local) (n .remote) (n .delivered)) }
 
 -- the k oldest blocks leave
 abbrev pub releasingPlan : Numbers → ℕ → Plan
@@ -121,6 +165,7 @@ releasingPlan n k =
       number = 0;
       numbers = record { state = n .state; local = n .local; remote = n .remote; accepted = n .accepted; delivered = n .delivered; waiting = n .waiting - k };
       queue = Release k;
+      held = Keep;
       notice = 0;
       reply = Nothing;
     }

@@ -1,13 +1,15 @@
-// What a call of an end comes to, planned from the numbers of its record alone. Whoever holds the record carries the plan out.
+// What a call of an end comes to, planned from the numbers of its record and the lengths of its held blocks. Whoever holds the record carries the plan out.
+use call_spec::Call;
 use frame::Header;
 use step_rules::Numbers;
 ghost use mathlib.Core.Path.{_≡_};
-ghost use Prim.Native.Nat.{ℕ, _≤_};
-ghost use lib.ListN.{length};
-ghost use Rattle.octets.specs.Sizes.{longestFrame, longestBlock};
+ghost use Prim.Native.Nat.{_≤_, _<_};
+ghost use lib.ListN.{length, drop};
+ghost use Rattle.octets.specs.Sizes.{longestFrame, longestBlock, lastNumber};
 ghost use Rattle.frame.specs.Layout.{dataBlockAt};
-ghost use Rattle.step_plan.specs.Internal.{blockBy, joinedBy, Room, blockOut, sentBy, Sends};
-ghost use Rattle.step_plan.specs.Internal.{refusedPlan, keeping, turning};
+ghost use Rattle.call_spec.specs.Answers.{blockPart};
+ghost use Rattle.step_plan.specs.Internal.{blockBy, joinedBy, Reaches, blockOut, sentBy, Sends};
+ghost use Rattle.step_plan.specs.Internal.{refusedPlan, keeping, leaving, handing, turning};
 
 // The number of an answer that refuses nothing.
 pub const ACCEPTED: u8 = 0;
@@ -25,10 +27,10 @@ pub const CLOSE_FINISHED: u8 = 4;
 
 pub const HANDED_UP: u8 = 5;
 
-// What becomes of the waiting blocks: they stay; the request's block joins; so many of the oldest leave.
-pub enum Queue {
+// What becomes of places for blocks: they stay; a block joins at this place; so many of the first leave, and the others move down.
+pub enum Places {
     Keep,
-    Join,
+    Join(usize),
     Release(usize),
 }
 
@@ -38,11 +40,13 @@ pub enum Reply {
     Frame(Header),
 }
 
-// number is document 01's number of the refusal, 0 for success; numbers the new ones of the record; notice the number of its notice.
+// number is document 01's number of the refusal, 0 for success; numbers the new ones of the record; queue what becomes of the waiting
+// blocks, where a send's block joins; held what becomes of the held ones, where a DATA's block does; notice the number of its notice.
 pub struct Plan {
     pub number: u8,
     pub numbers: Numbers,
-    pub queue: Queue,
+    pub queue: Places,
+    pub held: Places,
     pub notice: u8,
     pub reply: Reply,
 }
@@ -54,7 +58,8 @@ pub fn refuse(given: Numbers, number: u8) -> Plan
     Plan {
         number,
         numbers: given,
-        queue: Queue::Keep,
+        queue: Places::Keep,
+        held: Places::Keep,
         notice: NONE,
         reply: Reply::Nothing,
     }
@@ -67,15 +72,53 @@ pub fn keep(n: Numbers, notice: u8, reply: Reply) -> Plan
     Plan {
         number: ACCEPTED,
         numbers: n,
-        queue: Queue::Keep,
+        queue: Places::Keep,
+        held: Places::Keep,
         notice,
         reply,
     }
 }
 
+// So many of the held places leave, whose lengths these are. Where nothing is held, nothing need move.
+pub fn leave(held: &[u8], gone: usize) -> Places
+    ensures { λ r. ⌜ r ≡ leaving (now (held .entry)) gone ⌝ }
+{
+    if octets::is_clear(held) {
+        return Places::Keep;
+    }
+    Places::Release(gone)
+}
+
+// One block more is handed up, the frame's or the held one: e + 1, and the held places, whose lengths these are, move down.
+pub fn hand_up(n: Numbers, held: &[u8]) -> Plan
+    requires { ⌜ n .delivered < lastNumber ⌝ }
+    ensures { λ r. ⌜ r ≡ handing n (now (held .entry)) ⌝ }
+{
+    let count = n.delivered + 1;
+    Plan {
+        number: ACCEPTED,
+        numbers: Numbers {
+            state: n.state,
+            local: n.local,
+            remote: n.remote,
+            accepted: n.accepted,
+            delivered: count,
+            waiting: n.waiting,
+        },
+        queue: Places::Keep,
+        held: leave(held, 1),
+        notice: HANDED_UP,
+        reply: Reply::Frame(Header::Ack {
+            sender: n.local,
+            quoted: n.remote,
+            count,
+        }),
+    }
+}
+
 // The same incarnation in another state, with this partner. Only an open end has blocks, and it begins with none: all leave.
-pub fn turn(n: Numbers, state: u8, remote: u32, notice: u8, reply: Reply) -> Plan
-    ensures { λ r. ⌜ r ≡ turning n state remote notice reply ⌝ }
+pub fn turn(n: Numbers, held: &[u8], state: u8, remote: u32, notice: u8, reply: Reply) -> Plan
+    ensures { λ r. ⌜ r ≡ turning n (now (held .entry)) state remote notice reply ⌝ }
 {
     Plan {
         number: ACCEPTED,
@@ -87,7 +130,8 @@ pub fn turn(n: Numbers, state: u8, remote: u32, notice: u8, reply: Reply) -> Pla
             delivered: 0,
             waiting: 0,
         },
-        queue: Queue::Release(n.waiting as usize),
+        queue: Places::Release(n.waiting as usize),
+        held: leave(held, octets::HELD_SIZE),
         notice,
         reply,
     }
@@ -104,15 +148,15 @@ fn write(reply: Reply, block: &[u8], out: &mut [u8]) -> usize
     }
 }
 
-// The block that joins the waiting ones, a part of the request s; empty where none joins.
-pub fn joined<'a>(queue: Queue, s: &'a [u8]) -> &'a [u8]
-    requires { ⌜ ((w : ℕ) × Room queue (joinedBy queue (now s)) w) ⌝ }
-    ensures { λ r. ⌜ now r ≡ joinedBy queue (now (s .entry)) ⌝ }
+// The block that joins some places, which is what follows in the octets s from at on; empty where none joins.
+pub fn joined<'a>(places: Places, at: usize, s: &'a [u8]) -> &'a [u8]
+    requires { ⌜ Reaches places at (now s) ⌝ }
+    ensures { λ r. ⌜ now r ≡ joinedBy places at (now (s .entry)) ⌝ }
 {
-    match queue {
-        Queue::Keep => &s[..0],
-        Queue::Join => &s[frame::SEND_BLOCK_AT..],
-        Queue::Release(_) => &s[..0],
+    match places {
+        Places::Keep => &s[..0],
+        Places::Join(_) => &s[at..],
+        Places::Release(_) => &s[..0],
     }
 }
 
@@ -124,19 +168,33 @@ pub fn send_reply(p: Plan, joined: &[u8], oldest: &[u8], out: &mut [u8]) -> usiz
     let queue = p.queue;
     let reply = p.reply;
     match queue {
-        Queue::Keep => write(reply, oldest, out),
-        Queue::Join => write(reply, joined, out),
-        Queue::Release(_) => write(reply, oldest, out),
+        Places::Keep => write(reply, oldest, out),
+        Places::Join(_) => write(reply, joined, out),
+        Places::Release(_) => write(reply, oldest, out),
     }
 }
 
 // The block that a notice tells of, a part of the frame s received; empty where none is handed up.
 pub fn handed_up<'a>(notice: u8, s: &'a [u8]) -> &'a [u8]
     requires { ⌜ (notice ≡ 5 → dataBlockAt ≤ length (now s)) ⌝ }
-    ensures { λ r. ⌜ now r ≡ blockBy notice (now (s .entry)) ⌝ }
+    ensures { λ r. ⌜ now r ≡ blockBy notice (drop dataBlockAt (now (s .entry))) ⌝ }
 {
     if notice != HANDED_UP {
         return &s[..0];
     }
     &s[frame::DATA_BLOCK_AT..]
+}
+
+// The block handed up, of so many octets: a part of the frame s received; of a request, the start of up.
+pub fn block_part<'a>(call: Call, s: &'a [u8], up: &'a [u8], n: usize) -> &'a [u8]
+    requires { ⌜ length (blockPart call (now s) (now up) n) ≡ n ⌝ }
+    ensures { λ r. ⌜ now r ≡ blockPart call (now (s .entry)) (now (up .entry)) n ⌝ }
+{
+    if n == 0 {
+        return &s[..0];
+    }
+    match call {
+        Call::Request => &up[..n],
+        Call::Receive => &s[frame::DATA_BLOCK_AT..frame::DATA_BLOCK_AT + n],
+    }
 }

@@ -1,5 +1,5 @@
 -- What the requests answer, a question at a time.
-use Prim.Native.Nat.{ℕ, _-_, _≤_, _<_}
+use Prim.Native.Nat.{ℕ, _+_, _-_, _≤_, _<_}
 use mathlib.Core.Path.{_≡_, refl, sym, ap, _∙_}
 use mathlib.Core.Logic.{_≢_}
 use mathlib.Core.Bool.{Bool}
@@ -7,14 +7,14 @@ use mathlib.Core.List.{List, [], _∷_}
 use native.Mathlib.Omega.{arith}
 use borrow.Author.Tests.{eq-eqb, ne-eqb, lt-ltb, le-ltb, ltb-true}
 use lib.Dec.{ltb, eqb}
-use lib.ListN.{length}
+use lib.ListN.{length, getD}
 use Rattle.octets.specs.Sizes.{lastNumber, queueSize}
 use Rattle.octets.specs.Test.{first, refused, ok, outcome}
 use Rattle.octets.proofs.Test.{picks, no, yes, done, all-yes, refused-of, no-before, all-before}
-use Rattle.frame.specs.Frame.{Block, Frame, Request, dataFrame, endListening, close, timer, send}
+use Rattle.frame.specs.Frame.{Block, Frame, Request, dataFrame, ackFrame, endListening, close, timer, collect, send}
 use Rattle.protocol.specs.Endpoint.{listening, established, Endpoint, waiting}
-use Rattle.protocol.specs.Table.{none, Sent, nothing, frame, quiet, says}
-use Rattle.protocol.specs.Requests.{placeLeft, questions, refusal, accept, request, oldest, resent}
+use Rattle.protocol.specs.Table.{none, handedUp, Sent, nothing, frame, quiet, says, delivering}
+use Rattle.protocol.specs.Requests.{placeLeft, questions, refusal, collected, accept, request, oldest, resent}
 use Rattle.step_plan.specs.Internal.{Oldest}
 
 -- where a number is left
@@ -46,6 +46,33 @@ module _ (a : Endpoint) where
   pub close-0 : a .state ≡ established → request close a ≡ ok (accept close a)
   unfolding request refusal questions
   close-0 h = yes (accept close a) 8 (eqb (a .state) established) _ (eq-eqb (a .state) established h) ∙ done (accept close a)
+
+  pub collect-8 : a .state ≢ established → request collect a ≡ refused 8
+  unfolding request refusal questions
+  collect-8 h = no (accept collect a) 7 (eqb (a .state) established) _ (ne-eqb (a .state) established h)
+
+  collect-0 : a .state ≡ established → request collect a ≡ ok (accept collect a)
+  unfolding request refusal questions
+  collect-0 h = yes (accept collect a) 8 (eqb (a .state) established) _ (eq-eqb (a .state) established h) ∙ done (accept collect a)
+
+  collected-none : (b : Block) → length b ≡ 0 → collected a b ≡ quiet a none
+  unfolding collected
+  collected-none [] h = refl
+  collected-none (x ∷ b) h = absurd (omega arith)
+
+  collected-some : (b : Block) → 1 ≤ length b → collected a b ≡ says (delivering a) (handedUp b) (ackFrame (a .local) (a .remote) (a .delivered + 1))
+  unfolding collected
+  collected-some [] h = absurd (omega arith)
+  collected-some (x ∷ b) h = refl
+
+  pub collect-none : a .state ≡ established → length (getD (a .held) 0 []) ≡ 0 → request collect a ≡ ok (quiet a none)
+  unfolding accept
+  collect-none h n = collect-0 h ∙ ap ok (collected-none (getD (a .held) 0 []) n)
+
+  pub collect-some : a .state ≡ established → 1 ≤ length (getD (a .held) 0 [])
+      → request collect a ≡ ok (says (delivering a) (handedUp (getD (a .held) 0 [])) (ackFrame (a .local) (a .remote) (a .delivered + 1)))
+  unfolding accept
+  collect-some h n = collect-0 h ∙ ap ok (collected-some (getD (a .held) 0 []) n)
 
   pub timer-0 : request timer a ≡ ok (accept timer a)
   unfolding request refusal questions

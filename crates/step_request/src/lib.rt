@@ -1,4 +1,4 @@
-// Requests and the timer call, planned from the numbers of a record.
+// Requests and the timer call, planned from the numbers of a record and the lengths of its held blocks.
 use frame::Header;
 use frame::RequestKind;
 use frame::RequestRead;
@@ -6,8 +6,8 @@ use octets::LAST_NUMBER;
 use octets::refusal;
 use step_plan::ACCEPTED;
 use step_plan::NONE;
+use step_plan::Places;
 use step_plan::Plan;
-use step_plan::Queue;
 use step_plan::Reply;
 use step_rules::ACTIVE_OPENING;
 use step_rules::CLOSED;
@@ -17,13 +17,13 @@ use step_rules::LISTENING;
 use step_rules::Numbers;
 use step_rules::PASSIVE_OPENING;
 ghost use mathlib.Core.Path.{_≡_};
-ghost use Prim.Native.Nat.{_≤_, _<_};
-ghost use mathlib.Core.List.{[], _∷_};
+ghost use Prim.Native.Nat.{ℕ, _≤_, _<_};
+ghost use mathlib.Core.List.{List, [], _∷_};
 ghost use lib.Dec.{ltb, eqb};
-ghost use lib.ListN.{length, drop};
-ghost use Rattle.octets.specs.Sizes.{longestBlock, lastNumber};
+ghost use lib.ListN.{length, drop, getD};
+ghost use Rattle.octets.specs.Sizes.{longestBlock, heldSize, lastNumber};
 ghost use Rattle.octets.specs.Test.{first};
-ghost use Rattle.frame.specs.Frame.{Block, connect, listen, endListening, close, timer, send};
+ghost use Rattle.frame.specs.Frame.{Block, connect, listen, endListening, close, timer, collect, send};
 ghost use Rattle.frame.specs.Layout.{sendBlockAt};
 ghost use Rattle.frame.specs.Answer.{requestOf};
 ghost use Rattle.protocol.specs.Requests.{request};
@@ -51,9 +51,9 @@ fn refusal_of(n: Numbers, allowed: u8, number: u32) -> u8
 }
 
 // The next incarnation in this state, with no partner known.
-fn begin(n: Numbers, state: u8, reply: Reply) -> Plan
+fn begin(n: Numbers, held: &[u8], state: u8, reply: Reply) -> Plan
     requires { ⌜ n .local < lastNumber ⌝ }
-    ensures { λ r. ⌜ r ≡ beginning n state reply ⌝ }
+    ensures { λ r. ⌜ r ≡ beginning n (now (held .entry)) state reply ⌝ }
 {
     Plan {
         number: ACCEPTED,
@@ -65,14 +65,16 @@ fn begin(n: Numbers, state: u8, reply: Reply) -> Plan
             delivered: 0,
             waiting: 0,
         },
-        queue: Queue::Release(n.waiting as usize),
+        queue: Places::Release(n.waiting as usize),
+        held: step_plan::leave(held, octets::HELD_SIZE),
         notice: NONE,
         reply,
     }
 }
 
-fn connect(n: Numbers) -> Plan
-    ensures { λ r. ⌜ ((b : Block) → Planned n b (request connect) r) ⌝ }
+fn connect(n: Numbers, held: &[u8]) -> Plan
+    requires { ⌜ length (now held) ≡ heldSize ⌝ }
+    ensures { λ r. ⌜ ((b x : Block) → Planned n (now (held .entry)) b x (request connect) r) ⌝ }
 {
     let refusal = refusal_of(n, CLOSED, n.local);
     if refusal != 0 {
@@ -80,6 +82,7 @@ fn connect(n: Numbers) -> Plan
     }
     begin(
         n,
+        held,
         ACTIVE_OPENING,
         Reply::Frame(Header::Crao {
             sender: n.local + 1,
@@ -88,27 +91,30 @@ fn connect(n: Numbers) -> Plan
     )
 }
 
-fn listen(n: Numbers) -> Plan
-    ensures { λ r. ⌜ ((b : Block) → Planned n b (request listen) r) ⌝ }
+fn listen(n: Numbers, held: &[u8]) -> Plan
+    requires { ⌜ length (now held) ≡ heldSize ⌝ }
+    ensures { λ r. ⌜ ((b x : Block) → Planned n (now (held .entry)) b x (request listen) r) ⌝ }
 {
     let refusal = refusal_of(n, CLOSED, n.local);
     if refusal != 0 {
         return step_plan::refuse(n, refusal);
     }
-    begin(n, LISTENING, Reply::Nothing)
+    begin(n, held, LISTENING, Reply::Nothing)
 }
 
-fn end_listening(n: Numbers) -> Plan
-    ensures { λ r. ⌜ ((b : Block) → Planned n b (request endListening) r) ⌝ }
+fn end_listening(n: Numbers, held: &[u8]) -> Plan
+    requires { ⌜ length (now held) ≡ heldSize ⌝ }
+    ensures { λ r. ⌜ ((b x : Block) → Planned n (now (held .entry)) b x (request endListening) r) ⌝ }
 {
     if n.state != LISTENING {
         return step_plan::refuse(n, refusal::WRONG_STATE);
     }
-    step_plan::turn(n, CLOSED, 0, NONE, Reply::Nothing)
+    step_plan::turn(n, held, CLOSED, 0, NONE, Reply::Nothing)
 }
 
-fn close(n: Numbers) -> Plan
-    ensures { λ r. ⌜ ((b : Block) → Planned n b (request close) r) ⌝ }
+fn close(n: Numbers, held: &[u8]) -> Plan
+    requires { ⌜ length (now held) ≡ heldSize ⌝ }
+    ensures { λ r. ⌜ ((b x : Block) → Planned n (now (held .entry)) b x (request close) r) ⌝ }
 {
     if n.state != ESTABLISHED {
         return step_plan::refuse(n, refusal::WRONG_STATE);
@@ -116,12 +122,12 @@ fn close(n: Numbers) -> Plan
     let sender = n.local;
     let quoted = n.remote;
     let reply = Reply::Frame(Header::Dr { sender, quoted });
-    step_plan::turn(n, CLOSING, quoted, NONE, reply)
+    step_plan::turn(n, held, CLOSING, quoted, NONE, reply)
 }
 
 // The block joins the waiting ones as number t; then t + 1.
 fn send(n: Numbers) -> Plan
-    ensures { λ r. ⌜ ((b : Block) → 1 ≤ length b → length b ≤ longestBlock → Planned n b (request (send b)) r) ⌝ }
+    ensures { λ r. ⌜ ((z : List ℕ) (b x : Block) → 1 ≤ length b → length b ≤ longestBlock → Planned n z b x (request (send b)) r) ⌝ }
 {
     let refusal = refusal_of(n, ESTABLISHED, n.accepted);
     if refusal != 0 {
@@ -140,7 +146,8 @@ fn send(n: Numbers) -> Plan
             delivered: n.delivered,
             waiting: n.waiting + 1,
         },
-        queue: Queue::Join,
+        queue: Places::Join(n.waiting as usize),
+        held: Places::Keep,
         notice: NONE,
         reply: Reply::Frame(Header::Data {
             sender: n.local,
@@ -153,7 +160,7 @@ fn send(n: Numbers) -> Plan
 // The timer call: sends again what the partner may not have heard. The oldest waiting block has number t - w.
 fn timer(n: Numbers) -> Plan
     requires { ⌜ n .waiting ≤ n .accepted ⌝ }
-    ensures { λ r. ⌜ ((b : Block) → Planned n b (request timer) r) ⌝ }
+    ensures { λ r. ⌜ ((z : List ℕ) (b x : Block) → Planned n z b x (request timer) r) ⌝ }
 {
     let sender = n.local;
     let quoted = n.remote;
@@ -184,29 +191,45 @@ fn timer(n: Numbers) -> Plan
     step_plan::keep(n, NONE, Reply::Nothing)
 }
 
+// Collect: block e is handed up if it is held; otherwise nothing is done.
+fn collect(n: Numbers, held: &[u8]) -> Plan
+    requires { ⌜ (length (now held) ≡ heldSize) × (1 ≤ getD (now held) 0 0 → n .delivered < lastNumber) ⌝ }
+    ensures { λ r. ⌜ ((b x : Block) → Planned n (now (held .entry)) b x (request collect) r) ⌝ }
+{
+    let state = n.state;
+    if state != ESTABLISHED {
+        return step_plan::refuse(n, refusal::WRONG_STATE);
+    }
+    if held[0] == 0 {
+        return step_plan::keep(n, NONE, Reply::Nothing);
+    }
+    step_plan::hand_up(n, held)
+}
+
 // A request that questions 3 to 6 have passed.
-fn ask(kind: RequestKind, n: Numbers) -> Plan
-    requires { ⌜ n .waiting ≤ n .accepted ⌝ }
-    ensures { λ r. ⌜ ((b : Block) → Readable (ask (requestOf kind b)) → Planned n b (request (requestOf kind b)) r) ⌝ }
+fn ask(kind: RequestKind, n: Numbers, held: &[u8]) -> Plan
+    requires { ⌜ (n .waiting ≤ n .accepted) × ((length (now held) ≡ heldSize) × (1 ≤ getD (now held) 0 0 → n .delivered < lastNumber)) ⌝ }
+    ensures { λ r. ⌜ ((b x : Block) → Readable (ask (requestOf kind b)) → Planned n (now (held .entry)) b x (request (requestOf kind b)) r) ⌝ }
 {
     match kind {
-        RequestKind::Connect => connect(n),
-        RequestKind::Listen => listen(n),
-        RequestKind::EndListening => end_listening(n),
-        RequestKind::Close => close(n),
+        RequestKind::Connect => connect(n, held),
+        RequestKind::Listen => listen(n, held),
+        RequestKind::EndListening => end_listening(n, held),
+        RequestKind::Close => close(n, held),
         RequestKind::Send => send(n),
         RequestKind::Timer => timer(n),
+        RequestKind::Collect => collect(n, held),
     }
 }
 
-// A request of the endpoint's user, or the timer call: s has the request's octets.
-pub fn request(n: Numbers, s: &[u8]) -> Plan
-    requires { ⌜ n .waiting ≤ n .accepted ⌝ }
-    ensures { λ r. ⌜ Planned n (drop sendBlockAt (now (s .entry))) (does Request (now (s .entry))) r ⌝ }
+// A request of the endpoint's user, or the timer call: s has the request's octets, held the lengths of the held blocks.
+pub fn request(n: Numbers, held: &[u8], s: &[u8]) -> Plan
+    requires { ⌜ (n .waiting ≤ n .accepted) × ((length (now held) ≡ heldSize) × (1 ≤ getD (now held) 0 0 → n .delivered < lastNumber)) ⌝ }
+    ensures { λ r. ⌜ ((x : Block) → Planned n (now (held .entry)) (drop sendBlockAt (now (s .entry))) x (does Request (now (s .entry))) r) ⌝ }
 {
     let read = frame_read::read_request(s);
     match read {
-        RequestRead::Request(kind) => ask(kind, n),
+        RequestRead::Request(kind) => ask(kind, n, held),
         RequestRead::Refused(number) => step_plan::refuse(n, number),
     }
 }

@@ -8,10 +8,10 @@ use Rattle.protocol.specs.Endpoint.{Endpoint}
 use Rattle.protocol.specs.declared.Rule.{Rule}
 use Rattle.step_rules.specs.declared.Numbers.{Numbers}
 
--- an endpoint of these numbers, with its waiting blocks
-abbrev pub holding : Numbers → List Block → Endpoint
-holding e q =
-    record { state = e .state; local = e .local; remote = e .remote; accepted = e .accepted; delivered = e .delivered; queue = q }
+-- an endpoint of these numbers, with its waiting blocks and its held ones
+abbrev pub holding : Numbers → List Block → List Block → Endpoint
+holding e q s =
+    record { state = e .state; local = e .local; remote = e .remote; accepted = e .accepted; delivered = e .delivered; queue = q; held = s }
 
 -- a frame of these numbers, with its block
 abbrev pub carrying : Values → Block → Frame
@@ -19,4 +19,4 @@ carrying f b = record { kind = f .kind; sender = f .sender; quoted = f .quoted; 
 
 -- r is what the rows say, of every endpoint and every frame of these numbers
 abbrev pub Chosen : (Endpoint → Frame → Rule) → Numbers → Values → Rule → Type 0
-Chosen rows e f r = (q : List Block) (b : Block) → length q ≡ e .waiting → r ≡ rows (holding e q) (carrying f b)
+Chosen rows e f r = (q s : List Block) (b : Block) → length q ≡ e .waiting → r ≡ rows (holding e q s) (carrying f b)

@@ -29,7 +29,10 @@ pub const ESTABLISHED: u8 = 4;
 
 pub const CLOSING: u8 = 5;
 
-// The numbers of an endpoint: its record without the waiting blocks.
+// The places for held blocks.
+const HELD_SIZE: u32 = octets::HELD_SIZE as u32;
+
+// The numbers of an endpoint: its record without the waiting blocks and the held ones.
 pub struct Numbers {
     pub state: u8,
     pub local: u32,
@@ -130,6 +133,12 @@ fn data_row(e: Numbers, f: Values) -> Rule
 {
     if f.number == e.delivered {
         return Rule::HandUp;
+    }
+    if f.number < e.delivered {
+        return Rule::Acknowledge;
+    }
+    if f.number - e.delivered < HELD_SIZE {
+        return Rule::Hold;
     }
     Rule::Acknowledge
 }

@@ -1,8 +1,12 @@
 //! Which steps of the step table the cases made.
 
 use crate::group::Score;
+use crate::records::{held, Numbers, PLACES};
 use crate::sample::{FRAME_KINDS, REQUEST_KINDS};
-use reference::{record, Frame, Message, State};
+use reference::frame::{Body, Signal};
+use reference::record::{self, RECORD};
+use reference::request::CLOSE;
+use reference::{Frame, Message, Request, State};
 use std::cmp::Ordering;
 use std::collections::BTreeSet;
 
@@ -24,6 +28,44 @@ enum Step {
         /// Is r = L?
         quotes_us: bool,
     },
+    /// A DATA of the open connection: how far its number is above e, and whether a copy is held.
+    Data {
+        above: Above,
+        is_held: bool,
+    },
+    /// A collect at an open end: is block e held, and is a later one?
+    Collect {
+        next: bool,
+        later: bool,
+    },
+    /// An open end that holds blocks is closed by this request or frame.
+    Leave {
+        kind: u8,
+    },
+}
+
+/// How far a number is above e.
+#[derive(Clone, Copy, Debug, PartialEq, Eq, PartialOrd, Ord)]
+enum Above {
+    /// It is below.
+    Below,
+    /// It has this place.
+    Place(usize),
+    /// It is the first without a place.
+    TooFar,
+    Further,
+}
+
+impl Above {
+    /// How far this number is above e.
+    fn of(number: u32, e: u32) -> Self {
+        match number.checked_sub(e).map(|above| above as usize) {
+            None => Self::Below,
+            Some(PLACES) => Self::TooFar,
+            Some(above) if above < PLACES => Self::Place(above),
+            Some(_) => Self::Further,
+        }
+    }
 }
 
 /// The steps made so far.
@@ -35,6 +77,7 @@ impl Coverage {
     pub fn see(&mut self, record: &[u8], message: &[u8]) {
         if let Ok(message) = Message::read(message) {
             self.0.insert(Step::of(record, &message));
+            self.0.extend(Step::with_held(record, &message));
         }
     }
 
@@ -85,13 +128,80 @@ impl Step {
         }
     }
 
+    /// The step of an open end by what it has to do with held blocks, if it has.
+    fn with_held(record: &[u8], message: &Message) -> Option<Self> {
+        let record: &[u8; RECORD] = record.first_chunk()?;
+        if record[0] != State::Open as u8 {
+            return None;
+        }
+        match message {
+            Message::Request(Request::Collect) => Some(Self::collect(held(record))),
+            Message::Request(Request::Close) => Self::leave(held(record), CLOSE),
+            Message::Frame(frame) => Self::with_frame(record, frame),
+            _ => None,
+        }
+    }
+
+    /// The same of a frame.
+    fn with_frame(record: &[u8; RECORD], frame: &Frame) -> Option<Self> {
+        let numbers = Numbers::of(record);
+        if (frame.sender, frame.quoted) != (numbers.remote, numbers.local) {
+            return None;
+        }
+        match frame.body {
+            Body::Data { sequence, .. } => {
+                let above = Above::of(sequence, numbers.handed_up);
+                Some(Self::data(held(record), above))
+            }
+            Body::Signal(Signal::Dr) => Self::leave(held(record), Signal::Dr as u8),
+            _ => None,
+        }
+    }
+
+    /// A DATA whose number is so far above e, where blocks of these lengths are held.
+    fn data(held: &[u8; PLACES], above: Above) -> Self {
+        let is_held = matches!(above, Above::Place(place) if held[place] > 0);
+        Self::Data { above, is_held }
+    }
+
+    /// A collect where blocks of these lengths are held.
+    fn collect([next, later @ ..]: &[u8; PLACES]) -> Self {
+        Self::Collect {
+            next: *next > 0,
+            later: later.iter().any(|&length| length > 0),
+        }
+    }
+
+    /// What leaves open by this kind, if blocks of these lengths are any.
+    fn leave(held: &[u8; PLACES], kind: u8) -> Option<Self> {
+        let is_any = held.iter().any(|&length| length > 0);
+        is_any.then_some(Self::Leave { kind })
+    }
+
     /// All steps that there are.
     fn all() -> Vec<Self> {
         let states = State::ALL.map(|state| state as u8);
         states
             .into_iter()
             .flat_map(|state| Self::requests(state).chain(Self::frames(state)))
+            .chain(Self::all_with_held())
             .collect()
+    }
+
+    /// All steps that have to do with held blocks.
+    fn all_with_held() -> impl Iterator<Item = Self> {
+        let both = [false, true];
+        let places = (0..PLACES).map(Above::Place);
+        let kept = places.flat_map(move |above| both.map(|is_held| Self::Data { above, is_held }));
+        let others = [Above::Below, Above::TooFar, Above::Further].map(|above| Self::Data {
+            above,
+            is_held: false,
+        });
+        let collects = both
+            .into_iter()
+            .flat_map(move |next| both.map(|later| Self::Collect { next, later }));
+        let leaving = [CLOSE, Signal::Dr as u8].map(|kind| Self::Leave { kind });
+        kept.chain(others).chain(collects).chain(leaving)
     }
 
     /// Every request in this state.
@@ -138,13 +248,20 @@ impl Step {
 #[cfg(test)]
 mod tests {
     use super::*;
+    use crate::records::hold;
+    use crate::sample::message;
+    use reference::frame::DATA;
+    use reference::request::{COLLECT, TIMER};
 
     #[test]
-    fn there_are_36_steps_of_requests_and_260_of_frames() {
+    fn there_are_42_steps_of_requests_260_of_frames_and_25_with_held_blocks() {
         let all = Step::all();
-        let is_request = |step: &&Step| matches!(step, Step::Request { .. });
-        assert_eq!(all.iter().filter(is_request).count(), 36);
-        assert_eq!(all.len(), 296);
+        let count = |is_one: fn(&&Step) -> bool| all.iter().filter(is_one).count();
+        assert_eq!(count(|step| matches!(step, Step::Request { .. })), 42);
+        assert_eq!(count(|step| matches!(step, Step::Frame { .. })), 260);
+        assert_eq!(all.len(), 327);
+        let different: BTreeSet<_> = all.iter().collect();
+        assert_eq!(different.len(), all.len());
     }
 
     #[test]
@@ -154,10 +271,47 @@ mod tests {
         coverage.see(&closed, &[0x40]);
         coverage.see(&closed, &[0x40]);
         coverage.see(&closed, &[0x40, 0x00]);
-        assert_eq!(coverage.report().failed, 295);
+        assert_eq!(coverage.report().failed, 326);
         coverage.see(&closed, &[1, 0, 0, 0, 7, 0, 0, 0, 0]);
-        assert_eq!(coverage.report().failed, 294);
+        assert_eq!(coverage.report().failed, 325);
         assert_eq!(coverage.report_least(2).failed, 0);
         assert_eq!(coverage.report_least(5).failed, 3);
+    }
+
+    /// How many steps with held blocks these messages show at an open end that holds blocks e
+    /// and e + 3.
+    fn shown(messages: &[Vec<u8>]) -> usize {
+        let numbers = Numbers {
+            local: 5,
+            remote: 3,
+            accepted: 0,
+            handed_up: 9,
+        };
+        let mut record = numbers.record(State::Open, &[]);
+        hold(&mut record, 0, b"nine");
+        hold(&mut record, 3, b"twelve");
+        let mut coverage = Coverage::default();
+        for message in messages {
+            coverage.see(&record, message);
+        }
+        let all: BTreeSet<_> = Step::all_with_held().collect();
+        coverage.0.intersection(&all).count()
+    }
+
+    #[test]
+    fn steps_with_held_blocks_are_told_apart_by_the_number() {
+        let data = |s, r, number| message(DATA, &[s, r, number], b"block");
+        let different = [0, 9, 10, 12, 16, 17, 18].map(|number| data(3, 5, number));
+        assert_eq!(shown(&different), 7);
+        let alike = [0, 1, 8].map(|number| data(3, 5, number));
+        assert_eq!(shown(&alike), 1);
+        assert_eq!(shown(&[data(4, 5, 9), data(3, 6, 9)]), 0);
+    }
+
+    #[test]
+    fn collects_and_what_leaves_open_are_steps_with_held_blocks() {
+        let dr = |s, r| message(Signal::Dr as u8, &[s, r], &[]);
+        assert_eq!(shown(&[vec![COLLECT], vec![CLOSE], dr(3, 5)]), 3);
+        assert_eq!(shown(&[vec![TIMER], dr(4, 5), dr(3, 6)]), 0);
     }
 }

@@ -12,7 +12,7 @@ use crate::alter::alter;
 use crate::coverage::Coverage;
 use crate::group::{Group, Score};
 use crate::random::Random;
-use crate::records::{any, sound, BLOCKS};
+use crate::records::{any, is_of_a_block, sound};
 use crate::{near, sample};
 use call::{Buffers, Call};
 use reference::record::RECORD;
@@ -76,18 +76,22 @@ fn frames<E: End>(rounds: usize, coverage: &mut Coverage) -> Group {
     group
 }
 
-/// Sound records with one byte altered: every value in the bytes before the blocks, some values
-/// in the blocks.
+/// Sound records with one byte altered: every value in the numbers and lengths, some values in the
+/// blocks.
 fn every_byte<E: End>() -> Group {
     let mut group = Group::new("records with one byte altered", &[0, 12]);
     let mut random = Random::new(33);
-    let head = (0..BLOCKS).flat_map(|place| (0..=u8::MAX).map(move |byte| (place, byte)));
-    let blocks = (BLOCKS..RECORD).flat_map(|place| [0, 1, 128, 255].map(|byte| (place, byte)));
-    for (place, byte) in head.chain(blocks) {
-        let mut record = sound(&mut random);
-        record[place] = byte;
-        let buffers = Buffers::exact(&mut random, &record, &[TIMER]);
-        Call::Request.compare::<E>(&mut group, &buffers);
+    let values = |place| match is_of_a_block(place) {
+        true => vec![0, 1, 128, 255],
+        false => (0..=u8::MAX).collect(),
+    };
+    for place in 0..RECORD {
+        for byte in values(place) {
+            let mut record = sound(&mut random);
+            record[place] = byte;
+            let buffers = Buffers::exact(&mut random, &record, &[TIMER]);
+            Call::Request.compare::<E>(&mut group, &buffers);
+        }
     }
     group
 }

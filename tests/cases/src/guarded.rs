@@ -28,7 +28,7 @@ impl Guarded {
         let last = bytes.len() - 1;
         match random.within(0..=31) {
             0 => bytes.truncate(random.within(0..=last)),
-            1 => bytes.truncate(last),
+            1 => bytes.truncate(random.pick(&[0, last])),
             2..=8 => bytes.extend(random.bytes_within(1..=30)),
             _ => {}
         }
@@ -67,6 +67,21 @@ impl Guarded {
 #[cfg(test)]
 mod tests {
     use super::*;
+
+    #[test]
+    fn buffers_are_just_large_enough_longer_one_byte_short_or_empty() {
+        let mut random = Random::new(1);
+        let mut times = [0; 100];
+        for _ in 0..10_000 {
+            let buffer = Guarded::resized(&mut random, vec![7; 64]);
+            times[buffer.bytes().len()] += 1;
+        }
+        assert!(times[64] > 5_000, "{times:?}");
+        for length in [0, 63, 65, 94] {
+            assert!(times[length] > 50, "{times:?}");
+        }
+        assert!(times[1..63].iter().sum::<usize>() > 200, "{times:?}");
+    }
 
     #[test]
     fn changes_are_found_in_the_buffer_and_its_guards() {

@@ -2,7 +2,7 @@
 
 use std::fmt;
 
-const SHOWN: usize = 600;
+const SHOWN: usize = 1_100;
 
 /// Bytes, shown in hexadecimal; of very many only the first are shown.
 #[derive(Clone, PartialEq)]

@@ -5,7 +5,7 @@ use crate::records::{waiting, Numbers};
 use crate::sample::{block, message, number, FRAME_KINDS, REQUEST_KINDS};
 use reference::frame::{ACK, DATA};
 use reference::record::RECORD;
-use reference::request::SEND;
+use reference::request::{COLLECT, SEND};
 use reference::State;
 
 /// Is the record that of an open end?
@@ -13,10 +13,10 @@ fn is_open(record: &[u8; RECORD]) -> bool {
     record[0] == State::Open as u8
 }
 
-/// A request; of an open end mostly send.
+/// A request; of an open end mostly send or collect.
 pub fn request(random: &mut Random, record: &[u8; RECORD]) -> Vec<u8> {
     let kind = match random.within(0..=3) {
-        1.. if is_open(record) => SEND,
+        1.. if is_open(record) => random.pick(&[SEND, COLLECT]),
         _ => random.pick(&REQUEST_KINDS),
     };
     message(kind, &[], &block(random))
@@ -35,7 +35,7 @@ pub fn frame(random: &mut Random, record: &[u8; RECORD]) -> Vec<u8> {
 pub fn frame_of(random: &mut Random, record: &[u8; RECORD], kind: u8) -> Vec<u8> {
     let numbers = Numbers::of(record);
     let third = match kind {
-        DATA => near(random, numbers.handed_up),
+        DATA => sequence(random, numbers.handed_up),
         _ => count(random, numbers.accepted, waiting(record)),
     };
     let numbers = [
@@ -51,6 +51,14 @@ fn sender(random: &mut Random, remote: u32) -> u32 {
     match remote {
         0 => random.within(0..=4) as u32,
         _ => near(random, remote),
+    }
+}
+
+/// A number for DATA: the awaited one or one near it, or one that is held or next to these.
+fn sequence(random: &mut Random, handed_up: u32) -> u32 {
+    match random.within(0..=1) {
+        0 => near(random, handed_up),
+        _ => handed_up.wrapping_add(random.within(1..=9) as u32),
     }
 }
 

@@ -3,12 +3,12 @@
 use crate::random::Random;
 use reference::block::LONGEST_BLOCK;
 use reference::frame::{ACK, DATA};
-use reference::request::{CLOSE, CONNECT, END_LISTENING, LISTEN, SEND, TIMER};
+use reference::request::{CLOSE, COLLECT, CONNECT, END_LISTENING, LISTEN, SEND, TIMER};
 
 /// The kind bytes of frames.
 pub const FRAME_KINDS: [u8; 9] = [1, 2, 3, 4, 5, 6, 7, 8, 9];
 /// The kind bytes of requests.
-pub const REQUEST_KINDS: [u8; 6] = [CONNECT, LISTEN, END_LISTENING, CLOSE, SEND, TIMER];
+pub const REQUEST_KINDS: [u8; 7] = [CONNECT, LISTEN, END_LISTENING, CLOSE, SEND, TIMER, COLLECT];
 /// Numbers at the edges.
 pub const EDGES: [u32; 5] = [0, 1, 2, 4294967294, 4294967295];
 

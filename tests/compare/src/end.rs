@@ -16,11 +16,14 @@ extern "C" {
         request_len: usize,
         out: *mut u8,
         out_len: usize,
+        up: *mut u8,
+        up_len: usize,
         state: *mut u8,
         notice: *mut u8,
         local: *mut u32,
         remote: *mut u32,
         sent: *mut usize,
+        block: *mut usize,
     ) -> u8;
 
     fn dock_receive(
@@ -46,7 +49,7 @@ impl End for Proved {
         unsafe { dock_fresh(record.as_mut_ptr(), record.len()) }
     }
 
-    fn request(record: &mut [u8], request: &[u8], out: &mut [u8]) -> Reply {
+    fn request(record: &mut [u8], request: &[u8], out: &mut [u8], up: &mut [u8]) -> Reply {
         let mut reply = untold();
         reply.number = unsafe {
             dock_request(
@@ -56,11 +59,14 @@ impl End for Proved {
                 request.len(),
                 out.as_mut_ptr(),
                 out.len(),
+                up.as_mut_ptr(),
+                up.len(),
                 &mut reply.state,
                 &mut reply.notice,
                 &mut reply.local,
                 &mut reply.remote,
                 &mut reply.sent,
+                &mut reply.block.end,
             )
         };
         reply
@@ -68,7 +74,6 @@ impl End for Proved {
 
     fn receive(record: &mut [u8], frame: &[u8], out: &mut [u8]) -> Reply {
         let mut reply = untold();
-        let mut block = usize::MAX;
         reply.number = unsafe {
             dock_receive(
                 record.as_mut_ptr(),
@@ -82,11 +87,11 @@ impl End for Proved {
                 &mut reply.local,
                 &mut reply.remote,
                 &mut reply.sent,
-                &mut block,
+                &mut reply.block.end,
             )
         };
-        if block > 0 {
-            reply.block = BLOCK_START..BLOCK_START.wrapping_add(block);
+        if !reply.block.is_empty() {
+            reply.block = BLOCK_START..BLOCK_START.wrapping_add(reply.block.end);
         }
         reply
     }
@@ -95,11 +100,12 @@ impl End for Proved {
 /// A reply whose numbers a call has to set.
 pub fn untold() -> Reply {
     Reply {
+        number: u8::MAX,
         state: u8::MAX,
         notice: u8::MAX,
         local: u32::MAX,
         remote: u32::MAX,
         sent: usize::MAX,
-        ..Reply::default()
+        block: 0..usize::MAX,
     }
 }

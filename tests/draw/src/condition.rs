@@ -13,6 +13,7 @@ pub enum Topic {
     Count,
     Partner,
     Waiting,
+    Held,
 }
 
 /// A test of an end and of the request or frame that it gets, with its words.
@@ -25,7 +26,7 @@ pub struct Test {
 
 /// All tests, in the order in which a condition names them. Frames with s < D never come here. A
 /// test of a number fails where there is none.
-static TESTS: [Test; 14] = [
+static TESTS: [Test; 20] = [
     test("s = D", Topic::Sender, |x| x.s == Some(x.end.remote)),
     test("s > D", Topic::Sender, |x| {
         x.s.is_some_and(|s| s > x.end.remote)
@@ -46,6 +47,15 @@ static TESTS: [Test; 14] = [
     test("number > e", Topic::Sequence, |x| {
         x.sequence.is_some_and(|number| number > x.end.handed_up)
     }),
+    test("e < number ≤ e + 7", Topic::Sequence, is_early),
+    test("number > e + 7", Topic::Sequence, |x| {
+        !is_early(x) && x.sequence > Some(x.end.handed_up)
+    }),
+    test("any other", Topic::Sequence, |x| {
+        x.sequence
+            .is_some_and(|number| number != x.end.handed_up && !(is_early(x) && is_new(x)))
+    }),
+    test("not held", Topic::Held, is_new),
     test("t − w < n ≤ t", Topic::Count, |x| {
         x.count.is_some_and(|n| is_waited_for(&x.end, n))
     }),
@@ -60,10 +70,28 @@ static TESTS: [Test; 14] = [
     test("no block waits", Topic::Waiting, |x| {
         x.end.waiting.is_empty()
     }),
+    test("block e is held", Topic::Held, |x| {
+        !x.end.held[0].is_empty()
+    }),
+    test("block e is not held", Topic::Held, |x| {
+        x.end.held[0].is_empty()
+    }),
 ];
 
 const fn test(text: &'static str, topic: Topic, holds: fn(&Sample) -> bool) -> Test {
     Test { text, topic, holds }
+}
+
+/// Is it a DATA whose block comes before it is due, and has a place?
+fn is_early(x: &Sample) -> bool {
+    let place = x.sequence.and_then(|number| x.end.place(number));
+    place.is_some_and(|place| place > 0)
+}
+
+/// Is it a DATA of whose block no copy is held?
+fn is_new(x: &Sample) -> bool {
+    x.sequence
+        .is_some_and(|number| x.end.held_block(number).is_none())
 }
 
 /// Is t − w < n ≤ t?
@@ -72,7 +100,7 @@ fn is_waited_for(end: &End, n: u32) -> bool {
 }
 
 /// The most tests that hold together in a condition.
-const MOST: usize = 3;
+const MOST: usize = 4;
 
 /// Tests that hold together; no test at all holds always.
 type Together = Vec<&'static Test>;

@@ -2,6 +2,7 @@
 
 use reference::record::RECORD;
 use reference::State;
+use std::array;
 
 /// Where L, D, t and e stand in a record.
 const NUMBERS: [usize; 4] = [1, 5, 9, 13];
@@ -11,8 +12,14 @@ const WAITING: usize = 17;
 const LENGTHS: usize = 18;
 /// Where the waiting blocks stand.
 const BLOCKS: usize = 26;
-/// The bytes that each has for itself.
+/// Where the lengths of the held blocks stand.
+const HELD_LENGTHS: usize = BLOCKS + PLACES * PLACE;
+/// Where the held blocks stand.
+const HELD_BLOCKS: usize = HELD_LENGTHS + PLACES;
+/// The bytes that each block has for itself.
 const PLACE: usize = 64;
+/// So many waiting blocks have a place, and so many held ones.
+pub const PLACES: usize = 8;
 
 /// An end's record.
 #[derive(Clone, Debug, PartialEq, Eq)]
@@ -28,14 +35,21 @@ pub struct End {
     pub handed_up: u32,
     /// The blocks not yet acknowledged, the oldest first. Their number is w.
     pub waiting: Vec<Vec<u8>>,
+    /// The blocks that came early: those numbered e to e + 7, empty where none is held.
+    pub held: Held,
 }
+
+/// Held blocks, in their places.
+pub type Held = [Vec<u8>; PLACES];
 
 impl End {
     /// The fields of a record that the reference left.
     pub fn read(record: &[u8; RECORD]) -> Result<Self, String> {
         let [local, remote, accepted, handed_up] = NUMBERS.map(|place| number(record, place));
         let state = State::of(record[0]).ok_or_else(|| format!("state {} is none", record[0]))?;
-        let waiting = (0..usize::from(record[WAITING])).map(|place| block(record, place));
+        let waiting = 0..usize::from(record[WAITING]);
+        let waiting = waiting.map(|place| block(record, [LENGTHS, BLOCKS], place));
+        let held = |place| block(record, [HELD_LENGTHS, HELD_BLOCKS], place);
         Ok(Self {
             state,
             local,
@@ -43,6 +57,7 @@ impl End {
             accepted,
             handed_up,
             waiting: waiting.collect(),
+            held: array::from_fn(held),
         })
     }
 
@@ -55,10 +70,8 @@ impl End {
             put(&mut record, place, &number.to_be_bytes());
         }
         record[WAITING] = self.waiting.len() as u8;
-        for (place, block) in self.waiting.iter().enumerate() {
-            record[LENGTHS + place] = block.len() as u8;
-            put(&mut record, BLOCKS + place * PLACE, block);
-        }
+        put_blocks(&mut record, [LENGTHS, BLOCKS], &self.waiting);
+        put_blocks(&mut record, [HELD_LENGTHS, HELD_BLOCKS], &self.held);
         record
     }
 
@@ -72,6 +85,18 @@ impl End {
         let place = number.checked_sub(self.oldest())?;
         self.waiting.get(place as usize).map(Vec::as_slice)
     }
+
+    /// The place in which a block of this number is held, if it has one.
+    pub fn place(&self, number: u32) -> Option<usize> {
+        let place = number.checked_sub(self.handed_up)? as usize;
+        (place < PLACES).then_some(place)
+    }
+
+    /// The held block of this number.
+    pub fn held_block(&self, number: u32) -> Option<&[u8]> {
+        let block = &self.held[self.place(number)?];
+        (!block.is_empty()).then_some(block)
+    }
 }
 
 /// The number in the 4 bytes from this place on.
@@ -80,10 +105,18 @@ fn number(record: &[u8; RECORD], place: usize) -> u32 {
     u32::from_be_bytes(*bytes)
 }
 
-/// The waiting block in this place.
-fn block(record: &[u8; RECORD], place: usize) -> Vec<u8> {
-    let length = usize::from(record[LENGTHS + place]);
-    record[BLOCKS + place * PLACE..][..length].to_vec()
+/// The block in this place, where the lengths and the blocks stand so.
+fn block(record: &[u8; RECORD], [lengths, blocks]: [usize; 2], place: usize) -> Vec<u8> {
+    let length = usize::from(record[lengths + place]);
+    record[blocks + place * PLACE..][..length].to_vec()
+}
+
+/// Writes blocks to places whose lengths and blocks stand so.
+fn put_blocks(record: &mut [u8; RECORD], [lengths, places]: [usize; 2], blocks: &[Vec<u8>]) {
+    for (place, block) in blocks.iter().enumerate() {
+        record[lengths + place] = block.len() as u8;
+        put(record, places + place * PLACE, block);
+    }
 }
 
 /// Writes the bytes from this place on.
@@ -95,6 +128,7 @@ fn put(record: &mut [u8; RECORD], place: usize, bytes: &[u8]) {
 mod tests {
     use super::*;
     use reference::record::Record;
+    use reference::Block;
 
     fn open() -> End {
         End {
@@ -104,6 +138,7 @@ mod tests {
             accepted: 20,
             handed_up: 40,
             waiting: vec![vec![1; 64], vec![2], vec![3, 4]],
+            held: array::from_fn(|place| vec![5; place % 3]),
         }
     }
 
@@ -115,11 +150,14 @@ mod tests {
     #[test]
     fn the_reference_reads_the_same_fields() {
         let mut bytes = open().write();
-        let record = Record::read(&mut bytes).map_err(drop).unwrap();
+        let mut record = Record::read(&mut bytes).map_err(drop).unwrap();
         assert_eq!(record.state, State::Open);
         assert_eq!((record.local, record.remote), (0x0102_0304, 3));
         assert_eq!((record.accepted, record.handed_up), (20, 40));
         assert_eq!((record.waiting.count(), record.oldest()), (3, 17));
+        assert!(record.held.next().is_none());
+        record.hand_up();
+        assert_eq!(record.held.next().map(Block::bytes), Some(&[5][..]));
     }
 
     #[test]
@@ -128,5 +166,14 @@ mod tests {
         assert_eq!(open().block(16), None);
         assert_eq!(open().block(18), Some(&[2][..]));
         assert_eq!(open().block(20), None);
+    }
+
+    #[test]
+    fn held_blocks_have_the_numbers_from_e_on() {
+        assert_eq!(open().held_block(39), None);
+        assert_eq!(open().held_block(40), None);
+        assert_eq!(open().held_block(41), Some(&[5][..]));
+        assert_eq!(open().held_block(47), Some(&[5][..]));
+        assert_eq!(open().held_block(48), None);
     }
 }

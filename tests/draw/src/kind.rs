@@ -37,13 +37,14 @@ impl Form {
 }
 
 /// All kinds in the order of the table: the requests, then the frames, each by their bytes.
-const KINDS: [Kind; 15] = [
+const KINDS: [Kind; 16] = [
     kind(0x40, "connect", Form::Request),
     kind(0x41, "listen", Form::Request),
     kind(0x42, "end listening", Form::Request),
     kind(0x43, "close", Form::Request),
     kind(0x44, "send", Form::BlockRequest),
     kind(0x45, "timer", Form::Request),
+    kind(0x46, "collect", Form::Request),
     kind(0x01, "CRAO", Form::Signal),
     kind(0x02, "CRPO", Form::Signal),
     kind(0x03, "CRACK", Form::Signal),
@@ -85,7 +86,7 @@ mod tests {
 
     #[test]
     fn every_kind_of_the_reference_has_a_name() {
-        assert_eq!(all().map(<[Kind]>::len), Ok(15));
+        assert_eq!(all().map(<[Kind]>::len), Ok(16));
     }
 
     #[test]

@@ -1,6 +1,6 @@
 //! What a step does, in the document's symbols.
 
-use crate::end::End;
+use crate::end::{End, Held, PLACES};
 use crate::kind::{self, Form, Kind};
 use crate::probe::{Probe, Sample, Step};
 use reference::frame::Body;
@@ -12,7 +12,7 @@ pub struct Outcome {
     /// The state before.
     state: State,
     pub next: State,
-    /// What happens to L, D, t, e and the waiting blocks.
+    /// What happens to L, D, t, e, the waiting and the held blocks.
     changes: Vec<Names>,
     sent: Option<Sent>,
     pub notice: u8,
@@ -168,9 +168,9 @@ fn all_shared(these: &[Names], those: &[Names]) -> Option<Vec<Names>> {
     pairs.map(|(one, other)| one.shared(other)).collect()
 }
 
-/// A block is handed up with notice 5, never otherwise, and it is the one that arrived.
+/// A block is handed up with notice 5, never otherwise, and it is the one that arrived or was held.
 fn ask_block(sample: &Sample, step: &Step) -> Result<(), String> {
-    let expected = (step.notice == 5).then(|| sample.block()).flatten();
+    let expected = (step.notice == 5).then(|| sample.coming_up()).flatten();
     if step.block.as_deref() != expected || (step.notice == 5 && expected.is_none()) {
         return Err("the block handed up does not agree with the notice".to_string());
     }
@@ -213,6 +213,7 @@ fn changes(sample: &Sample, after: &End) -> Result<Vec<Names>, String> {
         count("t", "t + 1", before.accepted, after.accepted, after.state)?,
         count("e", "e + 1", before.handed_up, after.handed_up, after.state)?,
         waiting(sample, after)?,
+        held(sample, after)?,
     ])
 }
 
@@ -261,6 +262,31 @@ fn waiting(sample: &Sample, after: &End) -> Named {
     Names::of("the waiting blocks", names)
 }
 
+/// The held blocks. That they move as e rises, and that only open has any, needs no words.
+fn held(sample: &Sample, after: &End) -> Named {
+    let kept = match after.state {
+        State::Open => moved(&sample.end, after),
+        _ => Held::default(),
+    };
+    let names = [
+        (NOTHING, after.held == kept),
+        (
+            "the block is held",
+            with_early(sample).as_ref() == Some(&after.held),
+        ),
+    ];
+    Names::of("the held blocks", names)
+}
+
+/// The held blocks before the step, moved by as much as e rose.
+fn moved(before: &End, after: &End) -> Held {
+    let risen = after.handed_up.saturating_sub(before.handed_up) as usize;
+    let mut held = before.held.clone();
+    held.rotate_left(risen.min(PLACES));
+    held[PLACES.saturating_sub(risen)..].fill(Vec::new());
+    held
+}
+
 /// The waiting blocks with the one that a request brings, if it brings one.
 fn joined(sample: &Sample) -> Option<Vec<Vec<u8>>> {
     if sample.kind.form != Form::BlockRequest {
@@ -275,6 +301,18 @@ fn left(sample: &Sample) -> Option<Vec<Vec<u8>>> {
     let leaving = sample.count?.checked_sub(sample.end.oldest())? as usize;
     let staying = sample.end.waiting.get(leaving..)?;
     (leaving > 0).then(|| staying.to_vec())
+}
+
+/// The held blocks with the one that arrives in its place, if it is early and none is there.
+fn with_early(sample: &Sample) -> Option<Held> {
+    let number = sample.sequence?;
+    let place = sample.end.place(number)?;
+    let is_free = place > 0 && sample.end.held_block(number).is_none();
+    is_free.then(|| {
+        let mut held = sample.end.held.clone();
+        held[place] = sample.block().unwrap_or_default().to_vec();
+        held
+    })
 }
 
 #[cfg(test)]
@@ -292,6 +330,7 @@ mod tests {
             accepted: 20,
             handed_up: 40,
             waiting: vec![vec![1], vec![2], vec![3]],
+            held: Held::default(),
         }
     }
 
@@ -433,6 +472,78 @@ mod tests {
         assert_eq!(acknowledged(17, &[1, 2, 3]), Ok(String::new()));
         assert!(acknowledged(18, &[3]).is_err());
         assert!(acknowledged(18, &[1, 2]).is_err());
+    }
+
+    /// An open end that has handed up so many blocks, and holds these, each so far above e.
+    fn holding(e: u32, blocks: &[(usize, &[u8])]) -> End {
+        let mut end = End {
+            handed_up: e,
+            ..open()
+        };
+        for &(above, block) in blocks {
+            end.held[above] = block.to_vec();
+        }
+        end
+    }
+
+    /// What a DATA of this number does to the record of an end that it leaves so.
+    fn arrived(before: End, number: u32, after: End) -> Result<String, String> {
+        let mut probe = probe(before, 0x08, 3, after);
+        probe.sample.sequence = Some(number);
+        Outcome::of(&probe).map(|outcome| outcome.unwrap().record())
+    }
+
+    #[test]
+    fn an_early_block_is_held_in_its_place_as_the_first_copy() {
+        let before = || holding(40, &[(1, b"one")]);
+        let is_held = Ok("the block is held".to_string());
+        let after = holding(40, &[(1, b"one"), (7, b"new")]);
+        assert_eq!(arrived(before(), 47, after.clone()), is_held);
+        assert!(arrived(before(), 46, after.clone()).is_err());
+        assert!(arrived(before(), 48, after).is_err());
+        assert!(arrived(before(), 41, holding(40, &[(1, b"new")])).is_err());
+        let awaited = holding(40, &[(0, b"new"), (1, b"one")]);
+        assert!(arrived(before(), 40, awaited).is_err());
+        assert_eq!(arrived(before(), 41, before()), Ok(String::new()));
+    }
+
+    #[test]
+    fn held_blocks_move_as_e_rises() {
+        let before = || holding(40, &[(0, b"e"), (2, b"two"), (7, b"seven")]);
+        let moved = holding(41, &[(1, b"two"), (6, b"seven")]);
+        assert_eq!(arrived(before(), 40, moved), Ok("e + 1".to_string()));
+        let unmoved = holding(41, &[(0, b"e"), (2, b"two"), (7, b"seven")]);
+        assert!(arrived(before(), 40, unmoved).is_err());
+        let turned = holding(41, &[(1, b"two"), (6, b"seven"), (7, b"e")]);
+        assert!(arrived(before(), 40, turned).is_err());
+    }
+
+    #[test]
+    fn leaving_open_clears_what_is_held() {
+        let closing = |held| End {
+            state: State::Closing,
+            held,
+            ..calling()
+        };
+        let before = || holding(40, &[(3, b"three")]);
+        let cleared = probe(before(), 0x06, 3, closing(Held::default()));
+        assert_eq!(outcome(&cleared).record(), "");
+        let kept = probe(before(), 0x06, 3, closing(before().held));
+        assert!(Outcome::of(&kept).is_err());
+    }
+
+    #[test]
+    fn a_request_hands_up_the_held_block_numbered_e() {
+        let step = |held: &[u8], block: &[u8]| {
+            let mut probe = probe(holding(40, &[(0, held)]), 0x46, 3, holding(41, &[]));
+            let step = probe.step.as_mut().unwrap();
+            step.notice = 5;
+            step.block = Some(block.to_vec());
+            Outcome::of(&probe).is_ok()
+        };
+        assert!(step(b"held", b"held"));
+        assert!(!step(b"held", b"new"));
+        assert!(!step(b"", b"new"));
     }
 
     #[test]

@@ -3,17 +3,24 @@
 //! The numbers asked with are chosen so that those in an answer can be named, and lie on both
 //! sides of every limit that a rule may have.
 
-use crate::end::End;
+use crate::end::{End, Held};
 use crate::kind::{Form, Kind};
 use crate::name;
+use reference::block::LONGEST_BLOCK;
 use reference::call::{self, Answer};
 use reference::frame::LONGEST_FRAME;
 use reference::{Refusal, State};
 
 /// L and D of the ends asked. Those with D = 0 come last: where D is 0, fewer numbers differ.
 const NUMBERS: [[u32; 2]; 4] = [[5, 3], [70, 110], [5, 0], [0, 0]];
-/// t, e and w of the ends asked.
-const COUNTS: [(u32, u32, u8); 4] = [(20, 40, 3), (30, 50, 8), (20, 40, 0), (0, 0, 0)];
+/// t, e and w of the ends asked, and how far above e the blocks are that they hold.
+const COUNTS: [(u32, u32, u8, &[usize]); 5] = [
+    (20, 40, 3, &[]),
+    (30, 50, 8, &[0, 2]),
+    (20, 40, 0, &[1, 3, 7]),
+    (30, 50, 1, &[0, 1, 2, 3, 4, 5, 6, 7]),
+    (0, 0, 0, &[]),
+];
 /// The block that is sent or arrives.
 const BLOCK: &[u8] = b"new";
 
@@ -74,6 +81,15 @@ impl Sample {
         self.kind.form.has_block().then_some(BLOCK)
     }
 
+    /// The block that may come up: the one that arrives, or with a request the held one numbered e.
+    pub fn coming_up(&self) -> Option<&[u8]> {
+        match self.kind.form {
+            Form::Data => self.block(),
+            Form::Request => self.end.held_block(self.end.handed_up),
+            _ => None,
+        }
+    }
+
     /// The request or frame in bytes.
     fn message(&self) -> Vec<u8> {
         let mut bytes = vec![self.kind.byte];
@@ -101,8 +117,9 @@ impl Probe {
         let message = sample.message();
         let mut record = sample.end.write();
         let mut out = [0; LONGEST_FRAME];
+        let mut up = [0; LONGEST_BLOCK];
         let answer = match sample.kind.form.is_request() {
-            true => call::request(&mut record, &message, &mut out),
+            true => call::request(&mut record, &message, &mut out, &mut up),
             false => call::receive(&mut record, &message, &mut out),
         };
         let step = match answer.number {
@@ -182,7 +199,7 @@ fn samples(state: State, kind: Kind) -> Vec<Sample> {
 fn ends(state: State) -> Vec<End> {
     let mut ends = Vec::new();
     for [local, remote] in NUMBERS {
-        for (accepted, handed_up, waiting) in COUNTS {
+        for (accepted, handed_up, waiting, held) in COUNTS {
             ends.push(End {
                 state,
                 local,
@@ -190,11 +207,21 @@ fn ends(state: State) -> Vec<End> {
                 accepted,
                 handed_up,
                 waiting: (1..=waiting).map(|length| vec![length; 2]).collect(),
+                held: held_blocks(held),
             });
         }
     }
     ends.retain(is_sound);
     ends
+}
+
+/// Blocks that are held so far above e.
+fn held_blocks(above: &[usize]) -> Held {
+    let mut held = Held::default();
+    for &place in above {
+        held[place] = vec![place as u8; 3];
+    }
+    held
 }
 
 /// Is the record sound? The reference says so: question 12 comes before the kind of a frame.
@@ -219,8 +246,8 @@ fn frames(end: &End, kind: Kind) -> Vec<Sample> {
     samples
 }
 
-/// The frame with each third number of its kind: those of DATA about e, those of ACK about t − w
-/// and t, with the neighbours of these limits.
+/// The frame with each third number of its kind: those of DATA about e and e + 7, those of ACK about
+/// t − w and t, with the neighbours of these limits.
 fn completed(sample: Sample) -> Vec<Sample> {
     let (t, e, oldest) = (
         sample.end.accepted,
@@ -236,9 +263,18 @@ fn completed(sample: Sample) -> Vec<Sample> {
         ..sample.clone()
     };
     match sample.kind.form {
-        Form::Data => [e, e + 1, e + 1000, e.saturating_sub(1), 0]
-            .map(with_sequence)
-            .to_vec(),
+        Form::Data => [
+            e,
+            e + 1,
+            e + 2,
+            e + 7,
+            e + 8,
+            e + 1000,
+            e.saturating_sub(1),
+            0,
+        ]
+        .map(with_sequence)
+        .to_vec(),
         Form::Ack => [
             oldest + 1,
             t,
@@ -289,6 +325,24 @@ mod tests {
         assert!(has(|x| x.count == Some(x.end.accepted)));
         assert!(has(|x| x.count == Some(x.end.accepted + 1)));
         assert!(!has(|x| x.s < Some(x.end.remote)));
+    }
+
+    #[test]
+    fn blocks_arrive_on_both_sides_of_every_limit_held_or_not() {
+        let probes = asked(State::Open, 0x08);
+        for above in [0, 1, 2, 7] {
+            for is_held in [false, true] {
+                let is_asked = |x: &Sample| {
+                    let number = x.end.handed_up + above;
+                    let has_copy = x.end.held_block(number).is_some();
+                    x.sequence == Some(number) && has_copy == is_held
+                };
+                assert!(probes.iter().any(|probe| is_asked(&probe.sample)));
+            }
+        }
+        let has = |test: fn(&Sample) -> bool| probes.iter().any(|probe| test(&probe.sample));
+        assert!(has(|x| x.sequence == Some(x.end.handed_up + 8)));
+        assert!(has(|x| x.sequence < Some(x.end.handed_up)));
     }
 
     #[test]

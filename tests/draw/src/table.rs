@@ -191,9 +191,11 @@ mod tests {
 | answering | REJ, RESET | r = L | listening | | | |
 | open | send | | open | t + 1, the block waits | DATA(L,D,t) | |
 | open | timer | a block waits | open | | DATA(L,D,t − w) | |
+| open | collect | block e is held | open | e + 1 | ACK(L,D,e) | 5 block handed up |
 | open | CRAO, CRPO | s = D, r = L | open | | CRACK(L,D) | |
 | open | DATA | s = D, r = L, number = e | open | e + 1 | ACK(L,D,e) | 5 block handed up |
-| open | DATA | s = D, r = L, number ≠ e | open | | ACK(L,D,e) | |
+| open | DATA | s = D, r = L, e < number ≤ e + 7, not held | open | the block is held | ACK(L,D,e) | |
+| open | DATA | s = D, r = L, any other | open | | ACK(L,D,e) | |
 | open | ACK n | s = D, r = L, t − w < n ≤ t | open | the blocks before n leave | | |
 | closing | CRAO, CRPO | s > D | closed | | | 4 close finished |
 | closing | DR | s > D or r = L | closed | | DRACK(L,s) | 4 close finished |
@@ -221,6 +223,7 @@ mod tests {
             "| listening | connect |",
             "| answering | DATA |",
             "| closing | send |",
+            "| closing | collect |",
         ] {
             assert!(!text().contains(start), "not expected: {start}");
         }

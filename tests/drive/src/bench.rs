@@ -2,6 +2,7 @@
 
 pub mod full;
 pub mod odd;
+pub mod overtaking;
 pub mod replay;
 pub mod sessions;
 mod writer;

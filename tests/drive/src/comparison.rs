@@ -1,5 +1,6 @@
 //! The program's answers beside those of the reference.
 
+use crate::handed_up::HandedUp;
 use crate::program::{self, Run};
 use crate::reference_program::ReferenceProgram;
 use crate::script::Script;
@@ -16,6 +17,7 @@ const SHOWN: usize = 200;
 pub struct Comparison<P> {
     program: OsString,
     pub coverage: Coverage,
+    pub handed_up: HandedUp,
     reference: PhantomData<P>,
 }
 
@@ -25,6 +27,7 @@ impl<P: ReferenceProgram> Comparison<P> {
         Self {
             program,
             coverage: Coverage::default(),
+            handed_up: HandedUp::default(),
             reference: PhantomData,
         }
     }
@@ -51,8 +54,7 @@ impl<P: ReferenceProgram> Comparison<P> {
         let mut reference = P::default();
         let mut found = Answers(&run.output);
         for (place, line) in (1..).zip(script.lines()) {
-            self.see(&reference, line);
-            let right = reference.answer(line);
+            let right = self.answer(&mut reference, line);
             let found = found.next().unwrap_or_default();
             group.check(
                 &format_args!("{:?}, line {place} of script {number}", Text(line)),
@@ -70,11 +72,16 @@ impl<P: ReferenceProgram> Comparison<P> {
         }
     }
 
-    /// Notes the step that the reference is about to make.
-    fn see(&mut self, reference: &P, line: &[u8]) {
-        if let Some((record, message)) = reference.meeting(line) {
-            self.coverage.see(record, &message);
+    /// The answer of the reference. The step that it makes is noted.
+    fn answer(&mut self, reference: &mut P, line: &[u8]) -> Vec<u8> {
+        let meeting = reference.meeting(line);
+        if let Some((record, message)) = &meeting {
+            self.coverage.see(*record, message);
         }
+        let message = meeting.map_or(Vec::new(), |(_, message)| message);
+        let answer = reference.answer(line);
+        self.handed_up.see(&message, P::notice(&answer));
+        answer
     }
 }
 

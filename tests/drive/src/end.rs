@@ -1,6 +1,7 @@
 //! An end of the reference that writes its own script.
 
 use crate::script::Script;
+use reference::block::LONGEST_BLOCK;
 use reference::call::either;
 use reference::frame::LONGEST_FRAME;
 use reference::record::RECORD;
@@ -25,14 +26,18 @@ impl Default for End {
 }
 
 impl End {
-    /// Makes the call and adds it to the script.
-    pub fn call(&mut self, message: &[u8]) {
+    /// Makes the call and adds it to the script; gives the frame that it sends.
+    pub fn call(&mut self, message: &[u8]) -> Option<&[u8]> {
         let mut out = [0; LONGEST_FRAME];
-        let answer = either(&mut self.record, message, &mut out);
-        if answer.sent > 0 {
-            self.sent.push(out[..answer.sent].to_vec());
-        }
+        let mut up = [0; LONGEST_BLOCK];
         self.script.push(message);
+        match either(&mut self.record, message, &mut out, &mut up).sent {
+            0 => None,
+            sent => {
+                self.sent.push(out[..sent].to_vec());
+                self.sent.last().map(Vec::as_slice)
+            }
+        }
     }
 
     /// Its state.

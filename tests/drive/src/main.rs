@@ -6,7 +6,7 @@
 
 use cases::group::{Group, Score};
 use drive::comparison::Comparison;
-use drive::{altered, nearby, odd, program, sessions, typed};
+use drive::{altered, nearby, odd, overtaking, program, sessions, typed};
 use reference::program::LineProgram;
 use std::process::ExitCode;
 
@@ -22,6 +22,7 @@ fn main() -> ExitCode {
     let mut comparison = Comparison::<LineProgram>::new(program);
     let groups = [
         comparison.group("sessions", &[0, 8, 10], sessions::scripts()),
+        comparison.group("overtaking", &[0, 10], overtaking::scripts()),
         comparison.group("numbers nearby", &[0, 7, 8, 10], nearby::scripts()),
         comparison.group(
             "altered lines",
@@ -33,5 +34,6 @@ fn main() -> ExitCode {
     ];
     let lines: Score = groups.iter().map(Group::report).sum();
     let steps = comparison.coverage.report();
-    [lines, steps].into_iter().sum::<Score>().conclude()
+    let blocks = comparison.handed_up.report();
+    [lines, steps, blocks].into_iter().sum::<Score>().conclude()
 }

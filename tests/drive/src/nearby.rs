@@ -5,8 +5,8 @@ use crate::script::Script;
 use cases::near;
 use cases::random::Random;
 
-const SCRIPTS: u64 = 8;
-const LINES: usize = 8_000;
+const SCRIPTS: u64 = 16;
+const LINES: usize = 16_000;
 
 /// All scripts of this sort.
 pub fn scripts() -> impl Iterator<Item = Script> {

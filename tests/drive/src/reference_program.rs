@@ -23,9 +23,18 @@ pub trait ReferenceProgram: Lines + Default {
 
     /// The number of an answer.
     fn number(answer: &[u8]) -> u8 {
-        let digits = &answer[Self::LEAD..][..2];
-        line::read(digits).expect("two digits give the number")[0] - 0x80
+        byte(&answer[Self::LEAD..]) - 0x80
     }
+
+    /// The notice of an answer.
+    fn notice(answer: &[u8]) -> u8 {
+        byte(&answer[Self::LEAD + 4..])
+    }
+}
+
+/// The byte that the first two digits give.
+fn byte(digits: &[u8]) -> u8 {
+    line::read(&digits[..2]).expect("two digits")[0]
 }
 
 impl ReferenceProgram for LineProgram {
@@ -79,8 +88,10 @@ mod tests {
     }
 
     #[test]
-    fn the_number_stands_after_the_lead() {
+    fn the_number_stands_after_the_lead_and_the_notice_after_the_state() {
         assert_eq!(LineProgram::number(b"8204000000000100000007"), 2);
         assert_eq!(BenchProgram::number(b"508d00000000000000000000"), 13);
+        assert_eq!(LineProgram::notice(b"800401000000010000000"), 1);
+        assert_eq!(BenchProgram::notice(b"5180000300000001000000"), 3);
     }
 }

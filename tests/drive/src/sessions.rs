@@ -5,7 +5,7 @@ use crate::end::End;
 use crate::script::Script;
 use cases::random::Random;
 use cases::sample::{block, message, REQUEST_KINDS};
-use reference::request::{CLOSE, CONNECT, END_LISTENING, LISTEN, SEND, TIMER};
+use reference::request::{CLOSE, COLLECT, CONNECT, END_LISTENING, LISTEN, SEND, TIMER};
 use reference::State;
 
 /// How many sessions there are of how many calls.
@@ -76,7 +76,8 @@ pub fn request(random: &mut Random, state: State) -> Vec<u8> {
         (State::Closed, _) => random.pick(&[CONNECT, LISTEN]),
         (State::Listening, 1 | 2) => END_LISTENING,
         (State::Open, 1) => CLOSE,
-        (State::Open, 2..=27) => SEND,
+        (State::Open, 2..=19) => SEND,
+        (State::Open, 20..=27) => COLLECT,
         _ => TIMER,
     };
     message(kind, &[], &block(random))

@@ -8,11 +8,12 @@ mod side;
 pub use order::{Order, DELIVER, REQUEST_A, REQUEST_B};
 pub use side::Side;
 
+use crate::block::LONGEST_BLOCK;
 use crate::buffer::{put, start, start_mut};
 use crate::call;
 use crate::frame::LONGEST_FRAME;
 use crate::record::{Record, RECORD};
-use crate::{line, Refusal};
+use crate::{line, Block, Refusal};
 use book::{Place, BOOK, PLACE, PLACES};
 
 /// What a bench line is answered.
@@ -21,7 +22,7 @@ pub struct Answer<'a> {
     /// The end that the answer is about.
     pub side: Side,
     /// The number, that end's state and numbers, and what its call did. A block handed up is part
-    /// of the book.
+    /// of the book, one that is collected stands at the start of the buffer lent for it.
     pub end: call::Answer<'a>,
     /// How many frames the book holds after the line.
     pub count: usize,
@@ -35,9 +36,10 @@ pub fn line<'a>(
     count: usize,
     line: &[u8],
     out: &mut [u8],
+    up: &'a mut [u8],
 ) -> Answer<'a> {
     let [a, b] = &mut records;
-    make([a, b], book, count, line, out).unwrap_or_else(|refusal| Answer {
+    make([a, b], book, count, line, out, up).unwrap_or_else(|refusal| Answer {
         side: Side::A,
         end: call::Answer::refused(records[0], refusal),
         count,
@@ -69,24 +71,33 @@ fn make<'a>(
     count: usize,
     line: &[u8],
     out: &mut [u8],
+    up: &'a mut [u8],
 ) -> Result<Answer<'a>, Refusal> {
     let [a, b] = records;
-    let records = [start_mut::<RECORD>(a)?, start_mut::<RECORD>(b)?];
+    let mut records = [start_mut::<RECORD>(a)?, start_mut::<RECORD>(b)?];
     let (places, _) = start_mut::<BOOK>(book)?.as_chunks_mut::<PLACE>();
     let out = start_mut::<LONGEST_FRAME>(out)?;
+    let up = start_mut::<LONGEST_BLOCK>(up)?;
     let (used, free) = places.split_at_mut_checked(count).ok_or(Refusal::Unsound)?;
-    let bench = Bench::sound(records.each_ref().map(|record| &**record), used)?;
+    for record in &mut records {
+        Record::read(record)?;
+    }
+    let bench = Bench {
+        records: records.each_ref().map(|record| &**record),
+        used,
+    };
     let bytes = line::read(line)?;
     let step = bench.step(Order::read(&bytes)?)?;
-    let mut count = count;
-    if step.end.number == 0 {
-        count += step.store(records, free, out);
-    }
-    Ok(Answer {
+    let mut answer = Answer {
         side: step.side,
         end: step.end,
         count,
-    })
+    };
+    if answer.end.number == 0 {
+        answer.count += step.store(records, free, out);
+        answer.end.block = answer.end.block.or(step.collected(up));
+    }
+    Ok(answer)
 }
 
 /// A sound bench, which is only read.
@@ -100,11 +111,14 @@ struct Bench<'r, 'a> {
 struct Step<'a> {
     /// The end that makes the step.
     side: Side,
+    /// Its answer, without the block that is collected.
     end: call::Answer<'a>,
     /// Its record after the step.
     record: [u8; RECORD],
     /// Starts with the frame to send, if there is one.
     frame: [u8; LONGEST_FRAME],
+    /// The block that is collected, empty if there is none.
+    collected: Vec<u8>,
 }
 
 impl<'r, 'a> Bench<'r, 'a> {
@@ -114,11 +128,6 @@ impl<'r, 'a> Bench<'r, 'a> {
         let records = [start(a)?, start(b)?];
         let (places, _) = start::<BOOK>(book)?.as_chunks();
         let used = places.get(..count).ok_or(Refusal::Unsound)?;
-        Self::sound(records, used)
-    }
-
-    /// Question 12 of both records.
-    fn sound(records: [&'r [u8; RECORD]; 2], used: &'a [Place]) -> Result<Self, Refusal> {
         for record in records {
             Record::read(&mut record.clone())?;
         }
@@ -128,11 +137,21 @@ impl<'r, 'a> Bench<'r, 'a> {
     /// The step of this line; it may be refused.
     fn step(&self, order: Order) -> Result<Step<'a>, Refusal> {
         match order {
-            Order::Request(side, request) => Ok(self.end(side, |record, out| {
-                call::request(record, request, out).without_block()
-            })),
+            Order::Request(side, request) => Ok(self.request(side, request)),
             Order::Delivery(number) => self.delivery(number),
         }
+    }
+
+    /// The step of this end's request. A block that it collects is kept aside: 14 may refuse it.
+    fn request(&self, side: Side, request: &[u8]) -> Step<'a> {
+        let mut collected = Vec::new();
+        let step = self.end(side, |record, out| {
+            let mut up = [0; LONGEST_BLOCK];
+            let answer = call::request(record, request, out, &mut up);
+            collected.extend(answer.block.map_or(&[][..], Block::bytes));
+            answer.without_block()
+        });
+        Step { collected, ..step }
     }
 
     /// Question 13, then the step of the end that did not send the frame.
@@ -161,6 +180,7 @@ impl<'r, 'a> Bench<'r, 'a> {
             end,
             record,
             frame,
+            collected: Vec::new(),
         }
     }
 
@@ -195,5 +215,11 @@ impl Step<'_> {
         put(out, frame);
         free[0] = book::place(self.side, frame);
         1
+    }
+
+    /// The block that an accepted step collected, if it did, copied to the buffer lent for it.
+    fn collected<'u>(&self, up: &'u mut [u8; LONGEST_BLOCK]) -> Option<Block<'u>> {
+        let block = Block::new(&self.collected).ok()?;
+        Some(block.copied(up))
     }
 }

@@ -39,6 +39,13 @@ impl<'a> Block<'a> {
         length + put(&mut out[length..], self.0)
     }
 
+    /// Copies the block to the start of a buffer that has room for it, and writes no other byte;
+    /// gives the copy.
+    pub fn copied(self, out: &mut [u8]) -> Block<'_> {
+        let length = put(out, self.0);
+        Block(&out[..length])
+    }
+
     /// The block's bytes.
     pub fn bytes(self) -> &'a [u8] {
         self.0
@@ -79,6 +86,17 @@ mod tests {
         assert_eq!(Block::read(&[64; 64]), Err(Refusal::BlockLength));
         assert_eq!(Block::read(&[64; 66]), Err(Refusal::BlockLength));
         assert_eq!(Block::read(&[1; 258]), Err(Refusal::BlockLength));
+    }
+
+    #[test]
+    fn a_copy_stands_at_the_start_and_leaves_the_rest() {
+        for length in 1..=LONGEST_BLOCK {
+            let bytes = vec![7; length];
+            let mut out = [9; LONGEST_BLOCK];
+            assert_eq!(Block(&bytes).copied(&mut out), Block(&bytes));
+            assert_eq!(out[..length], bytes);
+            assert!(out[length..].iter().all(|&byte| byte == 9));
+        }
     }
 
     #[test]

@@ -20,7 +20,7 @@ pub struct Answer<'a> {
     pub remote: u32,
     /// The length of the frame written at the start of the buffer for it, 0 for none.
     pub sent: usize,
-    /// The block handed up, part of the received frame.
+    /// The block handed up: part of the received frame, or at the start of the buffer lent for it.
     pub block: Option<Block<'a>>,
 }
 
@@ -63,28 +63,51 @@ pub fn fresh(record: &mut [u8]) -> u8 {
     refusal::number(start_mut(record).map(record::make_fresh))
 }
 
-/// A request of the host: questions 11, 12, 3 to 6 and 8 to 10, then its step.
-pub fn request<'a>(record: &mut [u8], request: &'a [u8], out: &mut [u8]) -> Answer<'a> {
-    answer(record, out, || Request::read(request).map(Message::Request))
+/// A request of the host: questions 11, 12, 3 to 6 and 8 to 10, then its step. A block that it
+/// collects is copied to the start of the second buffer.
+pub fn request<'a>(
+    record: &mut [u8],
+    request: &[u8],
+    out: &mut [u8],
+    up: &'a mut [u8],
+) -> Answer<'a> {
+    let made = start_mut(up).and_then(|up| {
+        make(record, out, |record| {
+            step::request(record, Request::read(request)?, up)
+        })
+    });
+    answer(record, made)
 }
 
 /// A frame that arrives: questions 11, 12 and 3 to 7, then its step.
 pub fn receive<'a>(record: &mut [u8], frame: &'a [u8], out: &mut [u8]) -> Answer<'a> {
-    answer(record, out, || Frame::read(frame).map(Message::Frame))
+    let made = make(record, out, |record| {
+        Ok(step::receive(record, Frame::read(frame)?))
+    });
+    answer(record, made)
 }
 
 /// A request or a frame: questions 11, 12 and 3 to 10, then its step.
-pub fn either<'a>(record: &mut [u8], message: &'a [u8], out: &mut [u8]) -> Answer<'a> {
-    answer(record, out, || Message::read(message))
+pub fn either<'a>(
+    record: &mut [u8],
+    message: &'a [u8],
+    out: &mut [u8],
+    up: &'a mut [u8],
+) -> Answer<'a> {
+    let made = start_mut(up).and_then(|up| {
+        make(record, out, |record| {
+            step::make(record, Message::read(message)?, up)
+        })
+    });
+    answer(record, made)
 }
 
-/// Makes a call whose message is read so, and answers it.
-fn answer<'a>(
-    record: &mut [u8],
-    out: &mut [u8],
-    read: impl FnOnce() -> Result<Message<'a>, Refusal>,
-) -> Answer<'a> {
-    match make(record, out, read) {
+/// What a call did, and the length of the frame sent.
+type Made<'a> = Result<(Outcome<'a>, usize), Refusal>;
+
+/// The answer of a call that left this record.
+fn answer<'a>(record: &[u8], made: Made<'a>) -> Answer<'a> {
+    match made {
         Ok((outcome, sent)) => Answer {
             notice: outcome.notice as u8,
             sent,
@@ -95,16 +118,16 @@ fn answer<'a>(
     }
 }
 
-/// All questions in their order, then the step; also the length of the frame sent.
+/// Questions 11 and 12, then this step with its own questions.
 fn make<'a>(
     record: &mut [u8],
     out: &mut [u8],
-    read: impl FnOnce() -> Result<Message<'a>, Refusal>,
-) -> Result<(Outcome<'a>, usize), Refusal> {
+    step: impl FnOnce(&mut Record) -> Result<Outcome<'a>, Refusal>,
+) -> Made<'a> {
     let record = start_mut::<RECORD>(record)?;
     let out = start_mut::<LONGEST_FRAME>(out)?;
     let mut record = Record::read(record)?;
-    let outcome = step::make(&mut record, read()?)?;
+    let outcome = step(&mut record)?;
     let sent = match outcome.sending {
         Some(sending) => sending.frame(&record).put(out),
         None => 0,

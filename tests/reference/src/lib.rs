@@ -5,9 +5,11 @@
 
 pub mod bench;
 pub mod block;
+mod blocks;
 pub mod buffer;
 pub mod call;
 pub mod frame;
+mod held;
 pub mod line;
 pub mod message;
 pub mod notice;

@@ -50,7 +50,7 @@ mod tests {
     #[test]
     fn other_kinds_are_not_known() {
         assert_eq!(Message::read(&[]), Err(Refusal::Kind));
-        for kind in [0x00, 0x0a, 0x3f, 0x46, 0x50, 0x51, 0x52, 0x80, 0xff] {
+        for kind in [0x00, 0x0a, 0x3f, 0x47, 0x50, 0x51, 0x52, 0x80, 0xff] {
             assert_eq!(Message::read(&[kind]), Err(Refusal::Kind));
         }
     }

@@ -1,5 +1,6 @@
 //! The line program: one end, asked line by line.
 
+use crate::block::LONGEST_BLOCK;
 use crate::call::{either, Answer};
 use crate::frame::LONGEST_FRAME;
 use crate::line;
@@ -33,9 +34,10 @@ impl LineProgram {
 impl Lines for LineProgram {
     fn line(&mut self, line: &[u8], output: &mut Vec<u8>) {
         let mut frame = [0; LONGEST_FRAME];
+        let mut up = [0; LONGEST_BLOCK];
         let bytes = line::read(line);
         let answer = match &bytes {
-            Ok(message) => either(&mut self.record, message, &mut frame),
+            Ok(message) => either(&mut self.record, message, &mut frame, &mut up),
             Err(refusal) => Answer::refused(&self.record, *refusal),
         };
         append_answer(&answer, &frame, output);
@@ -129,19 +131,52 @@ mod tests {
             ("4G", 2),
             ("4g", 2),
             ("0a", 3),
+            ("47", 3),
             ("4A", 3),
             ("5040", 3),
             ("520000", 3),
             ("4000", 4),
+            ("4600", 4),
             ("44", 4),
             ("4400", 5),
             ("4401", 6),
             ("440161", 8),
+            ("46", 8),
             ("010000000000000000", 7),
             ("010000000100000000", 0),
         ] {
             assert_eq!(number(line.as_bytes()), right, "line {line:?}");
         }
+    }
+
+    #[test]
+    fn a_collected_block_is_shown_as_one_that_arrived() {
+        let opening = "41\n010000000700000000\n030000000700000001\n";
+        let early = "08000000070000000100000001026364\n";
+        let next = "08000000070000000100000000026162\n";
+        let answers = output(format!("{opening}46\n{early}46\n{next}46\n46\n").as_bytes());
+        let answers: Vec<_> = answers.lines().skip(4).collect();
+        assert_eq!(
+            answers,
+            [
+                "8004000000000100000007",
+                "8004000000000100000007",
+                "09000000010000000700000000",
+                "8004000000000100000007",
+                "8004050000000100000007026162",
+                "09000000010000000700000001",
+                "8004050000000100000007026364",
+                "09000000010000000700000002",
+                "8004000000000100000007",
+            ]
+        );
+    }
+
+    #[test]
+    fn the_stored_run_of_collect() {
+        let input = include_bytes!("../../../examples/collect.in");
+        let answers = include_str!("../../../examples/collect.out");
+        assert_eq!(output(input), answers);
     }
 
     #[test]

@@ -1,14 +1,15 @@
 //! The record of an end.
 
+use crate::held::{Held, HELD};
 use crate::waiting::{Waiting, WAITING};
 use crate::{Refusal, State};
 
 /// The bytes of a record.
-pub const RECORD: usize = HEAD + WAITING;
+pub const RECORD: usize = HEAD + WAITING + HELD;
 /// The bytes before the waiting blocks: state, L, D, t, e.
 const HEAD: usize = 17;
 
-/// A sound record: its numbers by value, its waiting blocks where they stand.
+/// A sound record: its numbers by value, its blocks where they stand.
 pub struct Record<'a> {
     pub state: State,
     /// L, the local incarnation number.
@@ -20,6 +21,7 @@ pub struct Record<'a> {
     /// e, how many blocks were handed up.
     pub handed_up: u32,
     pub waiting: Waiting<'a>,
+    pub held: Held<'a>,
     /// Where the numbers are written.
     head: &'a mut [u8; HEAD],
 }
@@ -27,10 +29,13 @@ pub struct Record<'a> {
 impl<'a> Record<'a> {
     /// Question 12; success gives the record.
     pub fn read(bytes: &'a mut [u8; RECORD]) -> Result<Self, Refusal> {
-        let (head, waiting) = bytes
+        let (head, blocks) = bytes
             .split_first_chunk_mut()
             .expect("the head stands first");
-        let waiting = waiting.try_into().expect("the rest is the waiting blocks");
+        let (waiting, held) = blocks
+            .split_first_chunk_mut()
+            .expect("the waiting blocks stand next");
+        let held = held.try_into().expect("the rest is the held blocks");
         let record = Self {
             state: State::of(head[0]).ok_or(Refusal::Unsound)?,
             local: number(head, 1),
@@ -38,6 +43,7 @@ impl<'a> Record<'a> {
             accepted: number(head, 9),
             handed_up: number(head, 13),
             waiting: Waiting::of(waiting),
+            held: Held::of(held),
             head,
         };
         if !record.is_sound() {
@@ -46,7 +52,7 @@ impl<'a> Record<'a> {
         Ok(record)
     }
 
-    /// Writes the numbers; the waiting blocks stand in their place already.
+    /// Writes the numbers; the blocks stand in their places already.
     pub fn write(self) {
         self.head[0] = self.state as u8;
         let numbers = [self.local, self.remote, self.accepted, self.handed_up];
@@ -66,8 +72,15 @@ impl<'a> Record<'a> {
             self.accepted = 0;
             self.handed_up = 0;
             self.waiting.clear();
+            self.held.clear();
         }
         self.state = state;
+    }
+
+    /// Block e is handed up: e rises by one, and the places of the held blocks move with it.
+    pub fn hand_up(&mut self) {
+        self.handed_up += 1;
+        self.held.advance();
     }
 
     /// t - w, the number of the oldest waiting block, or of the next if none waits.
@@ -75,7 +88,7 @@ impl<'a> Record<'a> {
         self.accepted - self.waiting.count() as u32
     }
 
-    /// Do the numbers, the state and the waiting blocks agree?
+    /// Do the numbers, the state and the blocks agree?
     fn is_sound(&self) -> bool {
         let numbers = match self.state {
             State::Closed => self.remote == 0,
@@ -83,15 +96,19 @@ impl<'a> Record<'a> {
             State::Calling => self.local >= 1,
             State::Answering | State::Open | State::Closing => self.local >= 1 && self.remote >= 1,
         };
-        numbers && self.counts_are_sound() && self.waiting.is_sound()
+        let blocks = self.waiting.is_sound() && self.held.is_sound(self.handed_up);
+        numbers && self.counts_are_sound() && blocks
     }
 
-    /// Is w at most t, and t = w = e = 0 outside open?
+    /// Is w at most t, and outside open t = w = e = 0 and nothing held?
     fn counts_are_sound(&self) -> bool {
         let waiting = self.waiting.count();
         match self.state {
             State::Open => waiting as u32 <= self.accepted,
-            _ => waiting == 0 && self.accepted == 0 && self.handed_up == 0,
+            _ => {
+                let counts = waiting == 0 && self.accepted == 0 && self.handed_up == 0;
+                counts && self.held.is_empty()
+            }
         }
     }
 }
@@ -125,11 +142,18 @@ mod tests {
         let mut bytes = [0; RECORD];
         bytes[0] = state;
         bytes[1..HEAD].copy_from_slice(&numbers.map(u32::to_be_bytes).concat());
-        let blocks = bytes.last_chunk_mut().unwrap();
+        let blocks = bytes[HEAD..].first_chunk_mut().unwrap();
         for _ in 0..waiting {
             let block = Block::new(b"a").unwrap();
             Waiting::of(blocks).push(block).unwrap();
         }
+        bytes
+    }
+
+    /// The record with a block of so many bytes in one of the places for held ones.
+    fn holding(mut bytes: [u8; RECORD], place: usize, length: u8) -> [u8; RECORD] {
+        bytes[538 + place] = length;
+        bytes[546 + 64 * place..][..usize::from(length)].fill(b'h');
         bytes
     }
 
@@ -138,9 +162,12 @@ mod tests {
     }
 
     #[test]
-    fn a_record_has_538_bytes_in_the_order_of_the_document() {
-        assert_eq!(RECORD, 538);
+    fn a_record_has_1058_bytes_in_the_order_of_the_document() {
+        assert_eq!(RECORD, 1058);
         let mut bytes = bytes(4, [0x0102_0304, 5, 6, 0x0708_090a], 2);
+        bytes[538..546].copy_from_slice(&[2, 0, 0, 0, 0, 0, 0, 1]);
+        bytes[546..548].copy_from_slice(b"ab");
+        bytes[1058 - 64] = b'c';
         assert_eq!(
             bytes[..HEAD],
             [4, 1, 2, 3, 4, 0, 0, 0, 5, 0, 0, 0, 6, 7, 8, 9, 10]
@@ -152,11 +179,12 @@ mod tests {
         assert_eq!((record.local, record.remote), (0x0102_0304, 5));
         assert_eq!((record.accepted, record.handed_up), (6, 0x0708_090a));
         assert_eq!((record.waiting.count(), record.oldest()), (2, 4));
+        assert_eq!(record.held.next(), Block::new(b"ab").ok());
     }
 
     #[test]
     fn a_record_written_reads_as_itself() {
-        let before = bytes(4, [u32::MAX, 2, 0x0102_0304, u32::MAX - 1], 3);
+        let before = holding(bytes(4, [u32::MAX, 2, 0x0102_0304, u32::MAX - 1], 3), 0, 9);
         let mut after = before;
         Record::read(&mut after).unwrap().write();
         assert_eq!(after, before);
@@ -204,6 +232,52 @@ mod tests {
     }
 
     #[test]
+    fn only_open_holds_blocks() {
+        for state in 0..=5 {
+            let record = bytes(state, [1, u32::from(state > 1), 0, 0], 0);
+            for place in 0..8 {
+                let mut record = holding(record, place, 1);
+                assert_eq!(Record::read(&mut record).is_ok(), state == 4);
+            }
+        }
+    }
+
+    #[test]
+    fn held_blocks_are_asked_beside_e() {
+        let is_sound = |e: u32, place: usize, length: u8| {
+            let record = bytes(4, [1, 1, 0, e], 0);
+            Record::read(&mut holding(record, place, length)).is_ok()
+        };
+        assert!(is_sound(4294967294, 0, 64));
+        assert!(!is_sound(4294967295, 0, 64));
+        assert!(is_sound(4294967287, 7, 1));
+        assert!(!is_sound(4294967288, 7, 1));
+        assert!(is_sound(0, 7, 64));
+        assert!(!is_sound(0, 6, 65));
+    }
+
+    #[test]
+    fn what_is_unused_of_the_places_for_held_blocks_is_0() {
+        let sound = holding(bytes(4, [1, 1, 0, 0], 0), 3, 5);
+        for place in 546..RECORD {
+            let mut record = sound;
+            record[place] = b'x';
+            let is_used = (546 + 3 * 64..546 + 3 * 64 + 5).contains(&place);
+            assert_eq!(Record::read(&mut record).is_ok(), is_used, "byte {place}");
+        }
+    }
+
+    #[test]
+    fn held_blocks_move_as_one_is_handed_up() {
+        let before = holding(holding(bytes(4, [1, 1, 0, 6], 0), 0, 2), 4, 3);
+        let mut found = before;
+        let mut record = Record::read(&mut found).unwrap();
+        record.hand_up();
+        record.write();
+        assert_eq!(found, holding(bytes(4, [1, 1, 0, 7], 0), 3, 3));
+    }
+
+    #[test]
     fn w_is_at_most_t() {
         for waiting in 0..=8 {
             for accepted in 0..=9 {
@@ -217,7 +291,7 @@ mod tests {
     #[test]
     fn entering_a_state_clears_what_it_does_not_have() {
         for state in State::ALL {
-            let mut bytes = bytes(4, [5, 3, 9, 9], 8);
+            let mut bytes = holding(bytes(4, [5, 3, 9, 9], 8), 7, 64);
             let mut record = Record::read(&mut bytes).unwrap();
             record.enter(state);
             record.write();

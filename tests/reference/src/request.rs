@@ -14,6 +14,8 @@ pub const CLOSE: u8 = 0x43;
 pub const SEND: u8 = 0x44;
 /// The kind byte of timer.
 pub const TIMER: u8 = 0x45;
+/// The kind byte of collect.
+pub const COLLECT: u8 = 0x46;
 
 /// A request with its block, if it has one.
 #[derive(Clone, Copy, Debug, PartialEq, Eq)]
@@ -24,6 +26,7 @@ pub enum Request<'a> {
     Close,
     Send(Block<'a>),
     Timer,
+    Collect,
 }
 
 impl<'a> Request<'a> {
@@ -37,6 +40,7 @@ impl<'a> Request<'a> {
             CLOSE => Self::Close,
             SEND => return Block::read(rest).map(Self::Send),
             TIMER => Self::Timer,
+            COLLECT => Self::Collect,
             _ => return Err(Refusal::Kind),
         };
         part::end(rest)?;
@@ -52,6 +56,7 @@ impl<'a> Request<'a> {
             Self::Close => CLOSE,
             Self::Send(_) => SEND,
             Self::Timer => TIMER,
+            Self::Collect => COLLECT,
         }
     }
 }
@@ -60,12 +65,13 @@ impl<'a> Request<'a> {
 mod tests {
     use super::*;
 
-    const BARE: [(u8, Request); 5] = [
+    const BARE: [(u8, Request); 6] = [
         (0x40, Request::Connect),
         (0x41, Request::Listen),
         (0x42, Request::EndListening),
         (0x43, Request::Close),
         (0x45, Request::Timer),
+        (0x46, Request::Collect),
     ];
 
     #[test]
@@ -103,7 +109,7 @@ mod tests {
     #[test]
     fn other_kinds_are_not_known() {
         assert_eq!(Request::read(&[]), Err(Refusal::Kind));
-        for kind in (0..=0x3f).chain(0x46..=0xff) {
+        for kind in (0..=0x3f).chain(0x47..=0xff) {
             assert_eq!(Request::read(&[kind]), Err(Refusal::Kind));
             assert_eq!(Request::read(&[kind, 0]), Err(Refusal::Kind));
         }

@@ -3,6 +3,10 @@
 mod frames;
 mod requests;
 
+pub use frames::make as receive;
+pub use requests::make as request;
+
+use crate::block::LONGEST_BLOCK;
 use crate::frame::{Body, Signal};
 use crate::record::Record;
 use crate::{Block, Frame, Message, Notice, Refusal};
@@ -12,7 +16,7 @@ use crate::{Block, Frame, Message, Notice, Refusal};
 pub struct Outcome<'a> {
     pub notice: Notice,
     pub sending: Option<Sending>,
-    /// The block handed up, part of the received frame.
+    /// The block handed up: part of the received frame, or collected into the buffer lent for it.
     pub block: Option<Block<'a>>,
 }
 
@@ -77,10 +81,23 @@ fn data<'a>(record: &'a Record, place: usize) -> Body<'a> {
     }
 }
 
+/// Block e is handed up, and told to the partner.
+fn hand_up<'a>(record: &mut Record, block: Block<'a>) -> Outcome<'a> {
+    record.hand_up();
+    Outcome {
+        block: Some(block),
+        ..Outcome::send(Sending::Ack).with(Notice::BlockHandedUp)
+    }
+}
+
 /// Makes the step of a request or frame. A refusal changes nothing.
-pub fn make<'a>(record: &mut Record, message: Message<'a>) -> Result<Outcome<'a>, Refusal> {
+pub fn make<'a>(
+    record: &mut Record,
+    message: Message<'a>,
+    up: &'a mut [u8; LONGEST_BLOCK],
+) -> Result<Outcome<'a>, Refusal> {
     match message {
-        Message::Request(request) => requests::make(record, request),
+        Message::Request(request) => requests::make(record, request, up),
         Message::Frame(frame) => Ok(frames::make(record, frame)),
     }
 }

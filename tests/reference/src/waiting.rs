@@ -1,30 +1,24 @@
 //! The waiting blocks: accepted for sending, not yet acknowledged.
 
-use crate::block::LONGEST_BLOCK;
+use crate::blocks::{Blocks, BLOCKS, MOST};
 use crate::{Block, Refusal};
 
-/// The most blocks that wait.
-pub const MOST_WAITING: usize = 8;
 /// The bytes of the waiting blocks in a record: w, the lengths, the places.
-pub const WAITING: usize = 1 + MOST_WAITING + MOST_WAITING * LONGEST_BLOCK;
+pub const WAITING: usize = 1 + BLOCKS;
 
 /// The waiting blocks where they stand in a record, the oldest first.
 pub struct Waiting<'a> {
     count: &'a mut u8,
-    lengths: &'a mut [u8; MOST_WAITING],
-    places: &'a mut [[u8; LONGEST_BLOCK]],
+    blocks: Blocks<'a>,
 }
 
 impl<'a> Waiting<'a> {
     /// The waiting blocks in their part of a record, sound or not.
     pub fn of(bytes: &'a mut [u8; WAITING]) -> Self {
-        let [count, rest @ ..] = bytes;
-        let (lengths, places) = rest.split_first_chunk_mut().expect("lengths, then places");
-        let (places, _) = places.as_chunks_mut();
+        let [count, blocks @ ..] = bytes;
         Self {
             count,
-            lengths,
-            places,
+            blocks: Blocks::of(blocks),
         }
     }
 
@@ -35,60 +29,38 @@ impl<'a> Waiting<'a> {
 
     /// Is w at most 8, each waiting length 1 to 64, and what is unused 0?
     pub fn is_sound(&self) -> bool {
-        let count = self.count();
-        if count > MOST_WAITING {
-            return false;
-        }
-        let (used, unused) = self.lengths.split_at(count);
-        let (full, empty) = self.places.split_at(count);
-        used.iter().zip(full).all(is_filled) && is_zero(unused) && is_zero(empty.as_flattened())
+        let is_count = self.blocks.used() == self.count() && !self.blocks.has_gap();
+        is_count && self.blocks.is_sound()
     }
 
     /// The block in this place, which is in use.
     pub fn block(&self, place: usize) -> Block<'_> {
-        let length = usize::from(self.lengths[place]);
-        Block::new(&self.places[place][..length]).expect("a waiting length is 1 to 64")
+        self.blocks
+            .block(place)
+            .expect("a waiting length is 1 to 64")
     }
 
     /// Question 10; then the block joins as the youngest.
     pub fn push(&mut self, block: Block) -> Result<(), Refusal> {
         let count = self.count();
-        if count >= MOST_WAITING {
+        if count >= MOST {
             return Err(Refusal::WaitingFull);
         }
-        let bytes = block.bytes();
-        self.lengths[count] = block.count();
-        self.places[count][..bytes.len()].copy_from_slice(bytes);
+        self.blocks.put(count, block);
         *self.count += 1;
         Ok(())
     }
 
     /// So many of the oldest leave; the others move to the front.
     pub fn remove_oldest(&mut self, leaving: usize) {
-        let count = self.count();
-        let staying = count - leaving;
-        self.lengths.copy_within(leaving..count, 0);
-        self.places.copy_within(leaving..count, 0);
-        self.lengths[staying..count].fill(0);
-        self.places[staying..count].fill([0; LONGEST_BLOCK]);
-        *self.count = staying as u8;
+        self.blocks.leave(leaving);
+        *self.count -= leaving as u8;
     }
 
     /// All leave.
     pub fn clear(&mut self) {
         self.remove_oldest(self.count());
     }
-}
-
-/// Is the length 1 to 64, and 0 all that follows so many bytes of the place?
-fn is_filled((&length, place): (&u8, &[u8; LONGEST_BLOCK])) -> bool {
-    let rest = place.get(usize::from(length)..);
-    length >= 1 && rest.is_some_and(is_zero)
-}
-
-/// Are all bytes 0?
-fn is_zero(bytes: &[u8]) -> bool {
-    bytes.iter().fold(0, |all, byte| all | byte) == 0
 }
 
 #[cfg(test)]
@@ -169,6 +141,8 @@ mod tests {
         for length in 0..=u8::MAX {
             let mut bytes = [0; WAITING];
             bytes[..2].copy_from_slice(&[1, length]);
+            assert_eq!(is_sound(bytes), (1..=64).contains(&length));
+            bytes[..4].copy_from_slice(&[3, 1, length, 1]);
             assert_eq!(is_sound(bytes), (1..=64).contains(&length));
         }
     }

@@ -1,6 +1,5 @@
-use Prim.Native.Nat.{_+_, _-_}
-use mathlib.Core.Path.{_≡_, sym}
-use lib.ListN.{take, drop, length-take}
+use mathlib.Core.Path.{sym}
+use lib.ListN.{take, length-take}
 use lib.Seq.{length-take-le}
 use denote.Ref.{now}
 use Rattle.octets.proofs.Buffers.{length-rest}
@@ -11,34 +10,30 @@ use Rattle.bench_answer.proofs.tell.Statement.{statement}
 use Rattle.bench_answer.proofs.tell.Tie as tie
 
 slice-aggregate-write-text : tie.Need-slice-aggregate-write-text
-slice-aggregate-write-text c = let s = c .before .before .before .before .before .before .before .before .before .before .before .before .before .before .before .before in sym (length-take-le (s .args .r .sent) (now (s .args .frame)) (omega (arith, s .pre .1 .1 .1 .1 .1)))
+slice-aggregate-write-text c = let s = c .before .before .before .before .before .before .before .before .before .before .before .before .before .before in sym (length-take-le (s .args .r .sent) (now (s .args .frame)) (omega (arith, s .pre .1 .1 .1 .1)))
 
 write-text-requires : tie.Need-write-text-requires
 write-text-requires c κs =
-    let s = c .before .before .before .before .before .before .before .before .before .before .before .before .before .before .before .before .before in
+    let s = c .before .before .before .before .before .before .before .before .before .before .before .before .before .before .before in
     let a = s .args in
-    let y = c .before .before .before .before .before .before .before .store82 .last .0 in
-    (omega (arith, length-rest y 2, s .pre .0, c .before .before .before .before .before .slice-known3 .given 0, c .before .before .before .before .before .before .out2 .given, c .before .before .before .before .before .before .before .before .before .before .slice-known2 .given 0, c .before .before .before .before .before .before .before .before .before .before .before .out .given), (omega (arith, length-take (a .r .block) (drop (a .r .at) (now (a .log))), s .pre .1 .1 .0), omega (arith, length-take (a .r .sent) (now (a .frame)), s .pre .1 .1 .1 .1 .0)))
+    let y = c .before .before .before .before .before .store82 .last .0 in
+    (omega (arith, length-rest y 2, s .pre .0, c .before .before .before .slice-known3 .given 0, c .before .before .before .before .out2 .given, c .before .before .before .before .before .before .before .before .slice-known2 .given 0, c .before .before .before .before .before .before .before .before .before .out .given), (s .pre .1 .1 .0, omega (arith, length-take (a .r .sent) (now (a .frame)), s .pre .1 .1 .1 .0)))
 
 add-result : tie.Need-add-result
 add-result c =
-    let s = c .before .before .before .before .before .before .before .before .before .before .before .before .before .before .before .before .before .before .before .before in
+    let s = c .before .before .before .before .before .before .before .before .before .before .before .before .before .before .before .before .before .before in
     let r = s .args .r in
-    let block = take (r .at + r .block - r .at) (drop (r .at) (now (s .args .log))) in
     let sent = take (r .sent) (now (s .args .frame)) in
-    let l = length-take (r .at + r .block - r .at) (drop (r .at) (now (s .args .log))) in
     let m = length-take (r .sent) (now (s .args .frame)) in
-    omega (arith, c .before .before .write-text .ensures .count, text-short (r .status) block sent (omega (arith, l, s .pre .1 .1 .0)) (omega (arith, m, s .pre .1 .1 .1 .1 .0)))
+    omega (arith, c .before .before .write-text .ensures .count, text-short (r .status) (now (s .args .block)) sent (s .pre .1 .1 .0) (omega (arith, m, s .pre .1 .1 .1 .0)))
 
 returns : tie.Need-returns
 returns c =
-    let s = c .before .before .before .before .before .before .before .before .before .before .before .before .before .before .before .before .before .before .before .before in
-    let r = s .args .r in
-    let k : r .at + r .block - r .at ≡ r .block = omega arith in
-    tells (r .end) (now (s .args .out)) _ (s .pre .1 .0) (s .pre .0) (c .before .before .before .before .before .before .before .before .before .before .before .before .before .before .before .store8 .ensures) (c .before .before .before .before .before .before .before .before .before .before .store82 .ensures) (rw k at (c .before .before .write-text .ensures))
+    let s = c .before .before .before .before .before .before .before .before .before .before .before .before .before .before .before .before .before .before in
+    tells (s .args .r .end) (now (s .args .out)) _ (s .pre .1 .0) (s .pre .0) (c .before .before .before .before .before .before .before .before .before .before .before .before .before .store8 .ensures) (c .before .before .before .before .before .before .before .before .store82 .ensures) (c .before .before .write-text .ensures)
 
 pub tell-spec : {M : Type 1} → statement M
 tell-spec =
     tie.close
-    (tie.spec (λ c κs. search needs) (λ c. search needs) (λ c κs. search needs) (λ c. search needs) (λ c. search needs) (λ c. search needs) (λ c. search needs)
-    slice-aggregate-write-text (λ c. search needs) (λ c. search needs) (λ c. search needs) write-text-requires add-result (λ c. search needs) returns)
+    (tie.spec (λ c κs. search needs) (λ c. search needs) (λ c κs. search needs) slice-aggregate-write-text (λ c. search needs) (λ c. search needs)
+    (λ c. search needs) write-text-requires add-result (λ c. search needs) returns)

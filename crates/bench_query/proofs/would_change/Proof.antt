@@ -5,7 +5,8 @@ use mathlib.Core.Bool.{true}
 use denote.Ref.{now}
 use native.Mathlib.Omega.{arith}
 use borrow.Author.Tests.{not-true, not-false}
-use Rattle.octets.specs.Sizes.{longestFrame}
+use Rattle.octets.specs.Sizes.{longestFrame, longestBlock}
+use Rattle.call_spec.specs.Calls.{rooms}
 use Rattle.bench_log.specs.Log.{holds}
 use Rattle.bench_spec.specs.Bench.{Bench, benchOf}
 use Rattle.bench_query.proofs.Delivery.{ready, not-held, to-a, to-b}
@@ -16,7 +17,7 @@ abbrev bench : tie.Start → Bench
 bench c = benchOf (now (c .args .a)) (now (c .args .b)) (now (c .args .log)) (c .args .count)
 
 -- 11 and 12 have been passed
-is-ready : (c : tie.Start) → Passed (bench c) longestFrame
+is-ready : (c : tie.Start) → Passed (bench c) (rooms longestFrame longestBlock)
 is-ready c = ready (bench c) (c .pre)
 
 -- 13 has been passed

@@ -5,7 +5,7 @@ use borrow.Author.Tests.{not-true, not-false}
 use Rattle.endpoint.specs.declared.Endpoint.{Endpoint}
 use Rattle.endpoint.specs.Sound.{sound}
 use Rattle.endpoint.specs.Internal.{recordOf}
-use Rattle.endpoint.proofs.Sounds.{Numbers, numbers-few}
+use Rattle.endpoint.proofs.Sounds.{Numbers, numbers-few, places-decide}
 use native.Mathlib.Omega.{arith}
 use borrow.Author.Needs.{needs}
 use Rattle.endpoint.proofs.is_sound.Statement.{statement}
@@ -13,10 +13,10 @@ use Rattle.endpoint.proofs.is_sound.Tie as tie
 
 -- the record that is asked about
 abbrev asked : tie.Start → Endpoint
-asked c = recordOf (c .args .n) (now (c .args .lengths)) (now (c .args .blocks))
+asked c = recordOf (c .args .n) (now (c .args .lengths)) (now (c .args .blocks)) (now (c .args .held-lengths)) (now (c .args .held-blocks))
 
 -- its numbers have passed
-numbers-hold : (c : tie.Else1) → Numbers (asked (c .before .before .before .before .before)) ≡ true
+numbers-hold : (c : tie.Else1) → Numbers (asked (c .before .before .before .before .before .before .before)) ≡ true
 numbers-hold c =
     rw (c .before .before .wide32 .ensures .0) at (sym (c .before .numbers-ok .ensures)) ∙ not-false (c .before .numbers-ok .result) (c .if1 .left)
 
@@ -28,16 +28,16 @@ returns c =
 
 places-ok-requires : tie.Need-places-ok-requires
 places-ok-requires c κs =
-    let s = c .before .before .before .before .before .before in
-    (s .pre .0, (s .pre .1, omega (arith, numbers-few (asked s) (numbers-hold (c .before)))))
+    let s = c .before .before .before .before .before .before .before .before in
+    (s .pre .0 .0, (s .pre .0 .1, omega (arith, numbers-few (asked s) (numbers-hold (c .before)))))
 
 returns-2 : tie.Need-returns-2
-unfolding sound
 returns-2 c =
-    let s = c .before .before .before .before .before .before .before in
-    rw (c .before .wide .ensures .0) at (c .places-ok .ensures) ∙ rw (numbers-hold (c .before .before)) refl
+    let s = c .before .before .before .before .before .before .before .before .before .before in
+    places-decide (asked s) (numbers-hold (c .before .before .before)) (s .pre .0 .1) (s .pre .0 .0)
+    (rw (c .before .before .wide .ensures .0) at (c .before .places-ok .ensures)) (c .held-ok .ensures)
 
 pub is-sound-spec : {M : Type 1} → statement M
 is-sound-spec =
     tie.close
-    (tie.spec (λ c κs. search needs) (λ c κs. search needs) returns (λ c κs. search needs) places-ok-requires returns-2)
+    (tie.spec (λ c κs. search needs) (λ c κs. search needs) returns (λ c κs. search needs) places-ok-requires (λ c κs. search needs) returns-2)

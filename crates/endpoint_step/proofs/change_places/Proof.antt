@@ -2,7 +2,7 @@ use Prim.Native.Nat.{ℕ, _+_, _*_, _≤_}
 use mathlib.Core.Path.{_≡_, refl}
 use lib.ListN.{length}
 use denote.Ref.{now}
-use Rattle.step_plan.specs.declared.Queue.the-variants.{Join, Release}
+use Rattle.step_plan.specs.declared.Places.the-variants.{Join, Release}
 use Rattle.endpoint_step.specs.Internal.{placesAfter}
 use native.Mathlib.Omega.{arith}
 use borrow.Author.Needs.{needs}
@@ -10,23 +10,23 @@ use Rattle.endpoint_step.proofs.change_places.Statement.{statement}
 use Rattle.endpoint_step.proofs.change_places.Tie as tie
 
 -- what is known where something joins, and where some leave
-joins : (c : tie.Start) → c .args .queue ≡ Join → c .args .waiting * c .args .width + length (now (c .args .s)) ≤ length (now (c .args .d))
+joins : (c : tie.Start) {i : ℕ} → c .args .places ≡ Join i → i * c .args .width + length (now (c .args .s)) ≤ length (now (c .args .d))
 joins c h = rw h at (c .pre .1)
 
-leaves : (c : tie.Start) {k : ℕ} → c .args .queue ≡ Release k → k * c .args .width ≤ length (now (c .args .d))
+leaves : (c : tie.Start) {k : ℕ} → c .args .places ≡ Release k → k * c .args .width ≤ length (now (c .args .d))
 leaves c h = rw h at (c .pre .1)
 
 mul-copy : tie.Need-mul-copy
-mul-copy c = let s = c .before .before .before .before .before in omega (arith, joins s (c .before .enum-told2 .given .1), s .pre .0)
+mul-copy c = let s = c .before .before .before .before .before .before in omega (arith, joins s (c .before .before .places .given .1), s .pre .0)
 
 copy-requires : tie.Need-copy-requires
-copy-requires c κs = joins (c .before .before .before .before .before) (c .before .enum-told2 .given .1)
+copy-requires c κs = joins (c .before .before .before .before .before .before) (c .before .before .places .given .1)
 
 mul-drop-front : tie.Need-mul-drop-front
-mul-drop-front c = let s = c .before .before .before .before .before in omega (arith, leaves s (c .before .queue .given .1), s .pre .0)
+mul-drop-front c = let s = c .before .before .before .before .before in omega (arith, leaves s (c .before .places2 .given .1), s .pre .0)
 
 drop-front-requires : tie.Need-drop-front-requires
-drop-front-requires c κs = let s = c .before .before .before .before .before .before in (s .pre .0, leaves s (c .before .before .queue .given .1))
+drop-front-requires c κs = let s = c .before .before .before .before .before .before in (s .pre .0, leaves s (c .before .before .places2 .given .1))
 
 returns : tie.Need-returns
 unfolding placesAfter
@@ -34,11 +34,11 @@ returns c = rw (c .enum-told .given .1) refl
 
 returns-2 : tie.Need-returns-2
 unfolding placesAfter
-returns-2 c = rw (c .before .before .before .before .enum-told2 .given .1) (c .before .before .copy .ensures)
+returns-2 c = rw (c .before .before .before .before .before .places .given .1) (c .before .before .copy .ensures)
 
 returns-3 : tie.Need-returns-3
 unfolding placesAfter
-returns-3 c = rw (c .before .before .before .before .before .queue .given .1) (c .before .before .drop-front .ensures)
+returns-3 c = rw (c .before .before .before .before .before .places2 .given .1) (c .before .before .drop-front .ensures)
 
 pub change-places-spec : {M : Type 1} → statement M
 change-places-spec =

@@ -1,7 +1,7 @@
 use mathlib.Core.Path.{_≡_, refl}
 use Rattle.octets.specs.Test.{when, ifEq}
 use Rattle.octets.specs.Octets.{size}
-use Rattle.frame.specs.Frame.{CONNECT, LISTEN, END_LISTENING, CLOSE, SEND, TIMER}
+use Rattle.frame.specs.Frame.{CONNECT, LISTEN, END_LISTENING, CLOSE, SEND, TIMER, COLLECT}
 use Rattle.frame.specs.Layout.{hasBlock, numbersSize, layout}
 use Rattle.frame.specs.Read.{blockAt, requestAt}
 use Rattle.frame.specs.Answer.{requestOf}
@@ -17,4 +17,5 @@ request-of-spec =
     (tie.spec (λ c r. let e : c .before .args .kind ≡ CONNECT = omega arith in rw e refl)
     (λ c r. let e : c .before .args .kind ≡ LISTEN = omega arith in rw e refl) (λ c r. let e : c .before .args .kind ≡ END_LISTENING = omega arith in rw e refl)
     (λ c r. let e : c .before .args .kind ≡ CLOSE = omega arith in rw e refl) (λ c r. let e : c .before .args .kind ≡ SEND = omega arith in rw e refl)
-    (λ c r. let s = c .before in let e : s .args .kind ≡ TIMER = omega (arith, request-range (s .args .kind) (s .pre)) in rw e refl))
+    (λ c r. let e : c .before .args .kind ≡ TIMER = omega arith in rw e refl)
+    (λ c r. let s = c .before in let e : s .args .kind ≡ COLLECT = omega (arith, request-range (s .args .kind) (s .pre)) in rw e refl))

@@ -1,5 +1,5 @@
 -- `host::lend` meets its contract: a walk of its MIR, by hand. The record is copied to a local, which is lent to `advance` for a lifetime that is made for the
--- call; the buffer is passed on at its own address, count and lifetime. Then the lifetime is ended, the local is taken back at the record that `advance` left,
+-- call; the buffers are passed on at their own addresses, counts and lifetimes. Then the lifetime is ended, the local is taken back at the record that `advance` left,
 -- which is the one in its answer, and that is stored in the answer. All that it knows of `advance` is that it meets its contract.
 use mathlib.Core.Path.{_≡_, refl, ap}
 use Prim.Native.Nat.{ℕ}
@@ -45,14 +45,14 @@ use denote.Triple.Table.{entered, cited}
 use denote.Triple.Walked.{says, Stays, stay-dropped, gave-slice, walkOf, AllGo, goes-dropped, goes-gave-slice, Walks, ends-at, walked, walk-meets}
 use denote.Exit.{yes}
 use Rattle.call_spec.specs.declared.Call.{Call}
-use Rattle.call_spec.specs.Calls.{given}
+use Rattle.call_spec.specs.Calls.{given, rooms}
 use Rattle.call_spec.proofs.Call as K
 use Rattle.call_spec.proofs.Call.Laws as K′
 use Rattle.endpoint.specs.declared.Endpoint.{Endpoint}
 use Rattle.endpoint.proofs.Endpoint as T
 use Rattle.endpoint.proofs.Endpoint.Laws as T′
 use Rattle.endpoint_step.specs.declared.StepAnswer.{StepAnswer}
-use Rattle.endpoint_step.specs.Calls.{outcomeOf, Advances}
+use Rattle.endpoint_step.specs.Calls.{Advances}
 use Rattle.endpoint_step.proofs.StepAnswer as D
 use Rattle.endpoint_step.proofs.StepAnswer.Laws as D′
 use Rattle.host.proofs.Walk.{of-call, of-end, of-answer, parts, ended}
@@ -65,18 +65,18 @@ use Rattle.host.proofs.lend as lend
 use Rattle.host.proofs.lend.Statement as stated
 use Rattle.host.proofs.lend.Code as code
 
--- at exit, of the buffer, which `advance` was given, its last octets are had
+-- at exit, of the buffers, which `advance` was given, their last octets are had
 abbrev stayed : Stays (lend.ended .signature .params) (lend.ended .kept)
-stayed = (stay-dropped (plain (λ _. K.the-row)) yes, (stay-dropped (plain (λ _. T.the-row)) yes, (stay-dropped (shrSliceOf (0 ∷ []) tt (plain (λ _. u8))) yes, (gave-slice (1 ∷ []) tt (plain (λ _. u8)), tt))))
+stayed = (stay-dropped (plain (λ _. K.the-row)) yes, (stay-dropped (plain (λ _. T.the-row)) yes, (stay-dropped (shrSliceOf (0 ∷ []) tt (plain (λ _. u8))) yes, (gave-slice (1 ∷ []) tt (plain (λ _. u8)), (gave-slice (2 ∷ []) tt (plain (λ _. u8)), tt)))))
 
 -- the contract that the proof cites
 abbrev Advance : {M : Type 1} (𝓤 : URA M) (H : Heap 𝓤) (A : Atoms 𝓤) (at-mem : Memory → SProp 𝓤) (run : Routine → Fun 𝓤) → Contract 𝓤
 Advance 𝓤 H A at-mem run = tripleOf 𝓤 H A advance.signature (advance.spec 𝓤 H A at-mem run)
 
-module _ {M : Type 1} (𝓤 : URA M) (H : Heap 𝓤) (A : Atoms 𝓤) (W : Given 𝓤 H A) (at-mem : Memory → SProp 𝓤) (run : Routine → Fun 𝓤) (κ κ′ : Lft) (bounds : AllOutlive 2 (lend.signature .outlives) (κ, (κ′, tt))) (q q′ : Share)
-    (a : Call) (h : Endpoint) (s out : RefT (List ℕ)) where
-  abbrev x : Call × (Endpoint × (RefT (List ℕ) × (RefT (List ℕ) × Unit {0})))
-  x = (a, (h, (s, (out, tt))))
+module _ {M : Type 1} (𝓤 : URA M) (H : Heap 𝓤) (A : Atoms 𝓤) (W : Given 𝓤 H A) (at-mem : Memory → SProp 𝓤) (run : Routine → Fun 𝓤) (κ κ′ κ″ : Lft) (bounds : AllOutlive 3 (lend.signature .outlives) (κ, (κ′, (κ″, tt)))) (q q′ q″ : Share)
+    (a : Call) (h : Endpoint) (s out up : RefT (List ℕ)) where
+  abbrev x : Call × (Endpoint × (RefT (List ℕ) × (RefT (List ℕ) × (RefT (List ℕ) × Unit {0}))))
+  x = (a, (h, (s, (out, (up, tt)))))
 
   -- the machine values of the slices
   abbrev v : Val
@@ -85,38 +85,41 @@ module _ {M : Type 1} (𝓤 : URA M) (H : Heap 𝓤) (A : Atoms 𝓤) (W : Given
   abbrev v′ : Val
   v′ = sliceVal (out .ptr) (length (out .now))
 
-  abbrev at : List Val × (List Val × (List Val × (List Val × Unit {0})))
-  at = (of-call a ∷ [], (of-end h ∷ [], (v ∷ [], (v′ ∷ [], tt))))
+  abbrev v″ : Val
+  v″ = sliceVal (up .ptr) (length (up .now))
 
-  abbrev Said : StepAnswer → List ℕ → Type 0
-  Said r ys = Advances h (outcomeOf h (given a (now s) (length (now out)))) (now s) (now out) ys r
+  abbrev at : List Val × (List Val × (List Val × (List Val × (List Val × Unit {0}))))
+  at = (of-call a ∷ [], (of-end h ∷ [], (v ∷ [], (v′ ∷ [], (v″ ∷ [], tt)))))
+
+  abbrev Said : StepAnswer → List ℕ → List ℕ → Type 0
+  Said r ys zs = Advances h (given a (now s) (rooms (length (now out)) (length (now up)))) (now out) (now up) ys zs r
 
   -- the tokens of the slices, and what they own
   abbrev Tokens : Item 𝓤
-  Tokens = ‵ (flft κ q) ⊛ ‵ (flft κ′ q′) ⊛ ‵ ftrue
+  Tokens = ‵ (flft κ q) ⊛ ‵ (flft κ′ q′) ⊛ ‵ (flft κ″ q″) ⊛ ‵ ftrue
 
   abbrev Owns : Fml
-  Owns = owns (ShrSlice (named 0) κ u8 ∷ MutSlice (named 1) κ′ u8 ∷ []) (s, (out, tt)) (v ∷ [], (v′ ∷ [], tt))
+  Owns = owns (ShrSlice (named 0) κ u8 ∷ MutSlice (named 1) κ′ u8 ∷ MutSlice (named 2) κ″ u8 ∷ []) (s, (out, (up, tt))) (v ∷ [], (v′ ∷ [], (v″ ∷ [], tt)))
 
   abbrev Post : Val → SProp 𝓤
-  Post = walkOf 𝓤 H A lend.ended stayed (lend.clauses 𝓤 H A at-mem run) .post (((κ, (κ′, tt)), (q, (q′, tt)), bounds, x, at), tt)
+  Post = walkOf 𝓤 H A lend.ended stayed (lend.clauses 𝓤 H A at-mem run) .post (((κ, (κ′, (κ″, tt))), (q, (q′, (q″, tt))), bounds, x, at), tt)
 
-  abbrev Left : StepAnswer → List ℕ → List (Item 𝓤)
-  Left r ys = Tokens ∷ ‵ (finally u8 (out .name) ys) ∷ ‵ (D.the-row .own r (of-answer r ∷ [])) ∷ []
+  abbrev Left : StepAnswer → List ℕ → List ℕ → List (Item 𝓤)
+  Left r ys zs = Tokens ∷ ‵ (finally u8 (out .name) ys) ∷ ‵ (finally u8 (up .name) zs) ∷ ‵ (D.the-row .own r (of-answer r ∷ [])) ∷ []
 
-  exits : (r : StepAnswer) (ys : List ℕ) → length ys ≡ length (now out) → Said r ys → ent 𝓤 (⋆ 𝓤 H A (Left r ys)) (Post (of-answer r))
-  exits r ys l e =
-      qed W (Left r ys) ∵
-      suffices ! _ (ends-at 𝓤 H A lend.ended stayed (lend.clauses 𝓤 H A at-mem run) W (((κ, (κ′, tt)), (q, (q′, tt)), bounds, x, at), tt) (of-answer r) r (tt, (tt, (tt, (ys, tt)))) (tt, (tt, (tt, (l, tt))))) $ says ! e $
-      frame ! $ nothing ! $ move ! (1 ∷ 0 ∷ []) $ fjoin ! $ nothing ! $ fjoin ! $ nothing ! $ fjoin ! $ nothing ! $ fjoin ! $ frame ! $ done !
+  exits : (r : StepAnswer) (ys zs : List ℕ) → length ys ≡ length (now out) → length zs ≡ length (now up) → Said r ys zs → ent 𝓤 (⋆ 𝓤 H A (Left r ys zs)) (Post (of-answer r))
+  exits r ys zs l l′ e =
+      qed W (Left r ys zs) ∵
+      suffices ! _ (ends-at 𝓤 H A lend.ended stayed (lend.clauses 𝓤 H A at-mem run) W (((κ, (κ′, (κ″, tt))), (q, (q′, (q″, tt))), bounds, x, at), tt) (of-answer r) r (tt, (tt, (tt, (ys, (zs, tt))))) (tt, (tt, (tt, (l, (l′, tt)))))) $ says ! e $
+      frame ! $ nothing ! $ move ! (2 ∷ 0 ∷ []) $ fjoin ! $ move ! (1 ∷ 0 ∷ []) $ fjoin ! $ nothing ! $ fjoin ! $ nothing ! $ fjoin ! $ nothing ! $ fjoin ! $ frame ! $ done !
 
   -- the record in the local at l, and what `advance` is handed where it is lent for α under the name γ
   module _ (l α : ℕ) (γ : GName) where
-    abbrev x′ : Call × (RefT Endpoint × (RefT (List ℕ) × (RefT (List ℕ) × Unit {0})))
-    x′ = (a, (record { ptr = (l, 0); name = γ; now = h }, (s, (out, tt))))
+    abbrev x′ : Call × (RefT Endpoint × (RefT (List ℕ) × (RefT (List ℕ) × (RefT (List ℕ) × Unit {0}))))
+    x′ = (a, (record { ptr = (l, 0); name = γ; now = h }, (s, (out, (up, tt)))))
 
     abbrev to : Advance 𝓤 H A at-mem run .Ghost
-    to = (((α ∷ [], (κ, (κ′, tt))), (fullShare, (q, (q′, tt))), tt, x′, (of-call a ∷ [], (vptr l 0 ∷ [], (v ∷ [], (v′ ∷ [], tt))))), tt)
+    to = (((α ∷ [], (κ, (κ′, (κ″, tt)))), (fullShare, (q, (q′, (q″, tt)))), tt, x′, (of-call a ∷ [], (vptr l 0 ∷ [], (v ∷ [], (v′ ∷ [], (v″ ∷ [], tt)))))), tt)
 
     abbrev Loan : Fml
     Loan = MutRef (named 0) (α ∷ []) T.the-row .own (record { ptr = (l, 0); name = γ; now = h }) (vptr l 0 ∷ [])
@@ -125,55 +128,60 @@ module _ {M : Type 1} (𝓤 : URA M) (H : Heap 𝓤) (A : Atoms 𝓤) (W : Given
     goes c = qed W (‵ Loan ∷ ‵ Owns ∷ (‵ (flft (α ∷ []) fullShare) ⊛ Tokens) ∷ []) ∵ fjoin ! $ owned ! K.the-row (Is K.the-row) (EL.makes K.the-type K′.the-plain 𝓤 H A) a _ c $ fjoin ! $ move ! (1 ∷ 0 ∷ []) $ join ! $ frame ! $ done !
 
   module _ (C : Calls 𝓤 H) (Λ : Loops 𝓤 H) (fm : FmC 𝓤 H (W .laws) C) (known : Triple 𝓤 (C #host·advance) (Advance 𝓤 H A at-mem run)) where
-    walk : Is K.the-row a (of-call a ∷ []) → Is T.the-row h (of-end h ∷ []) → Is (ShrSlice (named 0) κ u8) s (v ∷ []) → Is (MutSlice (named 1) κ′ u8) out (v′ ∷ []) → ent 𝓤 (onEntry 𝓤 H A lend.signature (κ, (κ′, tt)) (q, (q′, tt)) x at) (WpFn 𝓤 H C Λ code.function (of-call a ∷ of-end h ∷ v ∷ v′ ∷ []) Post)
+    walk : Is K.the-row a (of-call a ∷ []) → Is T.the-row h (of-end h ∷ []) → Is (ShrSlice (named 0) κ u8) s (v ∷ []) → Is (MutSlice (named 1) κ′ u8) out (v′ ∷ []) → Is (MutSlice (named 2) κ″ u8) up (v″ ∷ []) → ent 𝓤 (onEntry 𝓤 H A lend.signature (κ, (κ′, (κ″, tt))) (q, (q′, (q″, tt))) x at) (WpFn 𝓤 H C Λ code.function (of-call a ∷ of-end h ∷ v ∷ v′ ∷ v″ ∷ []) Post)
     unfolding partOf
-    walk c is p p′ =
-        qed W (Tokens ∷ ‵ (owns (K.the-row ∷ T.the-row ∷ ShrSlice (named 0) κ u8 ∷ MutSlice (named 1) κ′ u8 ∷ []) x at) ∷ []) ∵ enter ! C Λ code.function (of-call a ∷ of-end h ∷ v ∷ v′ ∷ []) _ $
-        alloc1 ! (λ l₀. alloc1 ! (λ l₁. alloc1 ! (λ l₂. alloc1 ! (λ l₃. alloc1 ! (λ l₄. alloc1 ! (λ l₅. alloc1 ! (λ l₆. alloc1 ! (λ l₇. alloc1 ! (λ l₈. alloc1 ! (λ l₉. alloc0 ! $ params1 ! $ pass1 ! (init ! 16 refl (EL.lawful K.the-type K′.the-laws 𝓤 H A W tt .typed a _ c .0)) $
-        pass1 ! (init ! 14 refl (LL.lawful T.the-type T′.the-laws 𝓤 H A W .typed h _ is .0)) $ pass1 ! (init ! 12 refl (shr-slice-lawful 𝓤 H A W (named 0) κ u8 .typed s (v ∷ []) p .0)) $
-        pass1 ! (init ! 10 refl (mut-slice-lawful 𝓤 H A W (named 1) κ′ u8 .typed out (v′ ∷ []) p′ .0)) $ pass0 ! $
-        -- [_9; …; _8; …; …; _0; …; the slices' tokens; what is passed]
-        assigns ! (of-opd ! (load ! (from ! (stop !)) (look ! 14 refl))) (from ! (stop !)) (init ! 8 refl (LL.lawful T.the-type T′.the-laws 𝓤 H A W .typed h _ is .0)) $
-        assigns ! (addr ! (from ! (stop !))) (from ! (stop !)) (init ! 4 refl (tt, tt)) $
-        assigns ! (addr ! (from ! (fld ! refl (hop ! (look-in ! 10 (sub ! 0 refl (whole !))) (stop !))))) (from ! (stop !)) (init ! 2 refl (tt, tt)) $
-        assigns ! (agg ! (and-then ! (load ! (from ! (stop !)) (look ! 2 refl)) (and-then ! (load ! (from ! (fld ! refl (stop !))) (look-in ! 10 (sub ! 1 refl (whole !)))) (no-more !)))) (from ! (stop !))
-        (init ! 0 refl (mut-slice-lawful 𝓤 H A W erased κ′ u8 .typed out (v′ ∷ []) p′ .0)) $
+    walk c is p p′ p″ =
+        qed W (Tokens ∷ ‵ (owns (K.the-row ∷ T.the-row ∷ ShrSlice (named 0) κ u8 ∷ MutSlice (named 1) κ′ u8 ∷ MutSlice (named 2) κ″ u8 ∷ []) x at) ∷ []) ∵ enter ! C Λ code.function (of-call a ∷ of-end h ∷ v ∷ v′ ∷ v″ ∷ []) _ $
+        alloc1 ! (λ l₀. alloc1 ! (λ l₁. alloc1 ! (λ l₂. alloc1 ! (λ l₃. alloc1 ! (λ l₄. alloc1 ! (λ l₅. alloc1 ! (λ l₆. alloc1 ! (λ l₇. alloc1 ! (λ l₈. alloc1 ! (λ l₉. alloc1 ! (λ l₁₀. alloc1 ! (λ l₁₁. alloc1 ! (λ l₁₂. alloc0 ! $ params1 ! $
+        pass1 ! (init ! 22 refl (EL.lawful K.the-type K′.the-laws 𝓤 H A W tt .typed a _ c .0)) $ pass1 ! (init ! 20 refl (LL.lawful T.the-type T′.the-laws 𝓤 H A W .typed h _ is .0)) $
+        pass1 ! (init ! 18 refl (shr-slice-lawful 𝓤 H A W (named 0) κ u8 .typed s (v ∷ []) p .0)) $ pass1 ! (init ! 16 refl (mut-slice-lawful 𝓤 H A W (named 1) κ′ u8 .typed out (v′ ∷ []) p′ .0)) $
+        pass1 ! (init ! 14 refl (mut-slice-lawful 𝓤 H A W (named 2) κ″ u8 .typed up (v″ ∷ []) p″ .0)) $ pass0 ! $
+        -- [_12; …; _11; …; …; _0; …; the slices' tokens; what is passed]
+        assigns ! (of-opd ! (load ! (from ! (stop !)) (look ! 20 refl))) (from ! (stop !)) (init ! 12 refl (LL.lawful T.the-type T′.the-laws 𝓤 H A W .typed h _ is .0)) $
+        assigns ! (addr ! (from ! (stop !))) (from ! (stop !)) (init ! 8 refl (tt, tt)) $
+        assigns ! (addr ! (from ! (fld ! refl (hop ! (look-in ! 16 (sub ! 0 refl (whole !))) (stop !))))) (from ! (stop !)) (init ! 6 refl (tt, tt)) $
+        assigns ! (agg ! (and-then ! (load ! (from ! (stop !)) (look ! 6 refl)) (and-then ! (load ! (from ! (fld ! refl (stop !))) (look-in ! 16 (sub ! 1 refl (whole !)))) (no-more !)))) (from ! (stop !))
+        (init ! 4 refl (mut-slice-lawful 𝓤 H A W erased κ′ u8 .typed out (v′ ∷ []) p′ .0)) $
+        assigns ! (addr ! (from ! (fld ! refl (hop ! (look-in ! 14 (sub ! 0 refl (whole !))) (stop !))))) (from ! (stop !)) (init ! 2 refl (tt, tt)) $
+        assigns ! (agg ! (and-then ! (load ! (from ! (stop !)) (look ! 2 refl)) (and-then ! (load ! (from ! (fld ! refl (stop !))) (look-in ! 14 (sub ! 1 refl (whole !)))) (no-more !)))) (from ! (stop !))
+        (init ! 0 refl (mut-slice-lawful 𝓤 H A W erased κ″ u8 .typed up (v″ ∷ []) p″ .0)) $
         -- the local is lent for a new lifetime
-        move ! (21 ∷ []) $ fsplit ! $ drop ! $ fsplit ! $ move ! (10 ∷ 0 ∷ []) $ use1 W (‵ (cellAt fullShare (T.the-row .mir) (of-end h ∷ []) l₅ 0)) (W .laws .at-raw fullShare T′.mir l₅ 0 (of-end h)) $ fjoin ! $
-        fpack ! (List Val) (λ vs. fsep (cellAt fullShare (T.the-row .mir) vs l₅ 0) (T.the-row .own h vs)) (of-end h ∷ []) $ lft-new ! tt (λ α. move ! (1 ∷ []) $
-        use1 W (later (some (λ (γ : GName). ‵ (Loan l₅ α γ) ⊛ ‵ (flent (α ∷ []) (Body (mem T.the-row) l₅ 0 γ))))) (lends-ref 𝓤 H A W T.the-row (named 0) (α ∷ []) h l₅ 0) $ await ! tt $ pick ! (λ γ. split ! $
-        move ! (2 ∷ 23 ∷ []) $ join ! $ move ! (1 ∷ 3 ∷ 0 ∷ []) $ use3 W (raw (Advance 𝓤 H A at-mem run .pre (to l₅ α γ))) (goes l₅ α γ c) $
-        -- [what is asked; the lender's part; _9; …; _8; …; _7; …; _6; …; the end of _5; _4; …]
-        calls-at ! fm (Advance 𝓤 H A at-mem run) known (to l₅ α γ)
-        (and-then ! (load ! (from ! (stop !)) (look ! 17 refl)) (and-then ! (load ! (from ! (stop !)) (look ! 6 refl)) (and-then ! (load ! (from ! (stop !)) (look ! 13 refl)) (and-then ! (load ! (from ! (stop !)) (look ! 2 refl)) (no-more !))))) (λ u.
-        use1 W (later (some (λ (r : StepAnswer). ((‵ (flft (α ∷ []) fullShare) ⊛ Tokens) ⊛ ‵ (D.the-row .own r (u ∷ []))) ⊛ raw (ensured 𝓤 H A advance.ended (advance.clauses 𝓤 H A at-mem run) (α ∷ [], (κ, (κ′, tt))) (x′ l₅ α γ) tt r)))) (id⊢ 𝓤 _) $ await ! tt $ pick ! (λ r.
-        -- of what it ensures: the last record, the buffer's last octets, and the clause
-        split ! $ move ! (1 ∷ []) $ use1 W (some (λ (ws : Lasts advance.ended (α ∷ [], (κ, (κ′, tt))) (x′ l₅ α γ)). ‵ (lasts advance.ended (α ∷ [], (κ, (κ′, tt))) (x′ l₅ α γ) ws) ⊛ raw (fact 𝓤 (Said r (ws .1 .1 .1 .0) × (ws .1 .0 ≡ r .endpoint))))) (id⊢ 𝓤 _) $ pick ! (λ ws.
-        split ! $ move ! (1 ∷ []) $ heard ! (Said r (ws .1 .1 .1 .0) × (ws .1 .0 ≡ r .endpoint)) (λ e.
-        fsplit ! $ drop ! $ fsplit ! $ move ! (1 ∷ []) $ fsplit ! $ drop ! $ fsplit ! $ fsplit ! $ move ! (1 ∷ 2 ∷ []) $ feqL ! (λ l. drop ! $ move ! (2 ∷ []) $ split ! $ split ! $
-        -- the lifetime is ended, and the local taken back. [its token; the slices' tokens; what r owns; the last octets; the last record; the lender's part; _9; …]
-        lft-end ! tt $ move ! (0 ∷ 5 ∷ 4 ∷ []) $ use3 W (later (‵ (partAt T.the-row fullShare (ws .1 .0) l₅ 0))) (ref-back 𝓤 H A W T.the-row (α ∷ []) γ (ws .1 .0) l₅ 0) $ await ! tt $
-        rewrite ! 0 (λ (z : Endpoint). ‵ (partAt T.the-row fullShare z l₅ 0)) (e .1) refl $ fpick ! (λ vs. fsplit ! $
-        spelt ! T.the-row (Is T.the-row) (shows 𝓤 H A T.the-row) (LL.vals T.the-type T′.the-laws) (LL.tells T.the-type T′.the-laws) fullShare (r .endpoint) vs l₅ 0 $
-        use1 W (‵ (fat fullShare T′.mir l₅ 0 (of-end (r .endpoint)))) (W .laws .raw-at fullShare T′.mir l₅ 0 (of-end (r .endpoint))) $ move ! (1 ∷ []) $ drop ! $ move ! (2 ∷ []) $
-        -- [what r owns; _5; the slices' tokens; the last octets; _9; …; _8; …; _7; …; _6; …; the end of _5; _4; …]
+        move ! (27 ∷ []) $ fsplit ! $ drop ! $ fsplit ! $ move ! (14 ∷ 0 ∷ []) $ use1 W (‵ (cellAt fullShare (T.the-row .mir) (of-end h ∷ []) l₆ 0)) (W .laws .at-raw fullShare T′.mir l₆ 0 (of-end h)) $ fjoin ! $
+        fpack ! (List Val) (λ vs. fsep (cellAt fullShare (T.the-row .mir) vs l₆ 0) (T.the-row .own h vs)) (of-end h ∷ []) $ lft-new ! tt (λ α. move ! (1 ∷ []) $
+        use1 W (later (some (λ (γ : GName). ‵ (Loan l₆ α γ) ⊛ ‵ (flent (α ∷ []) (Body (mem T.the-row) l₆ 0 γ))))) (lends-ref 𝓤 H A W T.the-row (named 0) (α ∷ []) h l₆ 0) $ await ! tt $ pick ! (λ γ. split ! $
+        move ! (2 ∷ 29 ∷ []) $ join ! $ move ! (1 ∷ 3 ∷ 0 ∷ []) $ use3 W (raw (Advance 𝓤 H A at-mem run .pre (to l₆ α γ))) (goes l₆ α γ c) $
+        -- [what is asked; the lender's part; _12; …; _11; …; …; _7; …; the end of _6; _5; …]
+        calls-at ! fm (Advance 𝓤 H A at-mem run) known (to l₆ α γ)
+        (and-then ! (load ! (from ! (stop !)) (look ! 23 refl)) (and-then ! (load ! (from ! (stop !)) (look ! 10 refl)) (and-then ! (load ! (from ! (stop !)) (look ! 19 refl)) (and-then ! (load ! (from ! (stop !)) (look ! 6 refl)) (and-then ! (load ! (from ! (stop !)) (look ! 2 refl)) (no-more !)))))) (λ u.
+        use1 W (later (some (λ (r : StepAnswer). ((‵ (flft (α ∷ []) fullShare) ⊛ Tokens) ⊛ ‵ (D.the-row .own r (u ∷ []))) ⊛ raw (ensured 𝓤 H A advance.ended (advance.clauses 𝓤 H A at-mem run) (α ∷ [], (κ, (κ′, (κ″, tt)))) (x′ l₆ α γ) tt r)))) (id⊢ 𝓤 _) $ await ! tt $ pick ! (λ r.
+        -- of what it ensures: the last record, the buffers' last octets, and the clause
+        split ! $ move ! (1 ∷ []) $ use1 W (some (λ (ws : Lasts advance.ended (α ∷ [], (κ, (κ′, (κ″, tt)))) (x′ l₆ α γ)). ‵ (lasts advance.ended (α ∷ [], (κ, (κ′, (κ″, tt)))) (x′ l₆ α γ) ws) ⊛ raw (fact 𝓤 (Said r (ws .1 .1 .1 .0) (ws .1 .1 .1 .1 .0) × (ws .1 .0 ≡ r .endpoint))))) (id⊢ 𝓤 _) $ pick ! (λ ws.
+        split ! $ move ! (1 ∷ []) $ heard ! (Said r (ws .1 .1 .1 .0) (ws .1 .1 .1 .1 .0) × (ws .1 .0 ≡ r .endpoint)) (λ e.
+        fsplit ! $ drop ! $ fsplit ! $ move ! (1 ∷ []) $ fsplit ! $ drop ! $ fsplit ! $ fsplit ! $ move ! (1 ∷ []) $ feqL ! (λ l. move ! (1 ∷ []) $ fsplit ! $ fsplit ! $ move ! (1 ∷ 2 ∷ []) $ feqL ! (λ l′. drop ! $ move ! (3 ∷ 1 ∷ []) $ split ! $ split ! $
+        -- the lifetime is ended, and the local taken back. [its token; the slices' tokens; what r owns; the last octets of out, of up; the last record; the lender's part; _12; …]
+        lft-end ! tt $ move ! (0 ∷ 6 ∷ 5 ∷ []) $ use3 W (later (‵ (partAt T.the-row fullShare (ws .1 .0) l₆ 0))) (ref-back 𝓤 H A W T.the-row (α ∷ []) γ (ws .1 .0) l₆ 0) $ await ! tt $
+        rewrite ! 0 (λ (z : Endpoint). ‵ (partAt T.the-row fullShare z l₆ 0)) (e .1) refl $ fpick ! (λ vs. fsplit ! $
+        spelt ! T.the-row (Is T.the-row) (shows 𝓤 H A T.the-row) (LL.vals T.the-type T′.the-laws) (LL.tells T.the-type T′.the-laws) fullShare (r .endpoint) vs l₆ 0 $
+        use1 W (‵ (fat fullShare T′.mir l₆ 0 (of-end (r .endpoint)))) (W .laws .raw-at fullShare T′.mir l₆ 0 (of-end (r .endpoint))) $ move ! (1 ∷ []) $ drop ! $ move ! (2 ∷ []) $
+        -- [what r owns; _6; the slices' tokens; the last octets of out, of up; _12; …; _11; …; …; _7; …; the end of _6; _5; …]
         peeks ! D.the-row (Is D.the-row) (shows 𝓤 H A D.the-row) r (u ∷ []) (λ is′.
-        land ! (from ! (stop !)) (init ! 10 refl (LL.lawful D.the-type D′.the-laws 𝓤 H A W .typed r _ is′ .0)) $
-        rewrite ! 10 (λ (w : Val). ‵ (fat fullShare D′.mir l₆ 0 w)) (ap only (LL.tells D.the-type D′.the-laws r (u ∷ []) is′)) refl $ rewrite ! 0 (λ (us : List Val). ‵ (D.the-row .own r us)) (LL.tells D.the-type D′.the-laws r (u ∷ []) is′) refl $
-        assigns ! (of-opd ! (load ! (from ! (stop !)) (look ! 1 refl))) (from ! (fld ! refl (stop !))) (store-in ! 10 (sub ! 1 refl (whole !)) (LL.lawful T.the-type T′.the-laws 𝓤 H A W .typed (r .endpoint) _ (ended r u is′) .0)) $
-        assigns ! (of-opd ! (load ! (from ! (stop !)) (look ! 10 refl))) (from ! (stop !)) (init ! 21 refl (LL.lawful D.the-type D′.the-laws 𝓤 H A W .typed r _ (parts r u is′) .0)) $
-        returns ! (look ! 21 refl) $ forget ! 1 refl $ forget ! 4 refl $ forget ! 6 refl $ forget ! 8 refl $ forget ! 10 refl $ forget ! 13 refl $ forget ! 15 refl $ forget ! 17 refl $ forget ! 19 refl $ forget ! 21 refl $
-        move ! (21 ∷ 22 ∷ []) $ free1 ! $ move ! (19 ∷ 20 ∷ []) $ free1 ! $ move ! (17 ∷ 18 ∷ []) $ free1 ! $ move ! (15 ∷ 16 ∷ []) $ free1 ! $ move ! (13 ∷ 14 ∷ []) $ free1 ! $ move ! (1 ∷ 12 ∷ []) $ free1 ! $
-        move ! (9 ∷ 10 ∷ []) $ free1 ! $ move ! (7 ∷ 8 ∷ []) $ free1 ! $ move ! (5 ∷ 6 ∷ []) $ free1 ! $ move ! (3 ∷ 4 ∷ []) $ free1 ! $ free0 ! $ keep ! (1 ∷ 2 ∷ 0 ∷ []) $ by ! (exits r (ws .1 .1 .1 .0) l (e .0)))))))))))))))))))))
+        land ! (from ! (stop !)) (init ! 15 refl (LL.lawful D.the-type D′.the-laws 𝓤 H A W .typed r _ is′ .0)) $
+        rewrite ! 15 (λ (w : Val). ‵ (fat fullShare D′.mir l₇ 0 w)) (ap only (LL.tells D.the-type D′.the-laws r (u ∷ []) is′)) refl $ rewrite ! 0 (λ (us : List Val). ‵ (D.the-row .own r us)) (LL.tells D.the-type D′.the-laws r (u ∷ []) is′) refl $
+        assigns ! (of-opd ! (load ! (from ! (stop !)) (look ! 1 refl))) (from ! (fld ! refl (stop !))) (store-in ! 15 (sub ! 1 refl (whole !)) (LL.lawful T.the-type T′.the-laws 𝓤 H A W .typed (r .endpoint) _ (ended r u is′) .0)) $
+        assigns ! (of-opd ! (load ! (from ! (stop !)) (look ! 15 refl))) (from ! (stop !)) (init ! 28 refl (LL.lawful D.the-type D′.the-laws 𝓤 H A W .typed r _ (parts r u is′) .0)) $
+        returns ! (look ! 28 refl) $ forget ! 1 refl $ forget ! 5 refl $ forget ! 7 refl $ forget ! 9 refl $ forget ! 11 refl $ forget ! 13 refl $ forget ! 15 refl $ forget ! 18 refl $ forget ! 20 refl $ forget ! 22 refl $ forget ! 24 refl $ forget ! 26 refl $ forget ! 28 refl $
+        move ! (28 ∷ 29 ∷ []) $ free1 ! $ move ! (26 ∷ 27 ∷ []) $ free1 ! $ move ! (24 ∷ 25 ∷ []) $ free1 ! $ move ! (22 ∷ 23 ∷ []) $ free1 ! $ move ! (20 ∷ 21 ∷ []) $ free1 ! $ move ! (18 ∷ 19 ∷ []) $ free1 ! $ move ! (1 ∷ 17 ∷ []) $ free1 ! $
+        move ! (14 ∷ 15 ∷ []) $ free1 ! $ move ! (12 ∷ 13 ∷ []) $ free1 ! $ move ! (10 ∷ 11 ∷ []) $ free1 ! $ move ! (8 ∷ 9 ∷ []) $ free1 ! $ move ! (6 ∷ 7 ∷ []) $ free1 ! $ move ! (4 ∷ 5 ∷ []) $ free1 ! $ free0 ! $ keep ! (1 ∷ 2 ∷ 3 ∷ 0 ∷ []) $ by ! (exits r (ws .1 .1 .1 .0) (ws .1 .1 .1 .1 .0) l l′ (e .0)))))))))))))))))))))))))
 
 module _ {M : Type 1} (𝓤 : URA M) (H : Heap 𝓤) (A : Atoms 𝓤) (W : Given 𝓤 H A) (at-mem : Memory → SProp 𝓤) (run : Routine → Fun 𝓤) where
   lend-walks : (C : Calls 𝓤 H) (Λ : Loops 𝓤 H) → FmC 𝓤 H (W .laws) C → Triple 𝓤 (C #host·advance) (Advance 𝓤 H A at-mem run) → Walks 𝓤 H A lend.ended stayed (WpFn 𝓤 H C Λ code.function) (lend.clauses 𝓤 H A at-mem run)
-  lend-walks C Λ fm known = walked 𝓤 H A lend.ended stayed (lend.clauses 𝓤 H A at-mem run) (WpFn 𝓤 H C Λ code.function) (λ κs. (EL.vals K.the-type K′.the-laws, (LL.vals T.the-type T′.the-laws, (slice-vals, (slice-vals, tt)))))
-      (λ κs. (EL.tells K.the-type K′.the-laws, (LL.tells T.the-type T′.the-laws, (shr-slice-tells (named 0) (κs .0) u8, (mut-slice-tells (named 1) (κs .1 .0) u8, tt)))))
-      (λ κs qs bounds a g are. via 𝓤 _ (fst∗ 𝓤 _ (emp 𝓤)) (walk 𝓤 H A W at-mem run (κs .0) (κs .1 .0) bounds (qs .0) (qs .1 .0) (a .0) (a .1 .0) (a .1 .1 .0) (a .1 .1 .1 .0) C Λ fm known (are .0) (are .1 .0) (are .1 .1 .0) (are .1 .1 .1 .0)))
+  lend-walks C Λ fm known = walked 𝓤 H A lend.ended stayed (lend.clauses 𝓤 H A at-mem run) (WpFn 𝓤 H C Λ code.function) (λ κs. (EL.vals K.the-type K′.the-laws, (LL.vals T.the-type T′.the-laws, (slice-vals, (slice-vals, (slice-vals, tt))))))
+      (λ κs. (EL.tells K.the-type K′.the-laws, (LL.tells T.the-type T′.the-laws, (shr-slice-tells (named 0) (κs .0) u8, (mut-slice-tells (named 1) (κs .1 .0) u8, (mut-slice-tells (named 2) (κs .1 .1 .0) u8, tt))))))
+      (λ κs qs bounds a g are. via 𝓤 _ (fst∗ 𝓤 _ (emp 𝓤)) (walk 𝓤 H A W at-mem run (κs .0) (κs .1 .0) (κs .1 .1 .0) bounds (qs .0) (qs .1 .0) (qs .1 .1 .0) (a .0) (a .1 .0) (a .1 .1 .0) (a .1 .1 .1 .0) (a .1 .1 .1 .1 .0)
+      C Λ fm known (are .0) (are .1 .0) (are .1 .1 .0) (are .1 .1 .1 .0) (are .1 .1 .1 .1 .0)))
 
-  go : AllGo 𝓤 H A W 2 (lend.signature .params) (lend.ended .kept) stayed
-  go = (goes-dropped 𝓤 H A W 2 (plain (λ _. K.the-row)) yes (λ κs x f. refl), (goes-dropped 𝓤 H A W 2 (plain (λ _. T.the-row)) yes (λ κs x f. refl), (goes-dropped 𝓤 H A W 2 (shrSliceOf (0 ∷ []) tt (plain (λ _. u8))) yes (λ κs x f. refl), (goes-gave-slice 𝓤 H A W 2 1 tt (plain (λ _. u8)), tt))))
+  go : AllGo 𝓤 H A W 3 (lend.signature .params) (lend.ended .kept) stayed
+  go = (goes-dropped 𝓤 H A W 3 (plain (λ _. K.the-row)) yes (λ κs x f. refl), (goes-dropped 𝓤 H A W 3 (plain (λ _. T.the-row)) yes (λ κs x f. refl), (goes-dropped 𝓤 H A W 3 (shrSliceOf (0 ∷ []) tt (plain (λ _. u8))) yes (λ κs x f. refl), (goes-gave-slice 𝓤 H A W 3 1 tt (plain (λ _. u8)), (goes-gave-slice 𝓤 H A W 3 2 tt (plain (λ _. u8)), tt)))))
 
   lend-meets : (𝓣 : Tables 𝓤 H) → Triple 𝓤 (𝓣 .C #host·advance) (Advance 𝓤 H A at-mem run) → Meets 𝓤 H A lend.signature (WpFn 𝓤 H (𝓣 .C) (𝓣 .Λ) code.function) (lend.spec 𝓤 H A at-mem run)
   lend-meets 𝓣 known = walk-meets 𝓤 H A lend.ended stayed W go (lend.clauses 𝓤 H A at-mem run) (WpFn 𝓤 H (𝓣 .C) (𝓣 .Λ) code.function) (WpFn-mono 𝓤 H (W .laws) 𝓣 code.function) (lend-walks (𝓣 .C) (𝓣 .Λ) (fmOf 𝓤 H (W .laws) 𝓣) known)

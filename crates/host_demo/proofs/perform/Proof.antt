@@ -4,36 +4,42 @@ use denote.Ref.{now}
 use lib.ListN.{length}
 use lib.Seq.{length-take-le}
 use Rattle.octets.proofs.Buffers.{put-fits}
-use Rattle.octets.specs.Sizes.{longestFrame}
+use Rattle.octets.specs.Sizes.{longestFrame, longestBlock}
+use Rattle.call_spec.specs.Calls.{Arguments, given, rooms}
 use Rattle.answer_text.specs.Text.{answerRoom}
 use Rattle.endpoint_step.specs.declared.StepAnswer.{StepAnswer}
-use Rattle.host_demo.proofs.Fits.{frame-fits, long-enough, block-short}
+use Rattle.host_demo.proofs.Fits.{frame-fits, block-there, block-short}
 use native.Mathlib.Omega.{arith}
 use borrow.Author.Needs.{needs}
 use Rattle.host_demo.proofs.perform.Statement.{statement}
 use Rattle.host_demo.proofs.perform.Tie as tie
 
+-- the call
+abbrev call-of : tie.Start → Arguments
+call-of c = given (c .args .call) (now (c .args .s)) (rooms longestFrame longestBlock)
+
 -- the frame sent has room
 fits : (c : tie.After-frame2) → (length (c .before .lend .last .1 .1 .1 .0) ≡ longestFrame) × (c .before .lend .result .sent ≤ longestFrame)
-fits c = let l : length (c .before .lend .last .1 .1 .1 .0) ≡ longestFrame = search needs in (l, frame-fits _ _ (c .before .lend .ensures) l)
+fits c = let l : length (c .before .lend .last .1 .1 .1 .0) ≡ longestFrame = search needs in (l, frame-fits _ (call-of (c .before .before .before .before .before)) (c .before .lend .ensures) l)
 
-handed-up-requires : tie.Need-handed-up-requires
-handed-up-requires c κs = long-enough _ _ (c .before .before .lend .ensures)
+block-part-requires : tie.Need-block-part-requires
+block-part-requires c κs = block-there _ (call-of (c .before .before .before .before .before .before .before .before)) (c .before .before .before .before .lend .ensures)
 
 array-share-prefix-frame : tie.Need-array-share-prefix-frame
-array-share-prefix-frame c = omega (arith, fits (c .before .before))
+array-share-prefix-frame c = omega (arith, fits (c .before .before .before .before))
 
 slice-aggregate-write-text : tie.Need-slice-aggregate-write-text
-slice-aggregate-write-text c = sym (length-take-le _ _ (omega (arith, fits (c .before .before .before))))
+slice-aggregate-write-text c = sym (length-take-le _ _ (omega (arith, fits (c .before .before .before .before .before))))
 
 write-text-requires : tie.Need-write-text-requires
 write-text-requires c κs =
-    let f = fits (c .before .before .before .before) in
-    let l = c .before .before .before .before .before .lend in
-    let s = c .before .before .before .before .before .before .before .before in (
+    let f = fits (c .before .before .before .before .before .before) in
+    let l = c .before .before .before .before .before .before .before .lend in
+    let s = c .before .before .before .before .before .before .before .before .before .before .before in
+    let u : length (l .last .1 .1 .1 .1 .0) ≡ longestBlock = search needs in (
       search needs,
       (
-        rw (c .before .before .handed-up .ensures) (block-short _ (now (s .args .s)) (s .pre)),
+        rw (c .before .before .block-part .ensures) (block-short (s .args .call) (now (s .args .s)) (l .last .1 .1 .1 .1 .0) (l .result .block) (s .pre) (omega (arith, u))),
         omega (arith, f, length-take-le (l .result .sent) (l .last .1 .1 .1 .0) (omega (arith, f))),
       ),
     )
@@ -52,10 +58,10 @@ slice-aggregate-write-all : tie.Need-slice-aggregate-write-all
 slice-aggregate-write-all c = sym (length-take-le _ _ (omega (arith, text-fits (c .before))))
 
 returns : tie.Need-returns
-returns c = ap (λ (r : StepAnswer). r .endpoint) (c .before .before .before .before .before .before .before .before .before .lend .ensures .answer)
+returns c = ap (λ (r : StepAnswer). r .endpoint) (c .before .before .before .before .before .before .before .before .before .before .before .lend .ensures .answer)
 
 pub perform-spec : {M : Type 1} → statement M
 perform-spec =
     tie.close
-    (tie.spec (λ c. search needs) (λ c κs. search needs) handed-up-requires array-share-prefix-frame slice-aggregate-write-text (λ c. search needs)
-    write-text-requires array-share-prefix-text slice-aggregate-write-all (λ c κs. search needs) returns)
+    (tie.spec (λ c. search needs) (λ c. search needs) (λ c κs. search needs) (λ c. search needs) block-part-requires array-share-prefix-frame
+    slice-aggregate-write-text (λ c. search needs) write-text-requires array-share-prefix-text slice-aggregate-write-all (λ c κs. search needs) returns)

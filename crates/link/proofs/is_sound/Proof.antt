@@ -5,10 +5,11 @@ use Rattle.link.proofs.is_sound.Tie as tie
 
 returns : tie.Need-returns
 unfolding decode
-returns c = rw (c .before .before .before .load-numbers .ensures) at (c .is-sound .ensures)
+returns c = rw (c .before .before .before .before .before .load-numbers .ensures) at (c .is-sound .ensures)
 
 pub is-sound-spec : {M : Type 1} → statement M
 is-sound-spec =
     tie.close
-    (tie.spec (λ c κs. search needs) (λ c. search needs) (λ c. search needs) (λ c. search needs) (λ c. search needs) (λ c. search needs) (λ c. search needs)
+    (tie.spec (λ c κs. search needs) (λ c. search needs) (λ c. search needs) (λ c. search needs) (λ c. search needs) (λ c. search needs)
+    (λ c. search needs) (λ c. search needs) (λ c. search needs) (λ c. search needs) (λ c. search needs) (λ c. search needs) (λ c. search needs)
     (λ c κs. search needs) returns)

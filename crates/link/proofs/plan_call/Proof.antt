@@ -5,10 +5,11 @@ use Rattle.link.proofs.plan_call.Tie as tie
 
 returns : tie.Need-returns
 unfolding decode
-returns c = rw (c .before .before .before .load-numbers .ensures) at (c .plan-call .ensures)
+returns c = rw (c .before .before .before .before .before .load-numbers .ensures) at (c .plan-call .ensures)
 
 pub plan-call-spec : {M : Type 1} → statement M
 plan-call-spec =
     tie.close
-    (tie.spec (λ c κs. search needs) (λ c. search needs) (λ c. search needs) (λ c. search needs) (λ c. search needs) (λ c. search needs) (λ c. search needs)
+    (tie.spec (λ c κs. search needs) (λ c. search needs) (λ c. search needs) (λ c. search needs) (λ c. search needs) (λ c. search needs)
+    (λ c. search needs) (λ c. search needs) (λ c. search needs) (λ c. search needs) (λ c. search needs) (λ c. search needs) (λ c. search needs)
     (λ c κs. search needs) returns)

@@ -1,26 +1,20 @@
-use Prim.Native.Nat.{_-_, _≤_}
-use mathlib.Core.Path.{_≡_, refl}
+use Prim.Native.Nat.{_-_}
+use mathlib.Core.Path.{refl}
 use lib.ListN.{length, drop, length-drop}
 use lib.Seq.{take-all}
 use denote.Ref.{now}
-use Rattle.frame.specs.Layout.{sendBlockAt}
-use Rattle.step_plan.specs.declared.Queue.the-variants.{Join}
 use Rattle.step_plan.specs.Internal.{joinedBy}
 use native.Mathlib.Omega.{arith}
 use borrow.Author.Needs.{needs}
 use Rattle.step_plan.proofs.joined.Statement.{statement}
 use Rattle.step_plan.proofs.joined.Tie as tie
 
--- a block that joins has an octet at least
-long : (c : tie.Start) → c .args .queue ≡ Join → sendBlockAt ≤ length (now (c .args .s))
-unfolding joinedBy
-long c h = let r = rw h at (c .pre .1) in omega (arith, length-drop sendBlockAt (now (c .args .s)), r .1 .0)
-
+-- s reaches to the block that joins
 sub-result : tie.Need-sub-result
-sub-result c = omega (arith, long (c .before .before) (c .enum-told2 .given .1))
+sub-result c = let h = rw (c .enum-told2 .given .1) at (c .before .before .pre) in omega (arith, h)
 
 part-result-start : tie.Need-part-result-start
-part-result-start c = omega (arith, long (c .before .before) (c .enum-told2 .given .1))
+part-result-start c = let h = rw (c .enum-told2 .given .1) at (c .before .before .pre) in omega (arith, h)
 
 returns : tie.Need-returns
 unfolding joinedBy
@@ -29,8 +23,9 @@ returns c = rw (c .before .enum-told .given .1) refl
 returns-2 : tie.Need-returns-2
 unfolding joinedBy
 returns-2 c =
-    let s = now (c .before .before .before .args .s) in
-    rw (c .before .enum-told2 .given .1) (take-all (length s - sendBlockAt) (drop sendBlockAt s) (omega (arith, length-drop sendBlockAt s)))
+    let a = c .before .before .before .args in
+    let s = now (a .s) in
+    rw (c .before .enum-told2 .given .1) (take-all (length s - a .at) (drop (a .at) s) (omega (arith, length-drop (a .at) s)))
 
 returns-3 : tie.Need-returns-3
 unfolding joinedBy

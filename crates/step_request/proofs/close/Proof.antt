@@ -12,13 +12,13 @@ use Rattle.step_request.proofs.close.Statement.{statement}
 use Rattle.step_request.proofs.close.Tie as tie
 
 returns : tie.Need-returns
-returns c = λ b q old w _. let a = c .before .before .before .args in refuses (a .n) q b old w 8 (close-8 (holding (a .n) q) (c .before .if1 .taken)) (c .refuse .ensures)
+returns c = λ b x q h old w _ lz. let a = c .before .before .before .before .args in refuses (a .n) q h b x old w 8 (close-8 (holding (a .n) q h) (c .before .if1 .taken)) (c .refuse .ensures)
 
 returns-2 : tie.Need-returns-2
 unfolding accept noticeNumber sentBy frameOf
-returns-2 c = λ b q old w _.
-    let a = c .before .before .before .args in
-    turns (a .n) q b old w 5 (a .n .remote) none (Frame (Dr (a .n .local) (a .n .remote))) (close-0 (holding (a .n) q) (c .before .if1 .left)) (c .turn .ensures)
+returns-2 c = λ b x q h old w _ lz.
+    let a = c .before .before .before .before .args in
+    turns (a .n) q h b x old w _ lz (c .before .before .before .before .pre) 5 (a .n .remote) none (Frame (Dr (a .n .local) (a .n .remote))) (close-0 (holding (a .n) q h) (c .before .if1 .left)) (c .turn .ensures)
 
 pub close-spec : {M : Type 1} → statement M
 close-spec = tie.close (tie.spec (λ c κs. search needs) returns (λ c κs. search needs) returns-2)

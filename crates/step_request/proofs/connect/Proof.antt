@@ -16,16 +16,16 @@ use borrow.Author.Needs.{needs}
 use Rattle.step_request.proofs.connect.Statement.{statement}
 use Rattle.step_request.proofs.connect.Tie as tie
 
-room : (c : tie.Else1) → c .before .before .args .n .local < lastNumber
-room c = left _ (c .before .before .args .n .local) (sym (c .before .refusal-of .ensures) ∙ c .if1 .left)
+room : (c : tie.Else1) → c .before .before .before .args .n .local < lastNumber
+room c = left _ (c .before .before .before .args .n .local) (sym (c .before .refusal-of .ensures) ∙ c .if1 .left)
 
 pub connect-spec : {M : Type 1} → statement M
 unfolding refusal questions accept sentBy frameOf
 connect-spec =
     tie.close
     (tie.spec (λ c κs. search needs) (λ c κs. search needs)
-    (λ c b q old w _. let n = c .before .before .before .args .n in refuses n q b old w _ (refused-by (holding n q) connect (c .before .before .refusal-of .ensures) (c .before .if1 .taken)) (c .refuse .ensures))
+    (λ c b x q h old w _ lz. let n = c .before .before .before .before .args .n in refuses n q h b x old w _ (refused-by (holding n q h) connect (c .before .before .refusal-of .ensures) (c .before .if1 .taken)) (c .refuse .ensures))
     (λ c. omega (arith, room (c .before))) (λ c κs. room (c .before))
-    (λ c b q old w _.
-    let n = c .before .before .before .before .args .n in
-    begins n q b old w activeOpening (Frame (Crao (n .local + 1) 0)) (allowed (holding n q) connect (sym (c .before .before .before .refusal-of .ensures) ∙ c .before .before .if1 .left)) (c .begin .ensures)))
+    (λ c b x q h old w _ lz.
+    let n = c .before .before .before .before .before .args .n in
+    begins n q h b x old w _ lz (c .before .before .before .before .before .pre) activeOpening (Frame (Crao (n .local + 1) 0)) (allowed (holding n q h) connect (sym (c .before .before .before .refusal-of .ensures) ∙ c .before .before .if1 .left)) (c .begin .ensures)))

@@ -13,16 +13,16 @@ use borrow.Author.Needs.{needs}
 use Rattle.step_request.proofs.listen.Statement.{statement}
 use Rattle.step_request.proofs.listen.Tie as tie
 
-room : (c : tie.Else1) → c .before .before .args .n .local < lastNumber
-room c = left _ (c .before .before .args .n .local) (sym (c .before .refusal-of .ensures) ∙ c .if1 .left)
+room : (c : tie.Else1) → c .before .before .before .args .n .local < lastNumber
+room c = left _ (c .before .before .before .args .n .local) (sym (c .before .refusal-of .ensures) ∙ c .if1 .left)
 
 pub listen-spec : {M : Type 1} → statement M
 unfolding refusal questions accept sentBy
 listen-spec =
     tie.close
     (tie.spec (λ c κs. search needs) (λ c κs. search needs)
-    (λ c b q old w _. let n = c .before .before .before .args .n in refuses n q b old w _ (refused-by (holding n q) listen (c .before .before .refusal-of .ensures) (c .before .if1 .taken)) (c .refuse .ensures))
+    (λ c b x q h old w _ lz. let n = c .before .before .before .before .args .n in refuses n q h b x old w _ (refused-by (holding n q h) listen (c .before .before .refusal-of .ensures) (c .before .if1 .taken)) (c .refuse .ensures))
     (λ c κs. room c)
-    (λ c b q old w _.
-    let n = c .before .before .before .args .n in
-    begins n q b old w listening Nothing (allowed (holding n q) listen (sym (c .before .before .refusal-of .ensures) ∙ c .before .if1 .left)) (c .begin .ensures)))
+    (λ c b x q h old w _ lz.
+    let n = c .before .before .before .before .args .n in
+    begins n q h b x old w _ lz (c .before .before .before .before .pre) listening Nothing (allowed (holding n q h) listen (sym (c .before .before .refusal-of .ensures) ∙ c .before .if1 .left)) (c .begin .ensures)))

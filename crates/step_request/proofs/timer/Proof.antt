@@ -17,39 +17,39 @@ use Rattle.step_request.proofs.timer.Tie as tie
 
 returns : tie.Need-returns
 unfolding noticeNumber resent sentBy frameOf
-returns c = λ b q old w o.
+returns c = λ z b x q h old w o _.
     let n = c .before .before .before .args .n in
-    keeps n q b old w n none (Frame (Crao (n .local) (n .remote))) refl (timer-says (holding n q) _ (search picks)) (c .keep .ensures)
+    keeps n q h b x old w none (Frame (Crao (n .local) (n .remote))) (timer-says (holding n q h) _ (search picks)) (c .keep .ensures)
 
 returns-2 : tie.Need-returns-2
 unfolding noticeNumber resent sentBy frameOf
-returns-2 c = λ b q old w o.
+returns-2 c = λ z b x q h old w o _.
     let n = c .before .before .before .before .before .args .n in
-    keeps n q b old w n none (Frame (Crpo (n .local) (n .remote))) refl (timer-says (holding n q) _ (search picks)) (c .keep2 .ensures)
+    keeps n q h b x old w none (Frame (Crpo (n .local) (n .remote))) (timer-says (holding n q h) _ (search picks)) (c .keep2 .ensures)
 
 returns-3 : tie.Need-returns-3
 unfolding noticeNumber resent sentBy frameOf
-returns-3 c = λ b q old w o.
+returns-3 c = λ z b x q h old w o _.
     let n = c .before .before .before .before .before .before .before .before .before .args .n in
-    keeps n q b old w n none Nothing refl (timer-quiet (holding n q) (resent-oldest (holding n q) (c .before .before .before .if3 .taken) ∙ oldest-none (holding n q) q (omega arith))) (c .keep3 .ensures)
+    keeps n q h b x old w none Nothing (timer-quiet (holding n q h) (resent-oldest (holding n q h) (c .before .before .before .if3 .taken) ∙ oldest-none (holding n q h) q (omega arith))) (c .keep3 .ensures)
 
 returns-4 : tie.Need-returns-4
 unfolding noticeNumber resent sentBy frameOf
-returns-4 c = λ b q old w o.
+returns-4 c = λ z b x q h old w o _.
     let n = c .before .before .before .before .before .before .before .before .before .before .before .args .n in
-    keeps n q b old w n none (Frame (Data (n .local) (n .remote) (n .accepted - n .waiting))) refl (timer-says (holding n q) _ (resent-oldest (holding n q) (c .before .before .before .before .before .if3 .taken) ∙ oldest-is (holding n q) q old o (omega arith) ∙ rw w refl)) (c .keep4 .ensures)
+    keeps n q h b x old w none (Frame (Data (n .local) (n .remote) (n .accepted - n .waiting))) (timer-says (holding n q h) _ (resent-oldest (holding n q h) (c .before .before .before .before .before .if3 .taken) ∙ oldest-is (holding n q h) q old o (omega arith) ∙ rw w refl)) (c .keep4 .ensures)
 
 returns-5 : tie.Need-returns-5
 unfolding noticeNumber resent sentBy frameOf
-returns-5 c = λ b q old w o.
+returns-5 c = λ z b x q h old w o _.
     let n = c .before .before .before .before .before .before .before .before .before .args .n in
-    keeps n q b old w n none (Frame (Dr (n .local) (n .remote))) refl (timer-says (holding n q) _ (search picks)) (c .keep5 .ensures)
+    keeps n q h b x old w none (Frame (Dr (n .local) (n .remote))) (timer-says (holding n q h) _ (search picks)) (c .keep5 .ensures)
 
 returns-6 : tie.Need-returns-6
 unfolding noticeNumber resent sentBy frameOf
-returns-6 c = λ b q old w o.
+returns-6 c = λ z b x q h old w o _.
     let n = c .before .before .before .before .before .before .before .before .before .args .n in
-    keeps n q b old w n none Nothing refl (timer-quiet (holding n q) (search picks)) (c .keep6 .ensures)
+    keeps n q h b x old w none Nothing (timer-quiet (holding n q h) (search picks)) (c .keep6 .ensures)
 
 pub timer-spec : {M : Type 1} → statement M
 timer-spec =

@@ -8,4 +8,4 @@ unfolding whenEstablished
 when-established-spec =
     tie.close
     (tie.spec (λ c κs. search needs) (λ c κs. search needs) (λ c κs. search needs)
-    (λ c q b h. rw (c .before .quotes .ensures, c .before .before .open-rows .ensures q b h) at (c .matches .ensures)))
+    (λ c q s b h. rw (c .before .quotes .ensures, c .before .before .open-rows .ensures q s b h) at (c .matches .ensures)))

@@ -11,7 +11,7 @@ pub when-listening-spec : {M : Type 1} → statement M
 unfolding whenListening ifEq when
 when-listening-spec =
     tie.close
-    (tie.spec (λ c q b h. let e : c .before .args .f .kind ≡ CRAO = omega arith in rw e refl)
-    (λ c q b h. let e : c .before .args .f .kind ≡ CRPO = omega arith in rw e refl)
-    (λ c q b h. let e : c .before .args .f .kind ≡ DR = omega arith in rw e refl)
-    (λ c q b h. let k = c .before .args .f .kind in rw (ne-eqb k CRAO (λ z. omega arith), ne-eqb k CRPO (λ z. omega arith), ne-eqb k DR (λ z. omega arith)) refl))
+    (tie.spec (λ c q s b h. let e : c .before .args .f .kind ≡ CRAO = omega arith in rw e refl)
+    (λ c q s b h. let e : c .before .args .f .kind ≡ CRPO = omega arith in rw e refl)
+    (λ c q s b h. let e : c .before .args .f .kind ≡ DR = omega arith in rw e refl)
+    (λ c q s b h. let k = c .before .args .f .kind in rw (ne-eqb k CRAO (λ z. omega arith), ne-eqb k CRPO (λ z. omega arith), ne-eqb k DR (λ z. omega arith)) refl))

@@ -9,6 +9,7 @@ use crate::records;
 use crate::Reference;
 use reference::bench;
 use reference::bench::book::PLACES;
+use reference::block::LONGEST_BLOCK;
 use reference::frame::LONGEST_FRAME;
 use std::fmt::{self, Debug};
 
@@ -32,6 +33,7 @@ pub struct Buffers {
     records: [Guarded; 2],
     book: Guarded,
     out: Guarded,
+    up: Guarded,
 }
 
 impl Buffers {
@@ -47,12 +49,14 @@ impl Buffers {
             _ => scene.count,
         };
         let frame = random.bytes(LONGEST_FRAME);
+        let block = random.bytes(LONGEST_BLOCK);
         Self {
             count,
             line: Guarded::of(random, line),
             records: records.map(|record| Guarded::resized(random, record.to_vec())),
             book: Guarded::resized(random, scene.book.clone()),
             out: Guarded::resized(random, frame),
+            up: Guarded::resized(random, block),
         }
     }
 
@@ -105,6 +109,7 @@ impl Buffers {
             book: self.book.bytes_mut(),
             count: self.count,
             out: self.out.bytes_mut(),
+            up: self.up.bytes_mut(),
         };
         B::line(lent, self.line.bytes())
     }
@@ -141,6 +146,7 @@ impl<R: Debug> Debug for After<'_, R> {
             .field("b", &b.changed(b_before))
             .field("book", &after.book.changed(&before.book))
             .field("out", &after.out.changed(&before.out))
+            .field("up", &after.up.changed(&before.up))
             .field("line", &after.line.changed(&before.line))
             .finish()
     }

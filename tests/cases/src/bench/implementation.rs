@@ -23,6 +23,8 @@ pub struct Lent<'a> {
     pub count: usize,
     /// For the frame sent.
     pub out: &'a mut [u8],
+    /// For a block that is collected.
+    pub up: &'a mut [u8],
 }
 
 /// What a bench line is answered.
@@ -30,8 +32,8 @@ pub struct Lent<'a> {
 pub struct Reply {
     /// The end that the answer is about: 0 is A, 1 is B.
     pub side: u8,
-    /// The number, that end's state and numbers, and what its call did. The block stands in the
-    /// book.
+    /// The number, that end's state and numbers, and what its call did. A block stands in the book,
+    /// a collected one in the buffer for it.
     pub end: end::Reply,
     /// How many frames the book holds after the line.
     pub count: usize,
@@ -48,11 +50,18 @@ pub struct Named {
 
 impl Bench for Reference {
     fn line(lent: Lent, line: &[u8]) -> Reply {
-        let start = lent.book.as_ptr();
-        let answer = bench::line(lent.records, lent.book, lent.count, line, lent.out);
+        let Lent {
+            records,
+            book,
+            count,
+            out,
+            up,
+        } = lent;
+        let buffers = [book.as_ptr_range(), up.as_ptr_range()];
+        let answer = bench::line(records, book, count, line, out, up);
         Reply {
             side: answer.side as u8,
-            end: end::Reply::of(&answer.end, start),
+            end: end::Reply::of(&answer.end, &buffers),
             count: answer.count,
         }
     }

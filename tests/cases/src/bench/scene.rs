@@ -7,6 +7,7 @@ use crate::records::sound;
 use crate::sample::{hex_digits, FRAME_KINDS};
 use reference::bench::book::{self, Place, BOOK, HEAD, PLACE, PLACES};
 use reference::bench::{self, Side, DELIVER};
+use reference::block::LONGEST_BLOCK;
 use reference::frame::LONGEST_FRAME;
 use reference::line;
 use reference::record::RECORD;
@@ -52,12 +53,18 @@ impl Scene {
                 0 => scene.request(random),
                 _ => scene.delivery(random),
             };
-            let line = line::write(&bytes);
-            let [a, b] = &mut scene.records;
-            let out = &mut [0; LONGEST_FRAME];
-            scene.count = bench::line([a, b], &mut scene.book, scene.count, &line, out).count;
+            scene.take(&line::write(&bytes));
         }
         scene
+    }
+
+    /// Takes a line.
+    fn take(&mut self, line: &[u8]) {
+        let [a, b] = &mut self.records;
+        let out = &mut [0; LONGEST_FRAME];
+        let up = &mut [0; LONGEST_BLOCK];
+        let answer = bench::line([a, b], &mut self.book, self.count, line, out, up);
+        self.count = answer.count;
     }
 
     /// Any records, and a frame for one of them in every place, in use or not.

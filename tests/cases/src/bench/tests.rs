@@ -1,10 +1,14 @@
 //! The comparison finds what is wrong, and nothing else.
 
+mod held;
+
 use super::{calls, compare, Bench, Lent, Named, Reply};
 use crate::coverage::Coverage;
+use crate::records::{self, HELD_LENGTHS};
 use crate::Reference;
 use reference::bench::book::{self, Place, BOOK, HEAD, PLACE, PLACES};
 use reference::bench::{self, Order, Side};
+use reference::block::LONGEST_BLOCK;
 use reference::frame::LONGEST_FRAME;
 use reference::line;
 use reference::record::{Record, RECORD};
@@ -20,17 +24,19 @@ impl Bench for Checked {
             book,
             count,
             out,
+            up,
         } = lent;
-        let before = [&*a, &*b, &*book, &*out].map(<[u8]>::to_vec);
+        let before = [&*a, &*b, &*book, &*out, &*up].map(<[u8]>::to_vec);
         let records = [&mut *a, &mut *b];
         let again = Lent {
             records,
             book: &mut *book,
             count,
             out: &mut *out,
+            up: &mut *up,
         };
         let reply = Reference::line(again, line);
-        let after = [&*a, &*b, &*book, &*out].map(<[u8]>::to_vec);
+        let after = [&*a, &*b, &*book, &*out, &*up].map(<[u8]>::to_vec);
         match reply.end.number {
             0 => assert_accepted(&before, &after, count, &reply),
             _ => assert_refused(&before, &after, count, &reply),
@@ -48,8 +54,8 @@ impl Bench for Checked {
     }
 }
 
-/// The records of A and B, the book and the buffer for the frame.
-type All = [Vec<u8>; 4];
+/// The records of A and B, the book, the buffers for the frame and for a collected block.
+type All = [Vec<u8>; 5];
 
 /// A refusal leaves all bytes and the count, and tells nothing.
 fn assert_refused(before: &All, after: &All, count: usize, reply: &Reply) {
@@ -60,7 +66,8 @@ fn assert_refused(before: &All, after: &All, count: usize, reply: &Reply) {
 }
 
 /// A success leaves sound records, the other end's as it was; what it sends is a readable frame,
-/// written to the buffer and, whole, to the next place; all other bytes stay.
+/// written to the buffer and, whole, to the next place; a block that is not part of the book was
+/// held, and is written to the buffer for it; all other bytes stay.
 fn assert_accepted(before: &All, after: &All, count: usize, reply: &Reply) {
     let mut right = before.clone();
     let side = Side::of(reply.side).unwrap();
@@ -75,6 +82,13 @@ fn assert_accepted(before: &All, after: &All, count: usize, reply: &Reply) {
         right[2][count * PLACE..][..PLACE].copy_from_slice(&book::place(side, frame));
         right[3][..sent].copy_from_slice(frame);
     }
+    let block = reply.end.block.clone();
+    assert_eq!(block.is_empty(), reply.end.notice != 5);
+    if block.start == 0 {
+        let (lengths, blocks) = before[own][HELD_LENGTHS..].split_at(records::PLACES);
+        assert!(block.is_empty() || block.len() == usize::from(lengths[0]));
+        right[4][..block.end].copy_from_slice(&blocks[..block.end]);
+    }
     assert!(*after == right);
     assert_eq!(reply.count, count + usize::from(sent > 0));
     assert!(reply.count <= PLACES);
@@ -84,10 +98,10 @@ fn assert_accepted(before: &All, after: &All, count: usize, reply: &Reply) {
 fn assert_named(records: [&[u8]; 2], book: &[u8], count: usize, frame: Option<usize>) {
     let changes = |number: usize| {
         let [mut a, mut b] = records.map(<[u8]>::to_vec);
-        let out = &mut [0; LONGEST_FRAME];
+        let (out, up) = (&mut [0; LONGEST_FRAME], &mut [0; LONGEST_BLOCK]);
         let line = format!("52{number:04x}");
         let mut book = book.to_vec();
-        let answer = bench::line([&mut a, &mut b], &mut book, count, line.as_bytes(), out);
+        let answer = bench::line([&mut a, &mut b], &mut book, count, line.as_bytes(), out, up);
         answer.end.number == 0 && [a, b] != records.map(<[u8]>::to_vec)
     };
     let last = frame.map_or(count, |frame| frame + 1);
@@ -162,12 +176,16 @@ impl<const FAULT: u8> Bench for Broken<FAULT> {
             book,
             count,
             out,
+            up,
         } = lent;
         let before = book.to_vec();
         let mut fresh = [0; RECORD];
-        let mut longer = [&book[..], &[0; BOOK]].concat();
         let forgets_b = FAULT == FORGETS_THE_OTHER_RECORD && line.starts_with(b"50");
         let forgets_length = FAULT == FORGETS_THE_BOOKS_LENGTH && book.len() < BOOK;
+        let mut longer = match forgets_length {
+            true => [&book[..], &[0; BOOK]].concat(),
+            false => Vec::new(),
+        };
         let broken = Lent {
             records: [&mut *a, if forgets_b { &mut fresh } else { &mut *b }],
             book: if forgets_length {
@@ -177,6 +195,7 @@ impl<const FAULT: u8> Bench for Broken<FAULT> {
             },
             count: Self::count(count, line),
             out: &mut *out,
+            up,
         };
         let mut reply = Reference::line(broken, line);
         Self::spoil_reply(&mut reply, count, delivered(&before, line));

@@ -5,6 +5,7 @@ use crate::group::Group;
 use crate::guarded::Guarded;
 use crate::random::Random;
 use crate::Reference;
+use reference::block::LONGEST_BLOCK;
 use reference::frame::LONGEST_FRAME;
 
 /// The calls of one end.
@@ -21,16 +22,19 @@ pub struct Buffers {
     record: Guarded,
     message: Guarded,
     out: Guarded,
+    up: Guarded,
 }
 
 impl Buffers {
     /// Buffers with this record and message; mostly just large enough, else shorter or longer.
     pub fn any(random: &mut Random, record: &[u8], message: &[u8]) -> Self {
         let frame = random.bytes(LONGEST_FRAME);
+        let block = random.bytes(LONGEST_BLOCK);
         Self {
             record: Guarded::resized(random, record.to_vec()),
             message: Guarded::of(random, message),
             out: Guarded::resized(random, frame),
+            up: Guarded::resized(random, block),
         }
     }
 
@@ -40,6 +44,7 @@ impl Buffers {
             record: Guarded::of(random, record),
             message: Guarded::of(random, message),
             out: Guarded::any(random, LONGEST_FRAME),
+            up: Guarded::any(random, LONGEST_BLOCK),
         }
     }
 }
@@ -59,12 +64,13 @@ impl Call {
         let record = buffers.record.bytes_mut();
         let message = buffers.message.bytes();
         let out = buffers.out.bytes_mut();
+        let up = buffers.up.bytes_mut();
         let reply = match self {
             Self::Fresh => Reply {
                 number: E::fresh(record),
                 ..Reply::default()
             },
-            Self::Request => E::request(record, message, out),
+            Self::Request => E::request(record, message, out, up),
             Self::Receive => E::receive(record, message, out),
         };
         (reply, buffers)

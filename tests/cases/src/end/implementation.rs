@@ -8,8 +8,8 @@ use std::ops::Range;
 pub trait End {
     /// Makes the record that of a fresh end; answers 0, or the number of the refusal.
     fn fresh(record: &mut [u8]) -> u8;
-    /// A request of the host.
-    fn request(record: &mut [u8], request: &[u8], out: &mut [u8]) -> Reply;
+    /// A request of the host; a block that it collects goes up.
+    fn request(record: &mut [u8], request: &[u8], out: &mut [u8], up: &mut [u8]) -> Reply;
     /// A frame that arrives.
     fn receive(record: &mut [u8], frame: &[u8], out: &mut [u8]) -> Reply;
 }
@@ -24,7 +24,8 @@ pub struct Reply {
     pub remote: u32,
     /// The length of the frame sent, 0 for none.
     pub sent: usize,
-    /// Where the block handed up stands in the received frame, 0..0 for none.
+    /// Where the block handed up stands in the received frame, or in the buffer for a collected
+    /// one; 0..0 for none.
     pub block: Range<usize>,
 }
 
@@ -33,18 +34,20 @@ impl End for Reference {
         call::fresh(record)
     }
 
-    fn request(record: &mut [u8], request: &[u8], out: &mut [u8]) -> Reply {
-        Reply::of(&call::request(record, request, out), request.as_ptr())
+    fn request(record: &mut [u8], request: &[u8], out: &mut [u8], up: &mut [u8]) -> Reply {
+        let buffer = up.as_ptr_range();
+        Reply::of(&call::request(record, request, out, up), &[buffer])
     }
 
     fn receive(record: &mut [u8], frame: &[u8], out: &mut [u8]) -> Reply {
-        Reply::of(&call::receive(record, frame, out), frame.as_ptr())
+        let buffer = frame.as_ptr_range();
+        Reply::of(&call::receive(record, frame, out), &[buffer])
     }
 }
 
 impl Reply {
-    /// An answer of the reference, whose block is part of the bytes that start here.
-    pub fn of(answer: &Answer, start: *const u8) -> Self {
+    /// An answer of the reference, whose block is part of one of these buffers.
+    pub fn of(answer: &Answer, buffers: &[Range<*const u8>]) -> Self {
         Self {
             number: answer.number,
             state: answer.state,
@@ -52,14 +55,17 @@ impl Reply {
             local: answer.local,
             remote: answer.remote,
             sent: answer.sent,
-            block: answer.block.map_or(0..0, |block| place(block, start)),
+            block: answer.block.map_or(0..0, |block| place(block, buffers)),
         }
     }
 }
 
-/// Where the block stands in the bytes that start here.
-fn place(block: Block, start: *const u8) -> Range<usize> {
+/// Where the block stands in that one of the buffers that it is part of.
+fn place(block: Block, buffers: &[Range<*const u8>]) -> Range<usize> {
     let bytes = block.bytes();
-    let start = bytes.as_ptr().addr() - start.addr();
+    let first = bytes.as_ptr();
+    let buffer = buffers.iter().find(|buffer| buffer.contains(&first));
+    let buffer = buffer.expect("a block is part of what was lent");
+    let start = first.addr() - buffer.start.addr();
     start..start + bytes.len()
 }

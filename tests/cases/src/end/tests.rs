@@ -1,5 +1,7 @@
 //! The comparison finds what is wrong, and nothing else.
 
+mod held;
+
 use super::{compare, End, Reply};
 use crate::Reference;
 use reference::frame::LONGEST_FRAME;
@@ -14,10 +16,14 @@ impl End for Checked {
         Reference::fresh(record)
     }
 
-    fn request(record: &mut [u8], request: &[u8], out: &mut [u8]) -> Reply {
-        checked(record, out, |record, out| {
-            Reference::request(record, request, out)
-        })
+    fn request(record: &mut [u8], request: &[u8], out: &mut [u8], up: &mut [u8]) -> Reply {
+        let before = up.to_vec();
+        let reply = checked(record, out, |record, out| {
+            Reference::request(record, request, out, up)
+        });
+        assert_eq!(reply.block.start, 0);
+        assert_eq!(up[reply.block.end..], before[reply.block.end..]);
+        reply
     }
 
     fn receive(record: &mut [u8], frame: &[u8], out: &mut [u8]) -> Reply {
@@ -28,7 +34,7 @@ impl End for Checked {
 }
 
 /// Makes the call. A refusal leaves all bytes; a success leaves a sound record, an L not below
-/// the one before, a readable frame, and all other bytes.
+/// the one before, a readable frame, a block with notice 5 alone, and all other bytes.
 fn checked(
     record: &mut [u8],
     out: &mut [u8],
@@ -45,6 +51,7 @@ fn checked(
         let (frame, rest) = out.split_at(reply.sent);
         assert_eq!(rest, &out_before[reply.sent..]);
         assert!(frame.is_empty() || Frame::read(frame).is_ok());
+        assert_eq!(reply.block.is_empty(), reply.notice != 5);
     } else {
         assert_eq!(record, record_before);
         assert_eq!(out, out_before);
@@ -112,9 +119,9 @@ impl<const FAULT: u8> End for Broken<FAULT> {
         number
     }
 
-    fn request(record: &mut [u8], request: &[u8], out: &mut [u8]) -> Reply {
+    fn request(record: &mut [u8], request: &[u8], out: &mut [u8], up: &mut [u8]) -> Reply {
         Self::call(record, out, |record, out| {
-            Reference::request(record, request, out)
+            Reference::request(record, request, out, up)
         })
     }
 

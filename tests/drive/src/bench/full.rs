@@ -53,14 +53,15 @@ mod tests {
     use crate::reference_program::ReferenceProgram;
     use reference::bench::program::BenchProgram;
 
-    /// How often each number is answered while the book is full.
-    fn tally(scripts: impl Iterator<Item = Script>) -> [usize; 15] {
+    /// How often each number is answered to such lines while the book is full.
+    fn tally(scripts: impl Iterator<Item = Script>, is_counted: fn(&[u8]) -> bool) -> [usize; 15] {
         let mut tally = [0; 15];
         for script in scripts {
             let mut program = BenchProgram::default();
             for line in script.lines() {
+                let is_full = program.used().len() == PLACES;
                 let answer = program.answer(line);
-                if program.used().len() == PLACES {
+                if is_full && is_counted(line) {
                     tally[usize::from(BenchProgram::number(&answer))] += 1;
                 }
             }
@@ -70,8 +71,19 @@ mod tests {
 
     #[test]
     fn a_full_book_refuses_only_what_sends() {
-        for tally in [tally((0..10).map(script)), tally((0..10).map(long))] {
+        let all = |_: &[u8]| true;
+        for tally in [
+            tally((0..10).map(script), all),
+            tally((0..10).map(long), all),
+        ] {
             assert!(tally[0] > 100 && tally[14] > 1_000, "{tally:?}");
         }
+    }
+
+    #[test]
+    fn a_full_book_refuses_a_collect_only_if_a_block_is_held() {
+        let is_collect = |line: &[u8]| matches!(line, b"5046" | b"5146");
+        let tally = tally(scripts(), is_collect);
+        assert!(tally[0] > 100 && tally[14] > 20, "{tally:?}");
     }
 }

@@ -110,7 +110,7 @@ impl Writer {
     }
 
     /// The state of this end.
-    fn state(&self, side: Side) -> State {
+    pub fn state(&self, side: Side) -> State {
         State::of(self.program.record(side)[0]).expect("the record is sound")
     }
 }

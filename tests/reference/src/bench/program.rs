@@ -2,6 +2,7 @@
 
 use super::book::{Place, BOOK, PLACE};
 use super::Side;
+use crate::block::LONGEST_BLOCK;
 use crate::frame::LONGEST_FRAME;
 use crate::line;
 use crate::program::append_answer;
@@ -46,8 +47,10 @@ impl BenchProgram {
 impl Lines for BenchProgram {
     fn line(&mut self, line: &[u8], output: &mut Vec<u8>) {
         let mut frame = [0; LONGEST_FRAME];
+        let mut up = [0; LONGEST_BLOCK];
         let [a, b] = &mut self.records;
-        let answer = super::line([a, b], &mut self.book, self.count, line, &mut frame);
+        let book = &mut self.book;
+        let answer = super::line([a, b], book, self.count, line, &mut frame, &mut up);
         line::append(&[answer.side.lead()], output);
         append_answer(&answer.end, &frame, output);
         self.count = answer.count;
@@ -91,6 +94,22 @@ mod tests {
     }
 
     #[test]
+    fn the_stored_runs_of_blocks_that_overtake() {
+        for (input, answers) in [
+            (
+                include_str!("../../../../examples/overtake.in"),
+                include_str!("../../../../examples/overtake.out"),
+            ),
+            (
+                include_str!("../../../../examples/full-book.in"),
+                include_str!("../../../../examples/full-book.out"),
+            ),
+        ] {
+            assert_eq!(output(input), answers);
+        }
+    }
+
+    #[test]
     fn no_input_is_no_line_and_a_lone_line_feed_an_empty_one() {
         assert_eq!(output(""), "");
         assert_eq!(output("\n"), "508100000000000000000000\n");
@@ -120,12 +139,14 @@ mod tests {
             ("5150", "5183"),
             ("5152", "5183"),
             ("5101", "5183"),
+            ("5147", "5183"),
             ("53", "5083"),
             ("52", "5084"),
             ("5200", "5084"),
             ("52000000", "5084"),
             ("5140ff", "5184"),
             ("5144", "5184"),
+            ("514600", "5184"),
             ("504400", "5085"),
             ("514441", "5185"),
             ("514401", "5186"),
@@ -133,6 +154,8 @@ mod tests {
             ("52ffff", "508d"),
             ("52FFfF", "508d"),
             ("5143", "5188"),
+            ("5146", "5188"),
+            ("5046", "5088"),
             ("5040", "5088"),
             ("520000", "5180"),
         ] {

@@ -1,6 +1,6 @@
 //! The step table's frames. In each function s is the frame's sender.
 
-use super::{Outcome, Sending};
+use super::{hand_up, Outcome, Sending};
 use crate::frame::Body;
 use crate::frame::Signal::{Crack, Crao, Crpo, Dr, Drack, Rej, Reset};
 use crate::record::Record;
@@ -138,17 +138,14 @@ fn close_finished<'a>(record: &mut Record) -> Outcome<'a> {
     Outcome::SILENT.with(Notice::CloseFinished)
 }
 
-/// The awaited block is handed up; every DATA is acknowledged.
+/// The awaited block is handed up, an early one held; every DATA is acknowledged.
 fn data<'a>(record: &mut Record, sequence: u32, block: Block<'a>) -> Outcome<'a> {
-    let acknowledgement = Outcome::send(Sending::Ack);
-    if sequence != record.handed_up {
-        return acknowledgement;
+    match sequence.checked_sub(record.handed_up) {
+        Some(0) => return hand_up(record, block),
+        Some(above) => record.held.hold(above, block),
+        None => {}
     }
-    record.handed_up += 1;
-    Outcome {
-        block: Some(block),
-        ..acknowledgement.with(Notice::BlockHandedUp)
-    }
+    Outcome::send(Sending::Ack)
 }
 
 /// The blocks before this number leave, if it is new and not beyond those accepted.

@@ -1,12 +1,17 @@
 //! The step table's requests.
 
-use super::{Outcome, Sending};
+use super::{hand_up, Outcome, Sending};
+use crate::block::LONGEST_BLOCK;
 use crate::frame::Signal;
 use crate::record::Record;
 use crate::{Block, Refusal, Request, State};
 
-/// Questions 8 to 10 of a request; then its step.
-pub fn make<'a>(record: &mut Record, request: Request) -> Result<Outcome<'a>, Refusal> {
+/// Questions 8 to 10 of a request; then its step. A block that is collected is copied up.
+pub fn make<'a>(
+    record: &mut Record,
+    request: Request,
+    up: &'a mut [u8; LONGEST_BLOCK],
+) -> Result<Outcome<'a>, Refusal> {
     match request {
         Request::Connect => connect(record),
         Request::Listen => listen(record),
@@ -14,6 +19,7 @@ pub fn make<'a>(record: &mut Record, request: Request) -> Result<Outcome<'a>, Re
         Request::Close => close(record),
         Request::Send(block) => send(record, block),
         Request::Timer => Ok(timer(record)),
+        Request::Collect => collect(record, up),
     }
 }
 
@@ -58,6 +64,19 @@ fn timer<'a>(record: &Record) -> Outcome<'a> {
         State::Open => Outcome::send(Sending::Data(0)),
         State::Closing => Outcome::signal(Signal::Dr, record.remote),
     }
+}
+
+/// Hands up block e if it is held.
+fn collect<'a>(
+    record: &mut Record,
+    up: &'a mut [u8; LONGEST_BLOCK],
+) -> Result<Outcome<'a>, Refusal> {
+    ask_state(record, State::Open)?;
+    let Some(block) = record.held.next() else {
+        return Ok(Outcome::SILENT);
+    };
+    let block = block.copied(up);
+    Ok(hand_up(record, block))
 }
 
 /// A closed end begins a new incarnation in this state.

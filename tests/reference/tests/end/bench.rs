@@ -1,8 +1,9 @@
 //! Bench lines on lent buffers: the order of the questions, and every byte written.
 
-use crate::sample::{ack, data, end, open, send, signal, Record, LAST};
+use crate::sample::{ack, data, end, holding, open, send, signal, Held, Record, LAST};
 use reference::bench::book::{place, Place, BOOK, HEAD, PLACE, PLACES};
 use reference::bench::{self, Side};
+use reference::block::LONGEST_BLOCK;
 use reference::frame::Signal::{Crack, Crao, Crpo, Dr, Drack, Rej, Reset};
 use reference::frame::LONGEST_FRAME;
 use reference::line;
@@ -19,6 +20,7 @@ pub struct Lent {
     pub book: Vec<u8>,
     pub count: usize,
     pub out: Vec<u8>,
+    pub up: Vec<u8>,
 }
 
 /// What a line was answered.
@@ -45,13 +47,19 @@ impl Lent {
             book,
             count: frames.len(),
             out: vec![UNTOUCHED; LONGEST_FRAME],
+            up: vec![UNTOUCHED; LONGEST_BLOCK],
         }
+    }
+
+    /// All buffers: the records, the book, those for a frame and for a block.
+    fn buffers(&mut self) -> [&mut Vec<u8>; 5] {
+        let [a, b] = &mut self.records;
+        [a, b, &mut self.book, &mut self.out, &mut self.up]
     }
 
     /// The same with so many bytes more at the end of each buffer.
     fn longer(mut self, by: usize) -> Self {
-        let [a, b] = &mut self.records;
-        for buffer in [a, b, &mut self.book, &mut self.out] {
+        for buffer in self.buffers() {
             buffer.resize(buffer.len() + by, UNTOUCHED);
         }
         self
@@ -75,7 +83,8 @@ impl Lent {
     fn text(&mut self, line: &[u8]) -> Told {
         let before = self.clone();
         let [a, b] = &mut self.records;
-        let answer = bench::line([a, b], &mut self.book, self.count, line, &mut self.out);
+        let (book, out, up) = (&mut self.book, &mut self.out, &mut self.up);
+        let answer = bench::line([a, b], book, self.count, line, out, up);
         let (side, end, count) = (answer.side, answer.end, answer.count);
         let told = Told {
             number: end.number,
@@ -121,10 +130,9 @@ use Side::{A, B};
 fn buffers_are_asked_before_soundness_and_soundness_before_the_line() {
     let wrong = Lent::new([UNSOUND, UNSOUND], &[]).filled(1);
     for line in [&b""[..], &[0xff], &[0x51, 0x40], &[0x52, 0, 0]] {
-        for short in 0..4 {
+        for short in 0..5 {
             let mut lent = wrong.clone();
-            let [a, b] = &mut lent.records;
-            [a, b, &mut lent.book, &mut lent.out][short].pop();
+            lent.buffers()[short].pop();
             assert_eq!(lent.asked(line), (11, A));
             lent.count = 513;
             assert_eq!(lent.asked(line), (11, A));
@@ -161,21 +169,25 @@ fn requests_are_asked_3_to_14() {
     let with_room = Lent::new([open(LAST - 1, 0, &eight[1..]); 2], &[]);
     let full = with_room.clone().filled(512);
     let free = with_room.filled(511);
-    let steps: [(&Lent, &[u8], u8); 15] = [
+    let steps: [(&Lent, &[u8], u8); 19] = [
         (&closed, &[], 3),
         (&closed, &[0x01, 0, 0, 0, 1, 0, 0, 0, 1], 3),
+        (&closed, &[0x47], 3),
         (&closed, &[0x50], 3),
         (&closed, &[0x52], 3),
         (&closed, &[0x40, 0], 4),
+        (&closed, &[0x46, 0], 4),
         (&closed, &[0x44], 4),
         (&closed, &[0x44, 0], 5),
         (&closed, &[0x44, 65], 5),
         (&closed, &[0x44, 1], 6),
         (&closed, &[0x44, 1, 7], 8),
+        (&closed, &[0x46], 8),
         (&used_up, &[0x44, 1, 7], 9),
         (&waiting, &[0x44, 1, 7], 10),
         (&full, &[0x44, 1, 7], 14),
         (&free, &[0x44, 1, 7], 0),
+        (&full, &[0x46], 0),
         (&closed, &[0x40], 14),
     ];
     for (lent, request, number) in steps {
@@ -248,6 +260,8 @@ fn a_full_book_stops_only_what_sends() {
         (FRESH, vec![0x45]),
         (end(Listening, 1, 0), vec![0x45]),
         (open(1, 0, &[]), vec![0x45]),
+        (open(1, 0, &[]), vec![0x46]),
+        (holding(open(1, 0, &[]), &[(1, b"early")]), vec![0x46]),
     ];
     for (record, request) in requests {
         let lent = Lent::new([record; 2], &[]).filled(512);
@@ -333,12 +347,64 @@ fn the_block_handed_up_is_part_of_the_book() {
     let mut lent = Lent::new([FRESH, open(0, 0, &[])], &frames);
     let book = lent.book.as_ptr_range();
     let [a, b] = &mut lent.records;
-    let answer = bench::line([a, b], &mut lent.book, 2, b"520001", &mut lent.out);
+    let (book_bytes, out, up) = (&mut lent.book, &mut lent.out, &mut lent.up);
+    let answer = bench::line([a, b], book_bytes, 2, b"520001", out, up);
     let block = answer.end.block.unwrap().bytes();
     assert_eq!(block, b"block");
     let place = block.as_ptr().addr() - book.start.addr();
     assert_eq!(place, PLACE + HEAD + 14);
     assert_eq!((answer.end.notice, answer.count), (5, 3));
+}
+
+#[test]
+fn a_collected_block_is_copied_to_the_second_buffer() {
+    let held: Held = &[(0, b"block"), (3, b"early")];
+    let before = Lent::new([FRESH, holding(open(0, 6, &[]), held)], &[]).longer(2);
+    let mut lent = before.clone();
+    let told = lent.line(&[0x51, 0x46]);
+    assert_eq!((told.number, told.side, told.notice), (0, B, 5));
+    assert_eq!(
+        (&told.block[..], told.sent, lent.count),
+        (&b"block"[..], 13, 1)
+    );
+    let acknowledgement = ack(5, 3, 7);
+    let mut right = before;
+    right.count = 1;
+    right.records[1][..RECORD].copy_from_slice(&holding(open(0, 7, &[]), &[(2, b"early")]));
+    right.out[..13].copy_from_slice(&acknowledgement);
+    right.up[..5].copy_from_slice(b"block");
+    right.book[..PLACE].copy_from_slice(&place(B, &acknowledgement));
+    assert_eq!(lent, right);
+}
+
+#[test]
+fn a_collected_block_stands_at_the_start_of_the_second_buffer() {
+    let held = holding(open(0, 6, &[]), &[(0, &[7; 64])]);
+    let mut lent = Lent::new([held, FRESH], &[]).longer(2);
+    let start = lent.up.as_ptr();
+    let [a, b] = &mut lent.records;
+    let (book, out, up) = (&mut lent.book, &mut lent.out, &mut lent.up);
+    let answer = bench::line([a, b], book, 0, b"5046", out, up);
+    let block = answer.end.block.unwrap().bytes();
+    assert_eq!((block.as_ptr(), block), (start, &[7; 64][..]));
+}
+
+#[test]
+fn a_full_book_stops_a_collect_only_if_block_e_is_held() {
+    let held: Held = &[(0, b"block"), (1, b"next")];
+    for (lead, side) in [(0x50, A), (0x51, B)] {
+        let records = [holding(open(0, 6, &[]), held); 2];
+        let full = Lent::new(records, &[]).filled(512);
+        assert_eq!(full.asked(&[lead, 0x46]), (14, side));
+        let room = Lent::new(records, &[]).filled(511);
+        assert_eq!(room.asked(&[lead, 0x46]), (0, side));
+        let none = [holding(open(0, 6, &[]), &held[1..]); 2];
+        let before = Lent::new(none, &[]).filled(512);
+        let mut lent = before.clone();
+        let told = lent.line(&[lead, 0x46]);
+        assert_eq!((told.number, told.side, told.notice), (0, side, 0));
+        assert_eq!(lent, before);
+    }
 }
 
 #[test]

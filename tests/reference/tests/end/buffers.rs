@@ -1,25 +1,41 @@
 //! Lent buffers, the order of the questions, and refusals that leave everything untouched.
 
-use crate::sample::{data, end, open, LAST};
+use crate::sample::{data, end, holding, open, LAST};
+use reference::block::LONGEST_BLOCK;
 use reference::call::{self, fresh};
 use reference::frame::LONGEST_FRAME;
 use reference::record::RECORD;
 use reference::{Answer, State};
 
-type Call = for<'a> fn(&mut [u8], &'a [u8], &mut [u8]) -> Answer<'a>;
+type Call = for<'a> fn(&mut [u8], &'a [u8], &mut [u8], &'a mut [u8]) -> Answer<'a>;
 
-/// The number of a call on a copy of the record; what is refused must change and answer nothing.
+/// A request.
+const REQUEST: Call = |record, request, out, up| call::request(record, request, out, up);
+/// A frame that arrives, which is lent no second buffer.
+const RECEIVE: Call = |record, frame, out, _| call::receive(record, frame, out);
+/// Either of them.
+const EITHER: Call = call::either;
+
+/// The number of a call on a copy of the record, with so much room for a frame and enough for a
+/// block.
 fn number(call: Call, record: &[u8], message: &[u8], room: usize) -> u8 {
+    number_in(call, record, message, [room, LONGEST_BLOCK])
+}
+
+/// The number of a call on a copy of the record, with so much room for a frame and for a block;
+/// what is refused must change and answer nothing.
+fn number_in(call: Call, record: &[u8], message: &[u8], rooms: [usize; 2]) -> u8 {
     let mut after = record.to_vec();
-    let mut out = vec![0xee; room];
-    let answer = call(&mut after, message, &mut out);
-    if answer.number != 0 {
-        assert_eq!(after, record);
-        assert_eq!(out, vec![0xee; room]);
+    let [mut out, mut up] = rooms.map(|room| vec![0xee; room]);
+    let answer = call(&mut after, message, &mut out, &mut up);
+    let number = answer.number;
+    if number != 0 {
         assert_eq!((answer.notice, answer.sent, answer.block), (0, 0, None));
         assert_eq!((answer.state, answer.local, answer.remote), shown(record));
+        assert_eq!(after, record);
+        assert_eq!([out, up], rooms.map(|room| vec![0xee; room]));
     }
-    answer.number
+    number
 }
 
 /// State, L and D of a record as it stands; zeros if it is too short.
@@ -38,23 +54,26 @@ fn requests_are_asked_in_the_order_of_the_document() {
     let used_up = open(LAST, 0, &[b"b".as_slice(); 8]);
     let full = open(LAST - 1, 0, &[b"b".as_slice(); 8]);
     let with_room = open(LAST - 1, 0, &[b"b".as_slice(); 7]);
-    let steps: [(&[u8], &[u8], usize, u8); 13] = [
+    let steps: [(&[u8], &[u8], usize, u8); 16] = [
         (&unsound[1..], &[], 77, 11),
         (&unsound[1..], &[], 78, 11),
         (&unsound, &[], 77, 11),
         (&unsound, &[], 78, 12),
         (&closed, &[], 78, 3),
         (&closed, &[0x01], 78, 3),
+        (&closed, &[0x47], 78, 3),
         (&closed, &[0x44], 78, 4),
+        (&closed, &[0x46, 0], 78, 4),
         (&closed, &[0x44, 0], 78, 5),
         (&closed, &[0x44, 1], 78, 6),
         (&closed, &[0x44, 1, 7], 78, 8),
+        (&closed, &[0x46], 78, 8),
         (&used_up, &[0x44, 1, 7], 78, 9),
         (&full, &[0x44, 1, 7], 78, 10),
         (&with_room, &[0x44, 1, 7], 78, 0),
     ];
     for (record, request, room, right) in steps {
-        assert_eq!(number(call::request, record, request, room), right);
+        assert_eq!(number(REQUEST, record, request, room), right);
     }
 }
 
@@ -81,7 +100,7 @@ fn frames_are_asked_in_the_order_of_the_document() {
         (&record, &right_frame, 79, 0),
     ];
     for (record, frame, room, right) in steps {
-        assert_eq!(number(call::receive, record, frame, room), right);
+        assert_eq!(number(RECEIVE, record, frame, room), right);
     }
 }
 
@@ -89,27 +108,55 @@ fn frames_are_asked_in_the_order_of_the_document() {
 fn the_call_that_knows_both_asks_the_same() {
     let closed = end(State::Closed, 1, 0);
     let crao = [1, 0, 0, 0, 7, 0, 0, 0, 0];
-    assert_eq!(number(call::either, &closed[1..], &crao, 78), 11);
-    assert_eq!(number(call::either, &closed, &crao, 77), 11);
-    assert_eq!(number(call::either, &[0xff; RECORD], &crao, 78), 12);
-    assert_eq!(number(call::either, &closed, &[], 78), 3);
-    assert_eq!(number(call::either, &closed, &[0x50], 78), 3);
-    assert_eq!(number(call::either, &closed, &crao, 78), 0);
-    assert_eq!(number(call::either, &closed, &[0x41], 78), 0);
-    assert_eq!(number(call::either, &closed, &[0x42], 78), 8);
+    assert_eq!(number(EITHER, &closed[1..], &crao, 78), 11);
+    assert_eq!(number(EITHER, &closed, &crao, 77), 11);
+    assert_eq!(number(EITHER, &[0xff; RECORD], &crao, 78), 12);
+    assert_eq!(number(EITHER, &closed, &[], 78), 3);
+    assert_eq!(number(EITHER, &closed, &[0x50], 78), 3);
+    assert_eq!(number(EITHER, &closed, &crao, 78), 0);
+    assert_eq!(number(EITHER, &closed, &[0x41], 78), 0);
+    assert_eq!(number(EITHER, &closed, &[0x42], 78), 8);
+    assert_eq!(number(EITHER, &closed, &[0x46], 78), 8);
 }
 
 #[test]
 fn a_malformed_old_frame_is_refused() {
     let calling = end(State::Calling, 5, 3);
     assert_eq!(
-        number(call::receive, &calling, &[2, 0, 0, 0, 1, 0, 0, 0, 0], 78),
+        number(RECEIVE, &calling, &[2, 0, 0, 0, 1, 0, 0, 0, 0], 78),
         7
     );
-    assert_eq!(
-        number(call::receive, &calling, &[2, 0, 0, 0, 1, 0, 0, 0], 78),
-        4
-    );
+    assert_eq!(number(RECEIVE, &calling, &[2, 0, 0, 0, 1, 0, 0, 0], 78), 4);
+}
+
+#[test]
+fn each_call_that_makes_requests_asks_for_a_second_buffer_of_64_bytes() {
+    let closed = end(State::Closed, 1, 0);
+    let held = holding(open(0, 0, &[]), &[(0, b"held")]);
+    let unsound = [0xff; RECORD];
+    let crao = [1, 0, 0, 0, 7, 0, 0, 0, 0];
+    for call in [REQUEST, EITHER] {
+        for room in [0, 1, 4, 63] {
+            let asked = |record: &[u8], message: &[u8]| {
+                assert_eq!(number_in(call, record, message, [78, room]), 11);
+            };
+            asked(&held, &[0x46]);
+            asked(&closed, &[0x45]);
+            asked(&closed, &[0x46]);
+            asked(&closed, &crao);
+            asked(&closed, &[]);
+            asked(&unsound, &[0x46]);
+            asked(&unsound[1..], &[0x46]);
+        }
+        for room in [64, 65, 200] {
+            assert_eq!(number_in(call, &held, &[0x46], [78, room]), 0);
+            assert_eq!(number_in(call, &closed, &[0x45], [78, room]), 0);
+            assert_eq!(number_in(call, &unsound, &[0x45], [78, room]), 12);
+            assert_eq!(number_in(call, &held, &[0x46], [77, room]), 11);
+        }
+    }
+    assert_eq!(number_in(RECEIVE, &closed, &crao, [78, 0]), 0);
+    assert_eq!(number_in(EITHER, &closed, &crao, [78, 64]), 0);
 }
 
 #[test]
@@ -122,11 +169,26 @@ fn the_block_handed_up_is_part_of_the_received_frame() {
 }
 
 #[test]
-fn fresh_needs_538_bytes_and_writes_no_more() {
-    let mut record = [7; RECORD + 2];
-    assert_eq!(fresh(&mut record[..RECORD - 1]), 11);
-    assert_eq!(record, [7; RECORD + 2]);
+fn a_collected_block_is_a_copy_at_the_start_of_the_second_buffer() {
+    for length in [1, 5, 64] {
+        let mut record = holding(open(0, 0, &[]), &[(0, &vec![7; length])]);
+        let mut up = [0xee; LONGEST_BLOCK + 2];
+        let place = up[..length].as_ptr_range();
+        let answer = call::request(&mut record, &[0x46], &mut [0; LONGEST_FRAME], &mut up);
+        let block = answer.block.unwrap().bytes();
+        assert_eq!(block.as_ptr_range(), place);
+        let (block, rest) = up.split_at(length);
+        assert!(block.iter().all(|&byte| byte == 7));
+        assert!(rest.iter().all(|&byte| byte == 0xee));
+    }
+}
+
+#[test]
+fn fresh_needs_1058_bytes_and_writes_no_more() {
+    let mut record = [7; 1060];
+    assert_eq!(fresh(&mut record[..1057]), 11);
+    assert_eq!(record, [7; 1060]);
     assert_eq!(fresh(&mut record), 0);
-    assert_eq!(record[..RECORD], [0; RECORD]);
-    assert_eq!(record[RECORD..], [7; 2]);
+    assert_eq!(record[..1058], [0; 1058]);
+    assert_eq!(record[1058..], [7; 2]);
 }

@@ -1,6 +1,6 @@
 //! The document's edges that concern one end.
 
-use crate::sample::{ack, data, end, open, receive, request, send, signal, Effect, LAST};
+use crate::sample::{ack, data, end, holding, open, receive, request, send, signal, Effect, LAST};
 use reference::frame::Signal::{Crack, Crao, Rej, Reset};
 use reference::State::{Answering, Calling, Closed, Closing, Listening};
 
@@ -38,7 +38,7 @@ fn the_eleven_proved_cases() {
         ),
         (
             receive(open(0, 0, &[]), &data(3, 5, 1, b"a")),
-            Effect::silent(open(0, 0, &[])).frame(ack(5, 3, 0)),
+            Effect::silent(holding(open(0, 0, &[]), &[(1, b"a")])).frame(ack(5, 3, 0)),
         ),
         (
             request(end(Closed, LAST - 1, 0), &[0x40]),

@@ -1,6 +1,6 @@
 //! The step table's frames.
 
-use crate::sample::{ack, data, end, open, receive, signal, Effect, Record, LAST};
+use crate::sample::{ack, data, end, holding, open, receive, signal, Effect, Record, LAST};
 use reference::frame::Signal::{self, Crack, Crao, Crpo, Dr, Drack, Rej, Reset};
 use reference::State::{self, Answering, Calling, Closed, Closing, Listening, Open};
 
@@ -117,7 +117,11 @@ fn frames_older_than_the_partner_are_passed_over() {
         let record = end(state, LOCAL, REMOTE);
         for r in [LOCAL, OTHER] {
             let signals = Signal::ALL.map(|kind| signal(kind, REMOTE - 1, r));
-            let others = [data(REMOTE - 1, r, 0, b"a"), ack(REMOTE - 1, r, 1)];
+            let others = [
+                data(REMOTE - 1, r, 0, b"a"),
+                data(REMOTE - 1, r, 1, b"b"),
+                ack(REMOTE - 1, r, 1),
+            ];
             for frame in signals.into_iter().chain(others) {
                 assert_eq!(receive(record, &frame), Effect::silent(record));
             }
@@ -141,7 +145,7 @@ fn data_and_ack_count_only_in_the_open_connection() {
             if s == 0 || (state, s, r) == (Open, REMOTE, LOCAL) {
                 continue;
             }
-            for frame in [data(s, r, 0, b"a"), ack(s, r, 1)] {
+            for frame in [data(s, r, 0, b"a"), data(s, r, 1, b"b"), ack(s, r, 1)] {
                 assert_eq!(receive(record, &frame), Effect::silent(record));
             }
         }
@@ -149,20 +153,23 @@ fn data_and_ack_count_only_in_the_open_connection() {
 }
 
 #[test]
-fn every_data_is_acknowledged_and_the_awaited_one_handed_up() {
+fn every_data_is_acknowledged_the_awaited_one_handed_up_and_an_early_one_held() {
     for handed_up in [0, 1, 7, LAST - 1, LAST] {
         let before = open(2, handed_up, &[b"waiting"]);
-        for sequence in [0, 1, 6, 7, 8, LAST - 2, LAST - 1] {
+        for sequence in [0, 1, 6, 7, 8, 14, 15, LAST - 2, LAST - 1] {
             let found = receive(before, &data(REMOTE, LOCAL, sequence, b"block"));
-            let right = if sequence == handed_up {
-                let after = open(2, handed_up + 1, &[b"waiting"]);
-                let acknowledged = Effect::silent(after).frame(ack(LOCAL, REMOTE, handed_up + 1));
-                Effect {
-                    block: b"block".to_vec(),
-                    ..acknowledged.notice(5)
+            let above = i64::from(sequence) - i64::from(handed_up);
+            let right = match above {
+                0 => {
+                    let after = open(2, handed_up + 1, &[b"waiting"]);
+                    let acknowledgement = ack(LOCAL, REMOTE, handed_up + 1);
+                    Effect::silent(after).frame(acknowledgement).block(b"block")
                 }
-            } else {
-                Effect::silent(before).frame(ack(LOCAL, REMOTE, handed_up))
+                1..=7 => {
+                    let after = holding(before, &[(above as usize, b"block")]);
+                    Effect::silent(after).frame(ack(LOCAL, REMOTE, handed_up))
+                }
+                _ => Effect::silent(before).frame(ack(LOCAL, REMOTE, handed_up)),
             };
             assert_eq!(found, right);
         }

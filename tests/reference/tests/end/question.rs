@@ -1,7 +1,7 @@
 //! The question which deliveries would be accepted and change the receiver's record.
 
 use crate::bench::Lent;
-use crate::sample::{ack, data, end, open, signal, Record};
+use crate::sample::{ack, data, end, holding, open, signal, Record};
 use reference::bench::{self, Side};
 use reference::frame::Signal::{Crack, Crao, Crpo, Dr, Rej};
 use reference::record::RECORD;
@@ -55,7 +55,20 @@ fn all_are_named_for_their_receivers() {
         (A, data(3, 5, 0, b"a")),
     ];
     let records = [open(1, 0, &[b"a"]), open(1, 0, &[])];
-    assert_eq!(changing(&Lent::new(records, &frames)), Ok(vec![0, 2, 3, 6]));
+    let changed = changing(&Lent::new(records, &frames));
+    assert_eq!(changed, Ok(vec![0, 1, 2, 3, 6]));
+}
+
+#[test]
+fn a_block_that_would_be_held_is_named_unless_a_copy_is_held() {
+    let frames: Vec<_> = (3..15).map(|n| (A, data(3, 5, n, b"early"))).collect();
+    let numbered = |numbers: &[usize]| Ok(numbers.iter().map(|n| n - 3).collect());
+    let none = Lent::new([FRESH, open(0, 5, &[])], &frames);
+    assert_eq!(changing(&none), numbered(&[5, 6, 7, 8, 9, 10, 11, 12]));
+    assert_eq!(changing(&none.filled(512)), Ok(vec![]));
+    let held: [(usize, &[u8]); 3] = [(0, b"five"), (2, b"early"), (7, b"other")];
+    let some = Lent::new([FRESH, holding(open(0, 5, &[]), &held)], &frames);
+    assert_eq!(changing(&some), numbered(&[5, 6, 8, 9, 10, 11]));
 }
 
 #[test]

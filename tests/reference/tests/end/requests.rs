@@ -9,6 +9,7 @@ const LISTEN: &[u8] = &[0x41];
 const END_LISTENING: &[u8] = &[0x42];
 const CLOSE: &[u8] = &[0x43];
 const TIMER: &[u8] = &[0x45];
+const COLLECT: &[u8] = &[0x46];
 
 /// A record of each state; L is 5, and D 3 where it may be known.
 fn each_state() -> [Record; 6] {
@@ -52,6 +53,7 @@ fn every_request_in_every_state() {
             Effect::silent(open(1, 0, &[b"a"])).frame(data(5, 3, 0, b"a")),
         ),
         (Open, TIMER, Effect::silent(end(Open, 5, 3))),
+        (Open, COLLECT, Effect::silent(end(Open, 5, 3))),
         (
             Closing,
             TIMER,
@@ -59,7 +61,7 @@ fn every_request_in_every_state() {
         ),
     ];
     for record in each_state() {
-        for bytes in [CONNECT, LISTEN, END_LISTENING, CLOSE, &a, TIMER] {
+        for bytes in [CONNECT, LISTEN, END_LISTENING, CLOSE, &a, TIMER, COLLECT] {
             let row = rows
                 .iter()
                 .find(|(state, request, _)| *state as u8 == record[0] && *request == bytes);

@@ -1,5 +1,6 @@
 //! Records and messages to call with, and what a call did.
 
+use reference::block::LONGEST_BLOCK;
 use reference::call;
 use reference::frame::{Body, Signal, LONGEST_FRAME};
 use reference::record::RECORD;
@@ -28,6 +29,18 @@ pub fn open(accepted: u32, handed_up: u32, waiting: &[&[u8]]) -> Record {
     for (place, block) in waiting.iter().enumerate() {
         record[18 + place] = block.len() as u8;
         record[26 + 64 * place..][..block.len()].copy_from_slice(block);
+    }
+    record
+}
+
+/// Blocks that are held, each so far above e.
+pub type Held<'a> = &'a [(usize, &'a [u8])];
+
+/// The record with these blocks held.
+pub fn holding(mut record: Record, held: Held) -> Record {
+    for &(above, block) in held {
+        record[538 + above] = block.len() as u8;
+        record[546 + 64 * above..][..block.len()].copy_from_slice(block);
     }
     record
 }
@@ -91,11 +104,28 @@ impl Effect {
     pub fn frame(self, frame: Vec<u8>) -> Self {
         Self { frame, ..self }
     }
+
+    /// The same with this block handed up.
+    pub fn block(self, block: &[u8]) -> Self {
+        Self {
+            notice: 5,
+            block: block.to_vec(),
+            ..self
+        }
+    }
 }
 
-/// Makes a request.
+/// Makes a request. A block that it hands up stands at the start of the second buffer, and no other
+/// byte of it is written.
 pub fn request(record: Record, request: &[u8]) -> Effect {
-    effect(record, |record, out| call::request(record, request, out))
+    let mut up = [UNTOUCHED; LONGEST_BLOCK + 3];
+    let effect = effect(record, |record, out| {
+        call::request(record, request, out, &mut up)
+    });
+    let (block, rest) = up.split_at(effect.block.len());
+    assert_eq!(block, effect.block);
+    assert!(rest.iter().all(|&byte| byte == UNTOUCHED));
+    effect
 }
 
 /// Delivers a frame.

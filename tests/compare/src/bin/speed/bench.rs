@@ -1,14 +1,15 @@
-//! Lines of a bench and its question. Each line gets both records anew, copies of 538 bytes that
+//! Lines of a bench and its question. Each line gets both records anew, copies of 1,058 bytes that
 //! both implementations pay.
 
 use crate::measure::{compare, Both};
-use crate::sample::{record, BLOCK};
+use crate::sample::{holding, record, BLOCK};
 use cases::bench::{Bench, Lent, Named, Reply};
 use cases::sample::message;
 use cases::Reference;
 use compare::proved::Proved;
 use reference::bench::book::{place, PLACES};
 use reference::bench::Side;
+use reference::block::LONGEST_BLOCK;
 use reference::frame::{ACK, DATA, LONGEST_FRAME};
 use reference::record::RECORD;
 use reference::State;
@@ -28,6 +29,7 @@ struct Case {
     count: usize,
     line: Vec<u8>,
     out: [u8; LONGEST_FRAME],
+    up: [u8; LONGEST_BLOCK],
 }
 
 impl Case {
@@ -48,7 +50,14 @@ impl Case {
             count,
             line: line.as_bytes().to_vec(),
             out: [0; LONGEST_FRAME],
+            up: [0; LONGEST_BLOCK],
         }
+    }
+
+    /// The same, and B holds the next block and the seven after it.
+    fn with_all_held(mut self) -> Self {
+        self.records[1] = holding(self.records[1], 0..8);
+        self
     }
 
     /// Takes the line so. A frame sent goes to the same place of the book each time.
@@ -59,9 +68,10 @@ impl Case {
             book: &mut self.book,
             count: self.count,
             out: &mut self.out,
+            up: &mut self.up,
         };
         black_box(take(lent, black_box(&self.line)));
-        black_box([&a, &b]);
+        black_box(([&a, &b], &self.up));
     }
 
     /// Asks the question so.
@@ -88,6 +98,14 @@ pub fn measure() {
     for (name, waiting, handed_up, count, line) in [
         ("bench: send of 64", 0, SENT, PLACES - 1, &send[..]),
         ("bench: DATA of 64", 0, SENT - 1, PLACES - 1, "5201fe"),
+        (
+            "bench: DATA of 64 to be held",
+            0,
+            SENT - 2,
+            PLACES - 1,
+            "5201fe",
+        ),
+        ("bench: collect with none held", 0, SENT, PLACES - 1, "5146"),
         ("bench: passed over", 0, SENT, PLACES - 1, "520001"),
         ("bench: refused by 2", 0, SENT, PLACES - 1, "zz"),
         ("bench: refused by 14", 1, SENT, PLACES, "5045"),
@@ -95,6 +113,8 @@ pub fn measure() {
         let mut case = Case::new(waiting, handed_up, count, line);
         compare(name, LINES, &mut case, LINE);
     }
+    let mut case = Case::new(0, SENT, PLACES - 1, "5146").with_all_held();
+    compare("bench: collect of 64 with 8 held", LINES, &mut case, LINE);
     for (name, waiting) in [
         ("question: none of 512 frames", 0),
         ("question: the last of 512 frames", 1),

@@ -1,12 +1,13 @@
-//! The calls of an end. Each call gets its record anew, a copy of 538 bytes that both
+//! The calls of an end. Each call gets its record anew, a copy of 1,058 bytes that both
 //! implementations pay.
 
 use crate::measure::{self, Both};
-use crate::sample::{record, BLOCK};
-use cases::end::{End, Reply};
+use crate::sample::{holding, record, BLOCK};
+use cases::end::End;
 use cases::sample::message;
 use cases::Reference;
 use compare::proved::Proved;
+use reference::block::LONGEST_BLOCK;
 use reference::frame::LONGEST_FRAME;
 use reference::record::RECORD;
 use reference::State;
@@ -20,26 +21,41 @@ struct Case {
     record: [u8; RECORD],
     message: Vec<u8>,
     out: [u8; LONGEST_FRAME],
+    up: [u8; LONGEST_BLOCK],
 }
 
 impl Case {
-    /// Makes the call so.
-    fn make(&mut self, call: fn(&mut [u8], &[u8], &mut [u8]) -> Reply) {
+    /// This implementation receives the message.
+    fn receive<E: End>(&mut self) {
         let mut record = *black_box(&self.record);
-        black_box(call(&mut record, black_box(&self.message), &mut self.out));
+        let message = black_box(&self.message);
+        black_box(E::receive(&mut record, message, &mut self.out));
         black_box(&record);
+    }
+
+    /// This implementation is asked for it.
+    fn request<E: End>(&mut self) {
+        let mut record = *black_box(&self.record);
+        let message = black_box(&self.message);
+        black_box(E::request(
+            &mut record,
+            message,
+            &mut self.out,
+            &mut self.up,
+        ));
+        black_box((&record, &self.up));
     }
 }
 
 /// A frame that arrives.
 const RECEIVE: Both<Case> = Both {
-    proved: |case| case.make(Proved::receive),
-    reference: |case| case.make(Reference::receive),
+    proved: Case::receive::<Proved>,
+    reference: Case::receive::<Reference>,
 };
 /// A request.
 const REQUEST: Both<Case> = Both {
-    proved: |case| case.make(Proved::request),
-    reference: |case| case.make(Reference::request),
+    proved: Case::request::<Proved>,
+    reference: Case::request::<Reference>,
 };
 
 /// Measures typical calls.
@@ -50,6 +66,10 @@ pub fn measure() {
     let answering = record(State::Answering, 7, [0, 0], 0);
     let open = record(State::Open, 7, [0, 0], 0);
     let full = record(State::Open, 7, [8, 0], 8);
+    let early = holding(open, 1..8);
+    let next = holding(open, [0]);
+    let all = holding(open, 0..8);
+    let crowded = holding(full, 0..8);
     let closing = record(State::Closing, 7, [0, 0], 0);
     for (name, record, frame) in [
         ("closed: CRAO", closed, frame(1, 0)),
@@ -57,6 +77,9 @@ pub fn measure() {
         ("calling: CRPO", calling, frame(2, 0)),
         ("answering: CRACK", answering, frame(3, 0)),
         ("open: DATA of 64", open, frame(8, 0)),
+        ("open: DATA of 64 with 7 held", early, frame(8, 0)),
+        ("open: DATA of 64 to be held", open, frame(8, 3)),
+        ("open: DATA of 64 held already", early, frame(8, 3)),
         ("open: ACK of 1 of 8", full, frame(9, 1)),
         ("open: passed over", open, frame(4, 0)),
         ("closing: DRACK", closing, frame(7, 0)),
@@ -65,7 +88,12 @@ pub fn measure() {
     }
     for (name, record, kind) in [
         ("open: send of 64", open, 0x44),
+        ("open: timer with none waiting", open, 0x45),
         ("open: timer with 8 waiting", full, 0x45),
+        ("open: timer with 8 waiting and 8 held", crowded, 0x45),
+        ("open: collect with none held", open, 0x46),
+        ("open: collect of 64 with 1 held", next, 0x46),
+        ("open: collect of 64 with 8 held", all, 0x46),
     ] {
         compare(name, record, message(kind, &[], BLOCK), REQUEST);
     }
@@ -77,6 +105,7 @@ fn compare(name: &str, record: [u8; RECORD], message: Vec<u8>, both: Both<Case>)
         record,
         message,
         out: [0; LONGEST_FRAME],
+        up: [0; LONGEST_BLOCK],
     };
     measure::compare(name, BATCH, &mut case, both);
 }

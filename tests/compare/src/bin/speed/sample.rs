@@ -1,6 +1,6 @@
 //! Blocks of 64 bytes, and records with them.
 
-use cases::records::Numbers;
+use cases::records::{hold, Numbers};
 use reference::record::RECORD;
 use reference::State;
 
@@ -21,4 +21,12 @@ pub fn record(
         handed_up,
     };
     numbers.record(state, &vec![BLOCK.to_vec(); waiting])
+}
+
+/// The record with blocks held so far above e.
+pub fn holding(mut record: [u8; RECORD], above: impl IntoIterator<Item = usize>) -> [u8; RECORD] {
+    for above in above {
+        hold(&mut record, above, BLOCK);
+    }
+    record
 }

@@ -1,4 +1,4 @@
--- Laws of the tests of soundness.
+-- Laws of tests of every number below another, and of every element.
 use Prim.Native.Nat.{ℕ, zero, suc, _+_, _<_}
 use mathlib.Core.Path.{_≡_, refl, sym, ap, _∙_}
 use mathlib.Core.Logic.{⊎-elim}
@@ -11,8 +11,8 @@ use lib.Dec.{eqb}
 use lib.ListN.{length, take, getD}
 use lib.Seq.{take-suc}
 use borrow.Author.Tests.{eqb-true, eq-eqb}
+use Rattle.octets.specs.Test.{allBelow, zeros}
 use Rattle.octets.proofs.Test.{both, joined}
-use Rattle.endpoint.specs.Sound.{allBelow, zeros}
 
 -- one number more
 pub all-step : (p : ℕ → Bool) (i : ℕ) (ok r : Bool) → ok ≡ allBelow i p → r ≡ p i → (ok && r) ≡ allBelow (i + 1) p

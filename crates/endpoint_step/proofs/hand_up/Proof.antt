@@ -1,0 +1,25 @@
+use mathlib.Core.Path.{refl, ap}
+use lib.ListN.{length}
+use Rattle.frame.specs.Frame.{Block}
+use Rattle.endpoint_step.specs.Internal.{blockFrom, handedTo}
+use borrow.Author.Needs.{needs}
+use Rattle.endpoint_step.proofs.hand_up.Statement.{statement}
+use Rattle.endpoint_step.proofs.hand_up.Tie as tie
+
+collect-requires : tie.Need-collect-requires
+collect-requires c κs = let s = c .before .before .before .before .before .before .before in (s .pre .0, rw (c .before .enum-told .given .1) at (s .pre .1))
+
+handed-up-requires : tie.Need-handed-up-requires
+handed-up-requires c κs = rw (c .enum-told2 .given .1) at (c .before .before .before .before .before .before .pre .1)
+
+returns : tie.Need-returns
+unfolding blockFrom
+returns c = rw (c .before .before .before .before .enum-told .given .1) (c .before .before .collect .ensures)
+
+returns-2 : tie.Need-returns-2
+unfolding blockFrom handedTo
+returns-2 c = rw (c .before .enum-told2 .given .1) (record { count = ap (λ (b : Block). length b) (c .handed-up .ensures); octets = refl })
+
+pub hand-up-spec : {M : Type 1} → statement M
+hand-up-spec =
+    tie.close (tie.spec (λ c. search needs) collect-requires (λ c. search needs) handed-up-requires (λ c. search needs) returns returns-2)
