@@ -1,41 +1,100 @@
 -- Places of octets after a plan: what moves to the front, and that there is room.
-use Prim.Native.Nat.{ℕ, _+_, _-_, _*_, _≤_}
-use mathlib.Core.Path.{_≡_, refl, ap, _∙_}
-use mathlib.Core.List.{List, [], _∷_, _++_, append-nil, append-assoc}
+use Prim.Native.Nat.{ℕ, suc, _+_, _-_, _*_, _≤_, _<_}
+use mathlib.Core.Path.{_≡_, refl, sym, ap, _∙_}
+use mathlib.Core.List.{List, [], _∷_, _++_, append-nil}
+use native.Mathlib.Nat.{suc-mul, add-mul, add-comm, mul-le-mul-right}
 use native.Mathlib.Omega.{arith}
 use lib.ListN.{length, take, drop, replicate, length-append, length-drop, length-replicate, replicate-append-replicate, drop-of-length-le}
-use lib.Seq.{take-all, take-at}
+use lib.Seq.{length-take-le, take-at, drop-at, take-add, drop-drop, take-append-le, drop-append-le, take-append-add, drop-append-add}
 use Rattle.octets.proofs.Buffers.{drop-zeros}
-use Rattle.octets.proofs.Octets.{length-put}
+use Rattle.octets.proofs.Octets.{length-put, then-put}
 use Rattle.octets.specs.Sizes.{longestBlock, queueSize}
 use Rattle.octets.specs.Octets.{put}
 use Rattle.frame.specs.Frame.{Block}
 use Rattle.step_plan.specs.declared.Places.{Places}
 use Rattle.step_plan.specs.declared.Places.the-variants.{Keep, Join, Release}
 use Rattle.endpoint.specs.View.{placesSize}
-use Rattle.endpoint_step.specs.Internal.{placesAfter, PlaceFor, InEight}
+use Rattle.endpoint_step.specs.Internal.{followed, placesAfter, PlaceFor, InEight}
 
--- a list moved to the front, and zeros after it: by way of a copy in n octets
-pub moved : (n m : ℕ) (l : List ℕ) → length l ≤ n → m ≤ length l → {k r : List ℕ} → k ≡ put (replicate n 0) 0 (take (length l - m) (drop m l))
-    → r ≡ put l 0 (take (length l) k) → r ≡ drop m l ++ replicate m 0
+-- the octets of one of eight places are among those of all
+pub within : (i w : ℕ) → i < queueSize → i * w + w ≤ queueSize * w
+within i w h = omega (arith, suc-mul i w, mul-le-mul-right {m = suc i} {n = queueSize} w (omega arith))
+
+-- the first of many zeros
+pub take-zeros : (n m : ℕ) → n ≤ m → take {A = ℕ} n (replicate m 0) ≡ replicate n 0
+take-zeros n m h =
+    let e : m ≡ n + (m - n) = omega arith in
+    rw (e, ← replicate-append-replicate) (take-at (replicate n 0) (replicate (m - n) 0) n (length-replicate n 0))
+
+-- a place after the eight is zeros
+pub after-eight : (i w : ℕ) (d : List ℕ) → length d ≡ queueSize * w → queueSize ≤ i → i < queueSize + queueSize
+    → take w (drop (i * w) (followed w d)) ≡ replicate w 0
+after-eight i w d l h k =
+    let j : ℕ = i - queueSize in
+    let f : j * w + w ≤ queueSize * w = within j w (omega arith) in
+    let p : i ≡ queueSize + j = omega arith in
+    let e : i * w ≡ length d + j * w = ap (λ (n : ℕ). n * w) p ∙ add-mul queueSize j w ∙ omega arith in
+    rw (e, drop-append-add d (replicate (queueSize * w) 0) (j * w), drop-zeros (j * w) (queueSize * w)) (take-zeros w (queueSize * w - j * w) (omega arith))
+
+-- one of the eight is as in them alone
+pub in-eight : (i w : ℕ) (d : List ℕ) → length d ≡ queueSize * w → i < queueSize → take w (drop (i * w) (followed w d)) ≡ take w (drop (i * w) d)
+in-eight i w d l h =
+    let f : i * w + w ≤ queueSize * w = within i w h in
+    rw (drop-append-le (i * w) d (replicate (queueSize * w) 0) (omega arith))
+    (take-append-le w (drop (i * w) d) (replicate (queueSize * w) 0) (omega (arith, length-drop (i * w) d)))
+
+-- what is written before the octet a leaves the rest
+rest-same : (a g : ℕ) (d z p : List ℕ) {x : List ℕ} → length p ≡ a → a ≤ length d → x ≡ put d 0 p → drop (a + g) (x ++ z) ≡ drop (a + g) (d ++ z)
 unfolding put
-moved n m l e h {k} {r} ek er =
-    let z : List ℕ = drop m l ++ replicate m 0 in
-    let d : length (drop m l) ≡ length l - m = length-drop m l in
-    let s : take (length l - m) (drop m l) ≡ drop m l = take-all (length l - m) (drop m l) (omega arith) in
-    let j : n - (0 + length (drop m l)) ≡ m + (n - length l) = omega arith in
-    let lz : length z ≡ length l = simp (length-append, length-replicate) (omega arith) in
-    let kz : k ≡ z ++ replicate (n - length l) 0 =
-    ek ∙ ap (λ (x : List ℕ). put (replicate n 0) 0 x) s ∙ rw (drop-zeros (0 + length (drop m l)) n) (rw (j, ← replicate-append-replicate, ← append-assoc) refl) in
-    let tz : take (length l) k ≡ z = ap (take (length l)) kz ∙ take-at z (replicate (n - length l) 0) (length l) lz in
-    er ∙ ap (λ (x : List ℕ). put l 0 x) tz ∙ ap (λ (x : List ℕ). z ++ x) (drop-of-length-le l {i = 0 + length z} (omega arith)) ∙ append-nil z
+rest-same a g d z p {x} l h e =
+    let m : length x ≡ length d = ap length e ∙ length-put d p 0 (omega arith) in
+    let s : 0 + length p ≡ a = omega arith in
+    let q : drop a x ≡ drop a d = ap (drop a) e ∙ rw s (drop-at p (drop a d) a l) in
+    sym (drop-drop g a (x ++ z)) ∙ ap (drop g) (drop-append-le a x z (omega arith) ∙ ap (λ (y : List ℕ). y ++ z) q ∙ sym (drop-append-le a d z h)) ∙ drop-drop g a (d ++ z)
+
+-- one place more has moved
+pub one-more : (g i w : ℕ) (d : List ℕ) → length d ≡ queueSize * w → i < queueSize → g ≤ queueSize → {x y : List ℕ}
+    → x ≡ put d 0 (take (i * w) (drop (g * w) (followed w d)))
+    → y ≡ put x (i * w) (take w (drop ((i + g) * w) (followed w x)))
+    → y ≡ put d 0 (take ((i + 1) * w) (drop (g * w) (followed w d)))
+one-more g i w d l h k {x} {y} ex ey =
+    let z : List ℕ = replicate (queueSize * w) 0 in
+    let r : List ℕ = drop (g * w) (d ++ z) in
+    let f : i * w + w ≤ queueSize * w = within i w h in
+    let lz : length z ≡ queueSize * w = length-replicate (queueSize * w) 0 in
+    let lr : length r ≡ length d + length z - g * w = length-drop (g * w) (d ++ z) ∙ rw length-append refl in
+    let lp : length (take (i * w) r) ≡ i * w = length-take-le (i * w) r (omega (arith, mul-le-mul-right w k)) in
+    let m : (i + g) * w ≡ i * w + g * w = add-mul i g w in
+    let o : i * w + g * w ≡ g * w + i * w = add-comm (i * w) (g * w) in
+    let s : drop ((i + g) * w) (x ++ z) ≡ drop (i * w) r =
+    ap (λ (n : ℕ). drop n (x ++ z)) m ∙ rest-same (i * w) (g * w) d z (take (i * w) r) lp (omega arith) ex ∙ ap (λ (n : ℕ). drop n (d ++ z)) o
+    ∙ sym (drop-drop (i * w) (g * w) (d ++ z)) in
+    let e : (i + 1) * w ≡ i * w + w = omega (arith, add-mul i 1 w) in
+    let t : y ≡ put x (i * w) (take w (drop (i * w) r)) = ey ∙ ap (λ (q : List ℕ). put x (i * w) (take w q)) s in
+    rw (e, take-add (i * w) w r) (then-put d (take (i * w) r) (take w (drop (i * w) r)) (i * w) lp (omega arith) ex t)
+
+-- all eight have moved
+pub all-moved : (g w : ℕ) (d : List ℕ) → length d ≡ queueSize * w → g ≤ queueSize
+    → put d 0 (take (queueSize * w) (drop (g * w) (followed w d))) ≡ drop (g * w) d ++ replicate (g * w) 0
+unfolding put
+all-moved g w d l k =
+    let z : List ℕ = replicate (queueSize * w) 0 in
+    let f : g * w ≤ queueSize * w = mul-le-mul-right w k in
+    let m : length (drop (g * w) d) ≡ length d - g * w = length-drop (g * w) d in
+    let n : queueSize * w ≡ length (drop (g * w) d) + g * w = omega arith in
+    let r : List ℕ = drop (g * w) d ++ replicate (g * w) 0 in
+    let s : take (queueSize * w) (drop (g * w) (d ++ z)) ≡ r =
+    ap (take (queueSize * w)) (drop-append-le (g * w) d z (omega arith)) ∙ ap (λ (v : ℕ). take v (drop (g * w) d ++ z)) n
+    ∙ take-append-add (drop (g * w) d) z (g * w) ∙ ap (λ (v : List ℕ). drop (g * w) d ++ v) (take-zeros (g * w) (queueSize * w) f) in
+    let lr : length r ≡ length d = length-append (drop (g * w) d) (replicate (g * w) 0) ∙ omega (arith, length-replicate {A = ℕ} (g * w) 0) in
+    ap (λ (v : List ℕ). put d 0 v) s ∙ ap (λ (v : List ℕ). r ++ v) (drop-of-length-le d {i = 0 + length r} (omega arith)) ∙ append-nil r
 
 -- as many octets as before
 pub length-after : (k : Places) (width : ℕ) (s d : List ℕ) → PlaceFor k width s d → length (placesAfter k width s d) ≡ length d
 unfolding placesAfter
 length-after Keep width s d h = refl
 length-after (Join i) width s d h = length-put d s (i * width) h
-length-after (Release k) width s d h = omega (arith, length-append (drop (k * width) d) (replicate (k * width) 0), length-drop (k * width) d, length-replicate {A = ℕ} (k * width) 0, h)
+length-after (Release k) width s d h = omega (arith, length-append (drop (k * width) d) (replicate (k * width) 0), length-drop (k * width) d, length-replicate {A = ℕ} (k * width) 0, mul-le-mul-right width (h .0), h .1 .1)
 
 -- eight places of lengths and of blocks have room for what a plan does
 module _ (b : Block) (short : length b ≤ longestBlock) where

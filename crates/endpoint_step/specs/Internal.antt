@@ -32,6 +32,10 @@ Plans e c p =
     Comes (numbersOf e) (view e .queue) (view e .held) (joinsQueue p (c .octets)) (joinsHeld p (c .octets)) (placeBlock (e .lengths) (e .blocks) 0)
     (outcomeOf e c) p
 
+-- eight places of so many octets, and as many of zeros after them
+abbrev pub followed : ℕ → List ℕ → List ℕ
+followed width d = d ++ replicate (queueSize * width) 0
+
 -- Places of so many octets after a plan: s joins at its place; where some leave, the others move to the front and zeros follow.
 unfoldable pub placesAfter : Places → ℕ → List ℕ → List ℕ → List ℕ
 placesAfter Keep width s d = d
@@ -42,7 +46,7 @@ placesAfter (Release k) width s d = drop (k * width) d ++ replicate (k * width) 
 abbrev pub PlaceFor : Places → ℕ → List ℕ → List ℕ → Type 0
 PlaceFor Keep width s d = Unit {0}
 PlaceFor (Join i) width s d = i * width + length s ≤ length d
-PlaceFor (Release k) width s d = k * width ≤ length d
+PlaceFor (Release k) width s d = (k ≤ queueSize) × ((width ≤ longestBlock) × (length d ≡ queueSize * width))
 
 -- there are eight of them
 abbrev pub InEight : Places → Type 0

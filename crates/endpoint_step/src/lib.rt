@@ -8,7 +8,7 @@ use step_plan::Plan;
 use step_rules::Numbers;
 ghost use mathlib.Core.Path.{_≡_};
 ghost use mathlib.Core.List.{_++_};
-ghost use Prim.Native.Nat.{_≤_};
+ghost use Prim.Native.Nat.{_+_, _*_, _≤_, _<_};
 ghost use lib.ListN.{length, getD, take, drop, replicate};
 ghost use Rattle.octets.specs.Sizes.{longestFrame, longestBlock, queueSize, heldSize};
 ghost use Rattle.octets.specs.Octets.{put};
@@ -18,7 +18,7 @@ ghost use Rattle.step_plan.specs.Internal.{blockBy, blockOut, sentBy, Sends};
 ghost use Rattle.endpoint.specs.View.{placesSize, placeBlock};
 ghost use Rattle.endpoint.specs.Internal.{recordOf};
 ghost use Rattle.endpoint_step.specs.Calls.{Advances};
-ghost use Rattle.endpoint_step.specs.Internal.{Plans, placesAfter, PlaceFor, blockFrom, Handy, HandsUp, Fits, carried};
+ghost use Rattle.endpoint_step.specs.Internal.{Plans, followed, placesAfter, PlaceFor, blockFrom, Handy, HandsUp, Fits, carried};
 
 // Question 11 of the buffer for a block, which is lent to the calls that make requests.
 pub fn block_room_ok(call: Call, room: usize) -> bool
@@ -76,37 +76,45 @@ pub fn send<'a>(
     step_plan::send_reply(p, joined, &blocks[0..count], out)
 }
 
-// All of d is written anew, from the start of s.
-fn refill(d: &mut [u8], s: &[u8])
-    requires { ⌜ length (now d) ≤ length (now s) ⌝ }
-    ensures { λ _. ⌜ now (d .exit) ≡ put (now (d .entry)) 0 (take (length (now (d .entry))) (now (s .entry))) ⌝ }
+// Moves one of eight places to another; the places after the eight are zeros.
+fn move_place(from: usize, to: usize, width: usize, d: &mut [u8])
+    requires { ⌜ ((width ≤ longestBlock) × (length (now d) ≡ queueSize * width)) × ((from < queueSize + queueSize) × (to < queueSize)) ⌝ }
+    ensures { λ _. ⌜ now (d .exit) ≡ put (now (d .entry)) (to * width) (take width (drop (from * width) (followed width (now (d .entry))))) ⌝ }
 {
-    let n = d.len();
-    octets::copy(d, 0, &s[..n]);
+    let mut block = [0u8; Endpoint::LONGEST_BLOCK];
+    if from >= Endpoint::QUEUE_SIZE {
+        octets::copy(d, to * width, &block[..width]);
+        return;
+    }
+    let at = from * width;
+    octets::copy(&mut block, 0, &d[at..at + width]);
+    octets::copy(d, to * width, &block[..width]);
 }
 
-// The first octets leave: the others move to the front, and zeros follow.
-fn drop_front(gone: usize, d: &mut [u8])
-    requires { ⌜ (length (now d) ≤ placesSize) × (gone ≤ length (now d)) ⌝ }
-    ensures { λ _. ⌜ now (d .exit) ≡ drop gone (now (d .entry)) ++ replicate gone 0 ⌝ }
+// The first places leave: the others move to the front, one by one, and zeros follow.
+fn drop_front(gone: usize, width: usize, d: &mut [u8])
+    requires { ⌜ (gone ≤ queueSize) × ((width ≤ longestBlock) × (length (now d) ≡ queueSize * width)) ⌝ }
+    ensures { λ _. ⌜ now (d .exit) ≡ drop (gone * width) (now (d .entry)) ++ replicate (gone * width) 0 ⌝ }
 {
     if gone == 0 {
         return;
     }
-    let mut kept = [0u8; endpoint::PLACES_SIZE];
-    octets::copy(&mut kept, 0, &d[gone..]);
-    refill(d, &kept);
+    let mut i = 0;
+    while i < Endpoint::QUEUE_SIZE {
+        move_place(i + gone, i, width, d);
+        i += 1;
+    }
 }
 
 // What a plan makes of places of so many octets, of blocks or of their lengths; s joins.
 pub fn change_places(places: Places, width: usize, s: &[u8], d: &mut [u8])
-    requires { ⌜ (length (now d) ≤ placesSize) × PlaceFor places width (now s) (now d) ⌝ }
+    requires { ⌜ PlaceFor places width (now s) (now d) ⌝ }
     ensures { λ _. ⌜ now (d .exit) ≡ placesAfter places width (now (s .entry)) (now (d .entry)) ⌝ }
 {
     match places {
         Places::Keep => {}
         Places::Join(i) => octets::copy(d, i * width, s),
-        Places::Release(gone) => drop_front(gone * width, d),
+        Places::Release(gone) => drop_front(gone, width, d),
     }
 }
 

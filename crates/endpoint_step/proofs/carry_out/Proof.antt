@@ -3,7 +3,6 @@ use denote.Ref.{now}
 use Rattle.endpoint.proofs.Packs.{Long}
 use Rattle.endpoint_step.specs.Internal.{carried}
 use Rattle.endpoint_step.proofs.Places.{for-lengths, for-blocks}
-use native.Mathlib.Omega.{arith}
 use borrow.Author.Needs.{needs}
 use Rattle.endpoint_step.proofs.carry_out.Statement.{statement}
 use Rattle.endpoint_step.proofs.carry_out.Tie as tie
@@ -14,26 +13,22 @@ long c = record { lengths = search needs; blocks = search needs; held-lengths = 
 change-places-requires : tie.Need-change-places-requires
 change-places-requires c κs =
     let s = c .before .before .before .before .before in
-    let l = long s .lengths in
-    (omega (arith, l), for-lengths (now (s .args .joined)) (s .pre .0 .1) (s .args .p .queue) (s .pre .0 .0) (s .args .e .lengths) l)
+    for-lengths (now (s .args .joined)) (s .pre .0 .1) (s .args .p .queue) (s .pre .0 .0) (s .args .e .lengths) (long s .lengths)
 
 change-places-requires-2 : tie.Need-change-places-requires-2
 change-places-requires-2 c κs =
     let s = c .before .before .before .before .before .before .before .before .before in
-    let l = long s .blocks in
-    (omega (arith, l), for-blocks (now (s .args .joined)) (s .pre .0 .1) (s .args .p .queue) (s .pre .0 .0) (s .args .e .blocks) l)
+    for-blocks (now (s .args .joined)) (s .pre .0 .1) (s .args .p .queue) (s .pre .0 .0) (s .args .e .blocks) (long s .blocks)
 
 change-places-requires-3 : tie.Need-change-places-requires-3
 change-places-requires-3 c κs =
     let s = c .before .before .before .before .before .before .before .before .before .before .before .before .before .before in
-    let l = long s .held-lengths in
-    (omega (arith, l), for-lengths (now (s .args .early)) (s .pre .1 .1) (s .args .p .held) (s .pre .1 .0) (s .args .e .«held_lengths») l)
+    for-lengths (now (s .args .early)) (s .pre .1 .1) (s .args .p .held) (s .pre .1 .0) (s .args .e .«held_lengths») (long s .held-lengths)
 
 change-places-requires-4 : tie.Need-change-places-requires-4
 change-places-requires-4 c κs =
     let s = c .before .before .before .before .before .before .before .before .before .before .before .before .before .before .before .before .before .before in
-    let l = long s .held-blocks in
-    (omega (arith, l), for-blocks (now (s .args .early)) (s .pre .1 .1) (s .args .p .held) (s .pre .1 .0) (s .args .e .«held_blocks») l)
+    for-blocks (now (s .args .early)) (s .pre .1 .1) (s .args .p .held) (s .pre .1 .0) (s .args .e .«held_blocks») (long s .held-blocks)
 
 returns : tie.Need-returns
 unfolding carried

@@ -2,6 +2,7 @@ use Prim.Native.Nat.{ℕ, _+_, _*_, _≤_}
 use mathlib.Core.Path.{_≡_, refl}
 use lib.ListN.{length}
 use denote.Ref.{now}
+use Rattle.octets.specs.Sizes.{longestBlock, queueSize}
 use Rattle.step_plan.specs.declared.Places.the-variants.{Join, Release}
 use Rattle.endpoint_step.specs.Internal.{placesAfter}
 use native.Mathlib.Omega.{arith}
@@ -11,22 +12,19 @@ use Rattle.endpoint_step.proofs.change_places.Tie as tie
 
 -- what is known where something joins, and where some leave
 joins : (c : tie.Start) {i : ℕ} → c .args .places ≡ Join i → i * c .args .width + length (now (c .args .s)) ≤ length (now (c .args .d))
-joins c h = rw h at (c .pre .1)
+joins c h = rw h at (c .pre)
 
-leaves : (c : tie.Start) {k : ℕ} → c .args .places ≡ Release k → k * c .args .width ≤ length (now (c .args .d))
-leaves c h = rw h at (c .pre .1)
+leaves : (c : tie.Start) {k : ℕ} → c .args .places ≡ Release k → (k ≤ queueSize) × ((c .args .width ≤ longestBlock) × (length (now (c .args .d)) ≡ queueSize * c .args .width))
+leaves c h = rw h at (c .pre)
 
 mul-copy : tie.Need-mul-copy
-mul-copy c = let s = c .before .before .before .before .before .before in omega (arith, joins s (c .before .before .places .given .1), s .pre .0)
+mul-copy c = let s = c .before .before .before .before .before .before in omega (arith, joins s (c .before .before .places .given .1))
 
 copy-requires : tie.Need-copy-requires
 copy-requires c κs = joins (c .before .before .before .before .before .before) (c .before .before .places .given .1)
 
-mul-drop-front : tie.Need-mul-drop-front
-mul-drop-front c = let s = c .before .before .before .before .before in omega (arith, leaves s (c .before .places2 .given .1), s .pre .0)
-
 drop-front-requires : tie.Need-drop-front-requires
-drop-front-requires c κs = let s = c .before .before .before .before .before .before in (s .pre .0, leaves s (c .before .before .places2 .given .1))
+drop-front-requires c κs = leaves (c .before .before .before .before .before .before) (c .before .before .places2 .given .1)
 
 returns : tie.Need-returns
 unfolding placesAfter
@@ -43,5 +41,5 @@ returns-3 c = rw (c .before .before .before .before .before .places2 .given .1) 
 pub change-places-spec : {M : Type 1} → statement M
 change-places-spec =
     tie.close
-    (tie.spec (λ c. search needs) (λ c. search needs) mul-copy copy-requires (λ c. search needs) mul-drop-front drop-front-requires returns (λ c. search needs)
+    (tie.spec (λ c. search needs) (λ c. search needs) mul-copy copy-requires (λ c. search needs) drop-front-requires returns (λ c. search needs)
     returns-2 (λ c. search needs) returns-3)

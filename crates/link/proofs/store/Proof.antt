@@ -8,22 +8,22 @@ use Rattle.link.proofs.store.Tie as tie
 change-places-requires : tie.Need-change-places-requires
 change-places-requires c κs =
     let s = c .before .before .before .before .before .before .before .before .before .before in
-    (search needs, for-lengths (now (s .args .joined)) (s .pre .1 .0 .1) (s .args .p .queue) (s .pre .1 .0 .0) _ (search needs))
+    for-lengths (now (s .args .joined)) (s .pre .1 .0 .1) (s .args .p .queue) (s .pre .1 .0 .0) _ (search needs)
 
 change-places-requires-2 : tie.Need-change-places-requires-2
 change-places-requires-2 c κs =
     let s = c .before .before .before .before .before .before .before .before .before .before .before .before .before .before in
-    (search needs, for-blocks (now (s .args .joined)) (s .pre .1 .0 .1) (s .args .p .queue) (s .pre .1 .0 .0) _ (search needs))
+    for-blocks (now (s .args .joined)) (s .pre .1 .0 .1) (s .args .p .queue) (s .pre .1 .0 .0) _ (search needs)
 
 change-places-requires-3 : tie.Need-change-places-requires-3
 change-places-requires-3 c κs =
     let s = c .before .before .before .before .before .before .before .before .before .before .before .before .before .before .before .before .before .before .before in
-    (search needs, for-lengths (now (s .args .early)) (s .pre .1 .1 .1) (s .args .p .held) (s .pre .1 .1 .0) _ (search needs))
+    for-lengths (now (s .args .early)) (s .pre .1 .1 .1) (s .args .p .held) (s .pre .1 .1 .0) _ (search needs)
 
 change-places-requires-4 : tie.Need-change-places-requires-4
 change-places-requires-4 c κs =
     let s = c .before .before .before .before .before .before .before .before .before .before .before .before .before .before .before .before .before .before .before .before .before .before .before in
-    (search needs, for-blocks (now (s .args .early)) (s .pre .1 .1 .1) (s .args .p .held) (s .pre .1 .1 .0) _ (search needs))
+    for-blocks (now (s .args .early)) (s .pre .1 .1 .1) (s .args .p .held) (s .pre .1 .1 .0) _ (search needs)
 
 returns : tie.Need-returns
 returns c =
