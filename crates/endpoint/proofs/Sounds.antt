@@ -1,12 +1,12 @@
 -- What a sound struct is known to be, and that soundness means the same of the struct and of the endpoint that it holds.
 use Prim.Native.Nat.{ℕ, zero, suc, _+_, _-_, _*_, _/_, _%_, _≤_, _<_}
-use mathlib.Core.Path.{_≡_, refl, sym, _∙_}
+use mathlib.Core.Path.{_≡_, refl, sym, ap, _∙_}
 use mathlib.Core.Bool.{Bool, true, false, _&&_, and-true, and-false}
 use mathlib.Core.List.{List, [], _∷_}
 use native.Mathlib.Nat.{min-le-left}
 use native.Mathlib.Omega.{arith}
 use lib.Dec.{leb, ltb, eqb, leb·zero}
-use lib.ListN.{length, take, drop, getD, length-take, length-drop}
+use lib.ListN.{length, take, drop, getD, length-take, length-drop, drop-of-length-le}
 use lib.Seq.{getD-drop, getD-take, take-all}
 use borrow.Author.Tests.{lt-ltb, le-ltb, le-leb, eq-eqb, eqb-true, eqb-false, leb-true}
 use Rattle.octets.specs.Sizes.{longestBlock, queueSize, heldSize, lastNumber}
@@ -137,9 +137,18 @@ shortIn l = allBelow heldSize (λ i. leb (getD l i 0) longestBlock)
 abbrev numberedIn : ℕ → List ℕ → Bool
 numberedIn e l = allBelow heldSize (λ i. when (eqb (getD l i 0) 0) true (ltb (e + i) lastNumber))
 
-held-lengths : (l : List ℕ) → shortIn l ≡ lengthsIn 0 heldSize l
+-- after all eight there is nothing
+pub all-used : (l : List ℕ) → length l ≡ heldSize → zeros (drop heldSize l) ≡ true
+unfolding zeros
+all-used l h = ap zeros (drop-of-length-le l {i = heldSize} (omega arith))
+
+held-lengths : (w : ℕ) (l : List ℕ) → zeros (drop w l) ≡ true → shortIn l ≡ lengthsIn 0 w l
 unfolding when inRange
-held-lengths l = all-same _ _ heldSize (λ i m. sym (rw (lt-ltb i heldSize m, leb·zero (getD l i 0)) refl))
+held-lengths w l z =
+    all-same _ _ heldSize
+    (λ i _.
+    by-lt i w (λ m. sym (rw (lt-ltb i w m, leb·zero (getD l i 0)) refl))
+    (λ m. sym (rw (le-ltb i w m, after-zero w l z i m) refl)))
 
 -- what is left of a test where the other fails
 only : (t : Bool) → when t true false ≡ t
@@ -189,12 +198,12 @@ module _ (st e : ℕ) (l b : List ℕ) (l8 : length l ≡ heldSize) (l512 : leng
     unfolding placesOk allBelow
     none-held = rw (z, none-used) at (in-one-run 0 0 l b (omega arith) l8 l512) ∙ sym (rw none-sound refl)
 
-  -- where one is
-  pub some-held : zeros l ≡ false
-      → (eqb st abstract.established && (zeros (drop (lastNumber - e) l) && placesOk 0 heldSize l b)) ≡ (allOf (heldSound st e l) && unusedOk l b)
+  -- where one is, and all that is held is in the first w places
+  pub some-held : (w : ℕ) → w ≤ heldSize → zeros (drop w l) ≡ true → zeros l ≡ false
+      → (eqb st abstract.established && (zeros (drop (lastNumber - e) l) && placesOk 0 w l b)) ≡ (allOf (heldSound st e l) && unusedOk l b)
   unfolding heldSound allOf
-  some-held z =
-      rw (in-one-run 0 heldSize l b (omega arith) l8 l512, ← held-lengths l, held-numbers e l l8, eq-eqb (length l) heldSize l8, z, only (eqb st abstract.established))
+  some-held w w8 u z =
+      rw (in-one-run 0 w l b w8 l8 l512, ← held-lengths w l u, held-numbers e l l8, eq-eqb (length l) heldSize l8, z, only (eqb st abstract.established))
       (regroup (eqb st abstract.established) (numberedIn e l) (shortIn l) (unusedOk l b))
 
 -- where the numbers are sound, the places decide
@@ -237,7 +246,7 @@ module _ (e : Endpoint) (s : sound e ≡ true) (long : Long e) where
   tidy-held =
       let short = both _ _ (both (eqb (length (e .«held_lengths»)) heldSize) _ (holds .0) .1) .0 in
       places-tidy 0 heldSize (e .«held_lengths») (e .«held_blocks») (omega arith) (long .held-lengths) (long .held-blocks)
-      (sym (held-lengths (e .«held_lengths»)) ∙ short) (holds .1)
+      (sym (held-lengths heldSize (e .«held_lengths») (all-used (e .«held_lengths») (long .held-lengths))) ∙ short) (holds .1)
 
   sized-tab : (w : ℕ) → w ≤ e .waiting → sized (tab w (placeBlock (e .lengths) (e .blocks))) ≡ true
   unfolding tab sized

@@ -6,7 +6,7 @@ use step_rules::LISTENING;
 use step_rules::Numbers;
 use step_rules::PASSIVE_OPENING;
 ghost use mathlib.Core.Path.{_≡_};
-ghost use mathlib.Core.Bool.{_&&_};
+ghost use mathlib.Core.Bool.{true, _&&_};
 ghost use Prim.Native.Nat.{_+_, _-_, _≤_, _<_};
 ghost use lib.ListN.{length, drop};
 ghost use Rattle.octets.specs.Sizes.{queueSize, heldSize, lastNumber};
@@ -164,6 +164,21 @@ fn held_numbers_ok(delivered: u32, lengths: &[u8]) -> bool
     octets::is_clear(&lengths[left..])
 }
 
+// How many of the places have all that is held: those up to the last block.
+fn used_places(lengths: &[u8]) -> usize
+    requires { ⌜ length (now lengths) ≡ heldSize ⌝ }
+    ensures { λ r. ⌜ (r ≤ heldSize) × (zeros (drop r (now (lengths .entry))) ≡ true) ⌝ }
+{
+    let mut used = octets::HELD_SIZE;
+    while used > 0 {
+        if lengths[used - 1] != 0 {
+            return used;
+        }
+        used -= 1;
+    }
+    used
+}
+
 // The held places. Where nothing is held, all of them are unused: one run.
 fn held_ok(state: u8, delivered: u32, lengths: &[u8], blocks: &[u8]) -> bool
     requires { ⌜ (length (now blocks) ≡ placesSize) × (length (now lengths) ≡ heldSize) ⌝ }
@@ -172,8 +187,9 @@ fn held_ok(state: u8, delivered: u32, lengths: &[u8], blocks: &[u8]) -> bool
     if octets::is_clear(lengths) {
         return octets::is_clear(blocks);
     }
+    let used = used_places(lengths);
     (state == ESTABLISHED)
-        & (held_numbers_ok(delivered, lengths) & places_ok(0, octets::HELD_SIZE, lengths, blocks))
+        & (held_numbers_ok(delivered, lengths) & places_ok(0, used, lengths, blocks))
 }
 
 // Question 12: is the record of these numbers, lengths and blocks sound?
