@@ -25,6 +25,11 @@ pub digit-high : (n : ℕ) → 10 ≤ n → digit n ≡ 87 + n
 unfolding digit
 digit-high n h = lt-no n 10 (48 + n) (87 + n) h
 
+-- what a number's digit is told by: the figure below ten, the letter from ten on
+pub digit-is : (n d : ℕ) → (n < 10 → d ≡ 48 + n) → (10 ≤ n → d ≡ 87 + n) → d ≡ digit n
+unfolding digit
+digit-is n d low high = if-lt (λ (x : ℕ). d ≡ x) n 10 low high
+
 pub value-figure : (c : ℕ) → c < 65 → value c ≡ c - 48
 unfolding value
 value-figure c h = lt-yes c 65 (c - 48) (ifLt c 97 (c - 55) (c - 87)) h

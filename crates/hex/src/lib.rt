@@ -13,18 +13,15 @@ pub enum Line {
     Refused(u8),
 }
 
-// What a letter's character is more than its number: a stands for ten.
-const LETTERS: u8 = b'a' - 10;
+// What a letter's character is more than that of a figure of its number would be: a stands for ten.
+const LETTERS: u8 = b'a' - 10 - b'0';
 
-// The digit of a number below 16.
+// The digit of a number below 16, without a branch: six more than a figure's number is below 16, six more than a letter's is not.
 fn to_digit(n: u8) -> u8
     requires { ⌜ n < 16 ⌝ }
     ensures { λ r. ⌜ r ≡ digit n ⌝ }
 {
-    if n < 10 {
-        return b'0' + n;
-    }
-    LETTERS + n
+    b'0' + n + LETTERS * ((n + 6) / 16)
 }
 
 // Writes the digits of s to the start of out.
