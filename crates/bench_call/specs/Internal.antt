@@ -1,10 +1,11 @@
 -- What the parts of such a call do. No public call's contract needs this.
-use Prim.Native.Nat.{ℕ, _+_, _*_}
+use Prim.Native.Nat.{ℕ, _+_, _*_, _≤_}
 use mathlib.Core.Path.{_≡_}
 use mathlib.Core.Bool.{Bool, true}
 use mathlib.Core.List.{List}
 use lib.Dec.{ltb}
 use lib.ListN.{length}
+use Rattle.octets.specs.Sizes.{longestFrame, longestBlock}
 use Rattle.octets.specs.Test.{ifEq, Outcome}
 use Rattle.octets.specs.Octets.{put}
 use Rattle.protocol.specs.Table.{Step}
@@ -13,12 +14,17 @@ use Rattle.step_plan.specs.declared.Reply.{Reply}
 use Rattle.step_plan.specs.declared.Reply.the-variants as reply
 use Rattle.call_spec.specs.declared.Call.{Call}
 use Rattle.call_spec.specs.Answers.{blockOf, blockBufferAfter}
+use Rattle.endpoint.specs.Record.{recordSize}
 use Rattle.link.specs.declared.Answer.{Answer}
 use Rattle.link.specs.Record.{format}
 use Rattle.bench_log.specs.Log.{placeSize, places, place}
 use Rattle.bench_spec.specs.Bench.{logAfter}
 use Rattle.bench_call.specs.declared.BenchAnswer.{BenchAnswer}
 use Rattle.bench_call.specs.Answer.{blockAt, benchAnswerOf}
+
+-- 11 and 12 of a call at an end are passed
+abbrev pub Ready : List ℕ → List ℕ → List ℕ → Type 0
+Ready rec out up = ((recordSize ≤ length rec) × (format .sound rec ≡ true)) × ((longestFrame ≤ length out) × (longestBlock ≤ length up))
 
 -- 14 of a planned reply
 unfoldable pub hasPlace : Reply → ℕ → Bool

@@ -9,13 +9,12 @@ ghost use Prim.Native.Nat.{_≤_, _<_};
 ghost use mathlib.Core.Logic.{_≢_};
 ghost use lib.ListN.{length, take};
 ghost use Rattle.octets.specs.Sizes.{longestFrame};
-ghost use Rattle.endpoint.specs.Record.{recordSize};
 ghost use Rattle.call_spec.specs.declared.Call.the-variants.{Request, Receive};
 ghost use Rattle.link.specs.Lent.{Called, lentCall};
 ghost use Rattle.bench_log.specs.Log.{places, logSize, lengthAt, frameLogged};
 ghost use Rattle.bench_spec.specs.Bench.{callOutcome};
 ghost use Rattle.bench_call.specs.Answer.{blockStart};
-ghost use Rattle.bench_call.specs.Internal.{hasPlace, noted, notedCount, blockPlace, answerFrom, Does};
+ghost use Rattle.bench_call.specs.Internal.{Ready, hasPlace, noted, notedCount, blockPlace, answerFrom, Does};
 
 // Question 14 of a plan: what sends a frame needs a place for it in the log.
 pub fn has_place(reply: Reply, count: usize) -> bool
@@ -27,7 +26,7 @@ pub fn has_place(reply: Reply, count: usize) -> bool
     }
 }
 
-// A call of an end, with question 14 last, of its plan.
+// A call of an end where 11 and 12 are passed, with question 14 last, of its plan.
 fn call_end(
     call: Call,
     rec: &mut [u8],
@@ -36,10 +35,10 @@ fn call_end(
     out: &mut [u8],
     up: &mut [u8],
 ) -> Answer
-    requires { ⌜ recordSize ≤ length (now rec) ⌝ }
+    requires { ⌜ Ready (now rec) (now out) (now up) ⌝ }
     ensures { λ r. ⌜ Called call (callOutcome (now (rec .entry)) count (lentCall call (now (s .entry)) (now (out .entry)) (now (up .entry)))) (now (rec .entry)) (now (s .entry)) (now (out .entry)) (now (up .entry)) (now (rec .exit)) (now (out .exit)) (now (up .exit)) r ⌝ }
 {
-    let p = link::plan_call(call, rec, s, out.len(), up.len());
+    let p = link::plan_sound(call, rec, s);
     let reply = p.reply;
     if !has_place(reply, count) {
         return link::refuse(rec, refusal::LOG_FULL);
@@ -111,7 +110,7 @@ pub fn request_at(
     out: &mut [u8],
     up: &mut [u8],
 ) -> BenchAnswer
-    requires { ⌜ (recordSize ≤ length (now rec)) × (logSize ≤ length (now log)) ⌝ }
+    requires { ⌜ Ready (now rec) (now out) (now up) × (logSize ≤ length (now log)) ⌝ }
     ensures { λ r. ⌜ Does end (now (rec .entry)) (now (log .entry)) count 0 Request (callOutcome (now (rec .entry)) count (lentCall Request (now (s .entry)) (now (out .entry)) (now (up .entry)))) (now (out .entry)) (now (up .entry)) (now (rec .exit)) (now (log .exit)) (now (out .exit)) (now (up .exit)) r ⌝ }
 {
     let a = call_end(Call::Request, rec, s, count, out, up);
@@ -128,7 +127,7 @@ pub fn deliver_at(
     out: &mut [u8],
     up: &mut [u8],
 ) -> BenchAnswer
-    requires { ⌜ (recordSize ≤ length (now rec)) × ((logSize ≤ length (now log)) × (((n < count) × (count ≤ places)) × (lengthAt n (now log) ≤ longestFrame))) ⌝ }
+    requires { ⌜ Ready (now rec) (now out) (now up) × ((logSize ≤ length (now log)) × (((n < count) × (count ≤ places)) × (lengthAt n (now log) ≤ longestFrame))) ⌝ }
     ensures { λ r. ⌜ Does end (now (rec .entry)) (now (log .entry)) count (blockStart n) Receive (callOutcome (now (rec .entry)) count (lentCall Receive (frameLogged n (now (log .entry))) (now (out .entry)) (now (up .entry)))) (now (out .entry)) (now (up .entry)) (now (rec .exit)) (now (log .exit)) (now (out .exit)) (now (up .exit)) r ⌝ }
 {
     let a = call_end(

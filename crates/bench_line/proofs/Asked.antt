@@ -49,9 +49,6 @@ module _ (a b log : List ℕ) (count : ℕ) (line : List ℕ) (room : Rooms) whe
     unfolding refusing
     turned-away k h = next ∙ ap (λ (m : ℕ). refusing m (octetsAsk v (unhex line) room)) h
 
-    pub sizes : (recordSize ≤ length a) × ((recordSize ≤ length b) × ((logSize ≤ length log) × (count ≤ places)))
-    sizes = (y .long-a, (y .long-b, (y .long-log, y .few)))
-
 -- a line has at least one octet
 pub some-octet : (line : List ℕ) → first (lineQuestions line) ≡ 0 → 1 ≤ length (unhex line)
 unfolding lengthOk

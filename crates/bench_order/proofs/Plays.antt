@@ -14,17 +14,26 @@ use Rattle.octets.proofs.Test.{eq-yes, eq-no}
 use Rattle.octets.proofs.Octets.{field-more, field-one}
 use Rattle.frame.specs.Read.{kindOf}
 use Rattle.call_spec.specs.declared.Call.the-variants.{Request, Receive}
-use Rattle.call_spec.specs.Calls.{Arguments, Rooms, given, recordAfter, bufferAfter}
+use Rattle.call_spec.specs.Calls.{Arguments, Rooms, rooms, given, recordAfter, bufferAfter}
 use Rattle.call_spec.specs.Answers.{blockOf, blockBufferAfter}
 use Rattle.bench_log.specs.Log.{senderAt, frameLogged, holds}
 use Rattle.bench_log.proofs.Log.{held}
 use Rattle.bench_spec.specs.Bench.{Bench, benchOf, recordAt, At, delivery, octetsAsk, callOutcome, comes, endOf, logAfter, countAfter, benchAfter, requestOfA, requestOfB, deliver}
 use Rattle.link.specs.declared.Answer.{Answer}
 use Rattle.link.specs.Lent.{answerOf}
+use Rattle.bench_checks.proofs.Passed.{Passed}
 use Rattle.bench_call.specs.declared.BenchAnswer.{BenchAnswer}
 use Rattle.bench_call.specs.Answer.{blockStart, blockAt, benchAnswerOf}
-use Rattle.bench_call.specs.Internal.{Does}
+use Rattle.bench_call.specs.Internal.{Ready, Does}
 use Rattle.bench_order.specs.Performed.{lineStart, callOf, Performed}
+
+-- where 11 and 12 of a line are passed, so are those of a call at either end
+module _ {w : Bench} (out up : List ℕ) (y : Passed w (rooms (length out) (length up))) where
+  pub ready-a : Ready (w .a) out up
+  ready-a = ((y .long-a, y .sound-a), (y .enough, y .enough-block))
+
+  pub ready-b : Ready (w .b) out up
+  ready-b = ((y .long-b, y .sound-b), (y .enough, y .enough-block))
 
 -- a refusal tells of A's record
 pub told : (rec : List ℕ) (number count start : ℕ) {m : Answer} → m ≡ answerOf rec (refused number)

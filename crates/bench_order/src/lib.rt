@@ -4,11 +4,10 @@ use octets::refusal;
 ghost use mathlib.Core.Path.{_≡_};
 ghost use Prim.Native.Nat.{ℕ, _≤_};
 ghost use lib.ListN.{length};
-ghost use Rattle.octets.specs.Test.{refused};
+ghost use Rattle.octets.specs.Test.{first, refused};
 ghost use Rattle.call_spec.specs.Calls.{rooms};
-ghost use Rattle.endpoint.specs.Record.{recordSize};
-ghost use Rattle.bench_log.specs.Log.{places, logSize};
 ghost use Rattle.bench_spec.specs.Bench.{benchOf, delivery, octetsAsk};
+ghost use Rattle.bench_checks.specs.Ready.{readyQuestions};
 ghost use Rattle.bench_call.specs.Answer.{blockStart, benchAnswerOf};
 ghost use Rattle.bench_order.specs.Performed.{lineStart, Performed};
 
@@ -44,7 +43,7 @@ fn deliver(
     out: &mut [u8],
     up: &mut [u8],
 ) -> BenchAnswer
-    requires { ⌜ (recordSize ≤ length (now a)) × ((recordSize ≤ length (now b)) × ((logSize ≤ length (now log)) × (count ≤ places))) ⌝ }
+    requires { ⌜ first (readyQuestions (benchOf (now a) (now b) (now log) count) (rooms (length (now out)) (length (now up)))) ≡ 0 ⌝ }
     ensures { λ r. ⌜ Performed (benchOf (now (a .entry)) (now (b .entry)) (now (log .entry)) count) (delivery (benchOf (now (a .entry)) (now (b .entry)) (now (log .entry)) count) n (rooms (length (now (out .entry))) (length (now (up .entry))))) (blockStart n) (now (out .entry)) (now (up .entry)) (now (a .exit)) (now (b .exit)) (now (log .exit)) (now (out .exit)) (now (up .exit)) r ⌝ }
 {
     if !bench_log::holds(log, count, n) {
@@ -56,7 +55,7 @@ fn deliver(
     bench_call::deliver_at(0, a, n, log, count, out, up)
 }
 
-// What the octets of a line ask.
+// What the octets of a line ask, where 11 and 12 are passed.
 pub fn ask(
     a: &mut [u8],
     b: &mut [u8],
@@ -66,7 +65,7 @@ pub fn ask(
     out: &mut [u8],
     up: &mut [u8],
 ) -> BenchAnswer
-    requires { ⌜ (1 ≤ length (now s)) × ((recordSize ≤ length (now a)) × ((recordSize ≤ length (now b)) × ((logSize ≤ length (now log)) × (count ≤ places)))) ⌝ }
+    requires { ⌜ (1 ≤ length (now s)) × (first (readyQuestions (benchOf (now a) (now b) (now log) count) (rooms (length (now out)) (length (now up)))) ≡ 0) ⌝ }
     ensures { λ r. ⌜ Performed (benchOf (now (a .entry)) (now (b .entry)) (now (log .entry)) count) (octetsAsk (benchOf (now (a .entry)) (now (b .entry)) (now (log .entry)) count) (now (s .entry)) (rooms (length (now (out .entry))) (length (now (up .entry))))) (lineStart (now (s .entry))) (now (out .entry)) (now (up .entry)) (now (a .exit)) (now (b .exit)) (now (log .exit)) (now (out .exit)) (now (up .exit)) r ⌝ }
 {
     let kind = s[0];

@@ -14,19 +14,17 @@ use Rattle.octets.specs.Test.{when, Outcome, refused, ok, mapped, andThen, numb
 use Rattle.octets.specs.Octets.{put, left, Octets}
 use Rattle.octets.proofs.Test.{both, joined}
 use Rattle.frame.specs.Frame.{Block}
-use Rattle.frame.specs.Layout.{sendBlockAt, dataBlockAt}
 use Rattle.protocol.specs.Endpoint as abstract
 use Rattle.protocol.specs.Table.{Step, firstCopy, heldAt}
 use Rattle.call_spec.specs.declared.Call.the-variants.{Receive}
-use Rattle.call_spec.specs.Calls.{Arguments, given, rooms, does, blockRoomOk, performed, recordAfter}
+use Rattle.call_spec.specs.Calls.{Arguments, given, rooms, does, performed, recordAfter}
 use Rattle.step_rules.specs.declared.Numbers.{Numbers}
 use Rattle.step_rules.specs.Internal.{holding}
 use Rattle.step_plan.specs.declared.Plan.{Plan}
 use Rattle.step_plan.specs.declared.Places.{Places}
 use Rattle.step_plan.specs.declared.Places.the-variants.{Keep, Join, Release}
 use Rattle.call_spec.specs.Answers.{endpointAfter}
-use Rattle.step_plan.specs.Internal.{queueAfter, heldAfter, Room, HeldRoom, Comes, Planned}
-use Rattle.step_plan.proofs.Comes.{by-joined}
+use Rattle.step_plan.specs.Internal.{queueAfter, heldAfter, Room, HeldRoom, Comes}
 use Rattle.endpoint.specs.declared.Endpoint.{Endpoint}
 use Rattle.endpoint.specs.View.{pack, placeBlock, view}
 use Rattle.endpoint.specs.Sound.{sound}
@@ -34,11 +32,10 @@ use Rattle.endpoint.specs.Record.{recordSize, decode}
 use Rattle.endpoint.specs.Record as endpoint
 use Rattle.endpoint.specs.Internal.{numbersOf}
 use Rattle.endpoint.proofs.Packs.{count, length-tab, pack-view}
-use Rattle.endpoint.proofs.Sounds.{tidy, tidy-held, lengths-held}
+use Rattle.endpoint.proofs.Sounds.{tidy, tidy-held}
 use Rattle.endpoint_step.specs.Calls.{outcomeOf}
-use Rattle.endpoint_step.specs.Internal.{joinsQueue, joinsHeld}
+use Rattle.endpoint_step.specs.Internal.{joinsQueue, joinsHeld, Plans, PlansAny}
 use Rattle.endpoint_step.proofs.Ready.{ready}
-use Rattle.endpoint_step.proofs.Carries.{oldest-at, laden}
 use Rattle.endpoint_step.proofs.Laws.{leaves}
 use Rattle.link.specs.Record.{format}
 use Rattle.link.proofs.Answers.{rewritten, enough, decode-long}
@@ -46,7 +43,7 @@ use Rattle.link.proofs.Demand.{lawful}
 use Rattle.link.proofs.Stays.{bounded}
 use Rattle.bench_spec.specs.Bench.{logged, callOutcome}
 use Rattle.bench_call.specs.Internal.{hasPlace}
-use Rattle.bench_call.proofs.Moves.{by-plan}
+use Rattle.bench_call.proofs.Moves.{room-for, by-plan}
 use Rattle.bench_query.specs.Found.{Changes}
 use Rattle.bench_query.specs.Internal.{Says, sameNumbers, staying}
 
@@ -115,10 +112,6 @@ module _ (rec : List ℕ) (long : recordSize ≤ length rec) (fine : sound (deco
   abbrev end : Endpoint
   end = decode rec
 
-  -- t and w of the record, for the plan
-  pub enough-accepted : {n : Numbers} → n ≡ numbersOf end → n .waiting ≤ n .accepted
-  enough-accepted e = rw e (laden end fine (decode-long rec long))
-
   -- what leaves the endpoint leaves the record
   keeps : Octets rec → (o : Outcome Step) → endpointAfter (view end) o ≡ view end → recordAfter format rec o ≡ rec
   unfolding endpointAfter recordAfter mapped left
@@ -137,8 +130,7 @@ module _ (rec : List ℕ) (long : recordSize ≤ length rec) (fine : sound (deco
 
     -- the record is sound and there is room for a frame
     ready-is : outcomeOf end call ≡ hears
-    unfolding blockRoomOk
-    ready-is = ready end call (omega arith) refl fine
+    ready-is = ready end call (omega arith) (room-for Receive longestBlock (omega arith)) fine
 
     comes-to : performed format rec call ≡ hears
     comes-to = enough rec long call ∙ ready-is
@@ -154,21 +146,21 @@ module _ (rec : List ℕ) (long : recordSize ≤ length rec) (fine : sound (deco
     abbrev Change : Type 0
     Change = Changes rec (callOutcome rec count-used call)
 
-    module _ {n : Numbers} {p : Plan} (e : n ≡ numbersOf end) (h : (b : Block) → Planned n (end .«held_lengths») b (drop dataBlockAt s) (does Receive s) p) where
+    module _ {p : Plan} (h : PlansAny end Receive s p) where
       abbrev joins : Block
       joins = joinsQueue p s
 
       abbrev early : Block
       early = joinsHeld p s
 
+      plans : Plans end call p
+      plans = h (rooms longestFrame longestBlock) (omega arith) (room-for Receive longestBlock (omega arith))
+
       planned : Comes (numbersOf end) (view end .queue) (view end .held) joins early (placeBlock (end .lengths) (end .blocks) 0) hears p
-      unfolding view
-      planned =
-          by-joined s
-          ((rw e at h) (drop sendBlockAt s) (view end .queue) (view end .held) (placeBlock (end .lengths) (end .blocks) 0) (count end) (oldest-at end) (lengths-held end fine (decode-long rec long)))
+      planned = rw ready-is at plans
 
       by-14 : callOutcome rec count-used call ≡ when (hasPlace (p .reply) count-used) (performed format rec call) (refused 14)
-      by-14 = by-plan rec long count-used call {p = p} (rw ready-is planned)
+      by-14 = by-plan rec long count-used call {p = p} plans
 
       -- refused by 3 to 7
       pub refuses : p .number ≢ 0 → Change → ⊥
@@ -207,9 +199,9 @@ module _ (rec : List ℕ) (long : recordSize ≤ length rec) (fine : sound (deco
           held-stayed (p .held) early (view end .held) (length-tab heldSize (placeBlock (end .«held_lengths») (end .«held_blocks»))) (planned .place)
           (ap (λ (x : abstract.Endpoint). x .held) (planned .endpoint ∙ g))
 
-      pub tells : Octets rec → Octets s → p .number ≡ 0 → hasPlace (p .reply) count-used ≡ true
+      pub tells : {n : Numbers} → n ≡ numbersOf end → Octets rec → Octets s → p .number ≡ 0 → hasPlace (p .reply) count-used ≡ true
           → Says (not (sameNumbers (p .numbers) n && staying (p .held))) Change
-      tells oc os z t =
+      tells {n} e oc os z t =
           contrary (sameNumbers (p .numbers) n && staying (p .held))
           (λ b x.
           let k = both (sameNumbers (p .numbers) n) _ b in

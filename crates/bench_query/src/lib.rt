@@ -1,6 +1,5 @@
 // The question of the bench: some frame in the log whose delivery now would be accepted and change the receiver's record.
-use endpoint::HELD_BLOCKS_AT;
-use endpoint::HELD_LENGTHS_AT;
+use call_spec::Call;
 use step_plan::Places;
 use step_rules::Numbers;
 ghost use mathlib.Core.Path.{_≡_};
@@ -52,8 +51,7 @@ fn changes(rec: &[u8], s: &[u8], count: usize) -> bool
     requires { ⌜ (recordSize ≤ length (now rec)) × (format .sound (now rec) ≡ true) ⌝ }
     ensures { λ r. ⌜ Says r (Changes (now (rec .entry)) (callOutcome (now (rec .entry)) count (given Receive (now (s .entry)) (rooms longestFrame longestBlock)))) ⌝ }
 {
-    let n = endpoint::load_numbers(rec);
-    let p = step_receive::receive(n, &rec[HELD_LENGTHS_AT..HELD_BLOCKS_AT], s);
+    let p = link::plan_sound(Call::Receive, rec, s);
     if p.number != step_plan::ACCEPTED {
         return false;
     }
@@ -61,6 +59,7 @@ fn changes(rec: &[u8], s: &[u8], count: usize) -> bool
     if !bench_call::has_place(reply, count) {
         return false;
     }
+    let n = endpoint::load_numbers(rec);
     let m = p.numbers;
     let held = p.held;
     !(same(m, n) & stays(held))

@@ -22,15 +22,15 @@ use Rattle.protocol.specs.Table.{Step}
 use Rattle.protocol.proofs.Sound.{length-at}
 use Rattle.call_spec.specs.declared.Call.{Call}
 use Rattle.call_spec.specs.declared.Call.the-variants as call
-use Rattle.call_spec.specs.Calls.{Arguments, wire, bufferAfter, blockRoomOk}
+use Rattle.call_spec.specs.Calls.{Arguments, given, does, wire, bufferAfter, blockRoomOk}
 use Rattle.step_rules.specs.Internal.{holding}
 use Rattle.step_plan.specs.declared.Plan.{Plan}
 use Rattle.step_plan.specs.declared.Places.{Places}
 use Rattle.step_plan.specs.declared.Places.the-variants.{Keep, Join, Release}
 use Rattle.call_spec.specs.Answers.{noticeOf, sentIn, blockOf, blockPart, blockBufferAfter, endpointAfter}
-use Rattle.step_plan.specs.Internal.{blockBy, queueAfter, heldAfter, Reaches, Room, HeldRoom, blockOut, sentBy, Oldest, Comes, Sends}
+use Rattle.step_plan.specs.Internal.{blockBy, queueAfter, heldAfter, Reaches, Room, HeldRoom, blockOut, sentBy, Oldest, Comes, Planned, Sends}
 use Rattle.step_plan.specs.Internal.{refusedPlan}
-use Rattle.step_plan.proofs.Comes.{refuses, queue-reaches, held-reaches, queue-short, held-short}
+use Rattle.step_plan.proofs.Comes.{refuses, by-joined, queue-reaches, held-reaches, queue-short, held-short}
 use Rattle.step_plan.proofs.Up.{There, right, told}
 use Rattle.step_plan.proofs.Up as up
 use Rattle.endpoint.specs.declared.Endpoint.{Endpoint}
@@ -41,8 +41,8 @@ use Rattle.endpoint.proofs.Packs.{Long, Tidy, Small, small, count, length-tab, 
 use Rattle.endpoint.proofs.Sounds.{by-lt, tidy, tidy-held, lengths-held, facts}
 use Rattle.endpoint_step.specs.declared.StepAnswer.{StepAnswer}
 use Rattle.endpoint_step.specs.Calls.{outcomeOf, stepAnswerOf, Advances}
-use Rattle.endpoint_step.specs.Internal.{joinsQueue, joinsHeld, Plans, placesAfter, InEight, Fits, lengthsAfter, blocksAfter, carried, blockFrom, Handy, handedTo, HandsUp}
-use Rattle.endpoint_step.proofs.Ready.{Passes, passes}
+use Rattle.endpoint_step.specs.Internal.{joinsQueue, joinsHeld, Plans, PlansAny, placesAfter, InEight, Fits, lengthsAfter, blocksAfter, carried, blockFrom, Handy, handedTo, HandsUp}
+use Rattle.endpoint_step.proofs.Ready.{ready, Passes, passes}
 use Rattle.endpoint_step.proofs.HeldPlaces.{held-lengths-after, held-blocks-after}
 
 -- the oldest block is the one at place 0
@@ -97,6 +97,13 @@ module _ (e : Endpoint) (s : sound e ≡ true) (long : Long e) where
   number-left h =
       let z = sym (length-at (view e .held) 0) ∙ ap (λ (l : List ℕ). getD l 0 0) (lengths-held e s long) in
       omega (arith, facts e s long .fitting 0 (omega (arith, z)) .1)
+
+  -- the plan of a call where 11 and 12 are passed
+  pub planned : (c : Call) (o : List ℕ) {p : Plan} → Planned (numbersOf e) (e .«held_lengths») (drop sendBlockAt o) (drop dataBlockAt o) (does c o) p → PlansAny e c o p
+  unfolding view
+  planned c o h room enough enough-block =
+      rw (ready e (given c o room) enough enough-block s)
+      (by-joined o (h (view e .queue) (view e .held) (placeBlock (e .lengths) (e .blocks) 0) (count e) (oldest-at e) (lengths-held e s long)))
 
   abbrev blocks : List Block
   blocks = view e .queue

@@ -1,15 +1,16 @@
 -- Plans for a record, and what carrying one out leaves. No public call's contract needs this.
 use Prim.Native.Nat.{ℕ, _+_, _*_, _≤_, _<_}
 use mathlib.Core.Path.{_≡_}
+use mathlib.Core.Bool.{true}
 use mathlib.Core.List.{List, [], _∷_, _++_}
 use lib.ListN.{length, getD, drop, replicate}
-use Rattle.octets.specs.Sizes.{longestBlock, queueSize}
+use Rattle.octets.specs.Sizes.{longestFrame, longestBlock, queueSize}
 use Rattle.octets.specs.Octets.{put}
 use Rattle.frame.specs.Frame.{Block}
 use Rattle.frame.specs.Layout.{sendBlockAt, dataBlockAt}
 use Rattle.call_spec.specs.declared.Call.{Call}
 use Rattle.call_spec.specs.declared.Call.the-variants.{Request, Receive}
-use Rattle.call_spec.specs.Calls.{Arguments}
+use Rattle.call_spec.specs.Calls.{Arguments, Rooms, given, blockRoomOk}
 use Rattle.step_plan.specs.declared.Plan.{Plan}
 use Rattle.step_plan.specs.declared.Places.{Places}
 use Rattle.step_plan.specs.declared.Places.the-variants.{Keep, Join, Release}
@@ -31,6 +32,10 @@ abbrev pub Plans : Endpoint → Arguments → Plan → Type 0
 Plans e c p =
     Comes (numbersOf e) (view e .queue) (view e .held) (joinsQueue p (c .octets)) (joinsHeld p (c .octets)) (placeBlock (e .lengths) (e .blocks) 0)
     (outcomeOf e c) p
+
+-- and of every call of e with these octets and room enough
+abbrev pub PlansAny : Endpoint → Call → List ℕ → Plan → Type 0
+PlansAny e c s p = (room : Rooms) → longestFrame ≤ room .frame → blockRoomOk c (room .block) ≡ true → Plans e (given c s room) p
 
 -- eight places of so many octets, and as many of zeros after them
 abbrev pub followed : ℕ → List ℕ → List ℕ

@@ -10,11 +10,12 @@ ghost use mathlib.Core.Path.{_≡_};
 ghost use mathlib.Core.List.{_++_};
 ghost use Prim.Native.Nat.{_+_, _*_, _≤_, _<_};
 ghost use lib.ListN.{length, getD, take, drop, replicate};
-ghost use Rattle.octets.specs.Sizes.{longestFrame, longestBlock, queueSize, heldSize};
+ghost use Rattle.octets.specs.Sizes.{longestFrame, longestBlock, queueSize, heldSize, lastNumber};
 ghost use Rattle.octets.specs.Octets.{put};
 ghost use Rattle.call_spec.specs.declared.Call.the-variants.{Request};
-ghost use Rattle.call_spec.specs.Calls.{given, rooms, blockRoomOk};
-ghost use Rattle.step_plan.specs.Internal.{blockBy, blockOut, sentBy, Sends};
+ghost use Rattle.frame.specs.Layout.{sendBlockAt, dataBlockAt};
+ghost use Rattle.call_spec.specs.Calls.{given, rooms, does, blockRoomOk};
+ghost use Rattle.step_plan.specs.Internal.{blockBy, blockOut, sentBy, Planned, Sends};
 ghost use Rattle.endpoint.specs.View.{placesSize, placeBlock};
 ghost use Rattle.endpoint.specs.Internal.{recordOf};
 ghost use Rattle.endpoint_step.specs.Calls.{Advances};
@@ -27,6 +28,18 @@ pub fn block_room_ok(call: Call, room: usize) -> bool
     match call {
         Call::Request => Endpoint::LONGEST_BLOCK <= room,
         Call::Receive => true,
+    }
+}
+
+// The plan of a call where 11 and 12 are passed, of a record of these numbers, whose held blocks have these lengths: s has the octets of a
+// request or of a frame.
+pub fn plan_sound(call: Call, n: Numbers, held: &[u8], s: &[u8]) -> Plan
+    requires { ⌜ (n .waiting ≤ n .accepted) × ((length (now held) ≡ heldSize) × (1 ≤ getD (now held) 0 0 → n .delivered < lastNumber)) ⌝ }
+    ensures { λ r. ⌜ Planned n (now (held .entry)) (drop sendBlockAt (now (s .entry))) (drop dataBlockAt (now (s .entry))) (does call (now (s .entry))) r ⌝ }
+{
+    match call {
+        Call::Request => step_request::request(n, held, s),
+        Call::Receive => step_receive::receive(n, held, s),
     }
 }
 
@@ -55,10 +68,7 @@ pub fn plan_call<'a>(
     if !endpoint::is_sound(n, lengths, blocks, held_lengths, held_blocks) {
         return step_plan::refuse(n, refusal::UNSOUND);
     }
-    match call {
-        Call::Request => step_request::request(n, held_lengths, s),
-        Call::Receive => step_receive::receive(n, held_lengths, s),
-    }
+    plan_sound(call, n, held_lengths, s)
 }
 
 // Sends the frame of a plan for the record of these lengths and blocks, and answers its length.

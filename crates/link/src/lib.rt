@@ -10,6 +10,7 @@ use endpoint::LENGTHS_AT;
 use octets::refusal;
 use step_plan::Plan;
 ghost use mathlib.Core.Path.{_≡_};
+ghost use mathlib.Core.Bool.{true};
 ghost use mathlib.Core.List.{[]};
 ghost use Prim.Native.Nat.{_≤_};
 ghost use lib.ListN.{length};
@@ -19,7 +20,7 @@ ghost use Rattle.call_spec.specs.declared.Call.the-variants.{Receive};
 ghost use Rattle.call_spec.specs.Calls.{given, rooms, performed};
 ghost use Rattle.call_spec.specs.Answers.{blockOf};
 ghost use Rattle.endpoint.specs.Record.{recordSize, encode, decode};
-ghost use Rattle.endpoint_step.specs.Internal.{Plans, Fits, carried};
+ghost use Rattle.endpoint_step.specs.Internal.{Plans, PlansAny, Fits, carried};
 ghost use Rattle.link.specs.Record.{format, recordQuestions};
 ghost use Rattle.link.specs.Lent.{answerOf, lentCall, CalledLent, answerIn, freshIn};
 
@@ -121,6 +122,15 @@ pub fn plan_call(call: Call, rec: &[u8], s: &[u8], room: usize, block_room: usiz
         room,
         block_room,
     )
+}
+
+// The plan of a call where 11 and 12 are passed.
+pub fn plan_sound(call: Call, rec: &[u8], s: &[u8]) -> Plan
+    requires { ⌜ (recordSize ≤ length (now rec)) × (format .sound (now rec) ≡ true) ⌝ }
+    ensures { λ r. ⌜ PlansAny (decode (now (rec .entry))) call (now (s .entry)) r ⌝ }
+{
+    let n = endpoint::load_numbers(rec);
+    endpoint_step::plan_sound(call, n, &rec[HELD_LENGTHS_AT..HELD_BLOCKS_AT], s)
 }
 
 // Changes the record where it lies: its numbers, and of the lengths and blocks what the plan says; joined is the block that joins those

@@ -26,7 +26,7 @@ finish-requires : tie.Need-finish-requires
 finish-requires c κs =
     let s = c .before .before .before .before .before .before .before .before .before .before .before .before .before .before .before .before .before .before in (
       s .pre .1 .0,
-      loggable (s .args .end) (now (s .args .rec)) (now (s .args .log)) (s .args .count) 0 (call-of s) (rw (c .before .before .before .before .before .before .before .before .before .before .before .frame-of .ensures) at (c .before .before .before .before .before .before .before .before .call-end .ensures)) (s .pre .0) (search needs),
+      loggable (s .args .end) (now (s .args .rec)) (now (s .args .log)) (s .args .count) 0 (call-of s) (rw (c .before .before .before .before .before .before .before .before .before .before .before .frame-of .ensures) at (c .before .before .before .before .before .before .before .before .call-end .ensures)) (s .pre .0 .0 .0) (search needs),
     )
 
 returns : tie.Need-returns

@@ -13,7 +13,7 @@ call-of c = lentCall Request (now (c .args .s)) (now (c .args .out)) (now (c .ar
 finish-requires : tie.Need-finish-requires
 finish-requires c κs =
     let s = c .before .before .before .before .before .before .before .before .before .before .before .before .before .before .before .before .before in
-    (s .pre .1, loggable (s .args .end) (now (s .args .rec)) (now (s .args .log)) (s .args .count) 0 (call-of s) (c .before .before .before .before .before .before .before .before .call-end .ensures) (s .pre .0) (search needs))
+    (s .pre .1, loggable (s .args .end) (now (s .args .rec)) (now (s .args .log)) (s .args .count) 0 (call-of s) (c .before .before .before .before .before .before .before .before .call-end .ensures) (s .pre .0 .0 .0) (search needs))
 
 returns : tie.Need-returns
 returns c =

@@ -1,4 +1,5 @@
 use Rattle.bench_spec.specs.Bench.{Bench, benchOf}
+use Rattle.bench_checks.specs.Ready.{readyQuestions}
 use Rattle.bench_checks.proofs.Passed as checked
 use Prim.Native.Nat.{ℕ, zero, suc}
 use mathlib.Core.Path.{_≡_, refl, sym, ap, _∙_}
@@ -7,7 +8,7 @@ use mathlib.Core.List.{List}
 use denote.Ref.{now}
 use lib.ListN.{length, replicate}
 use lib.Seq.{length-take-le}
-use Rattle.octets.specs.Test.{refused}
+use Rattle.octets.specs.Test.{first, refused}
 use Rattle.hex.specs.Line.{unhex}
 use Rattle.octets.specs.Sizes.{longestFrame}
 use Rattle.hex.proofs.Asked.{Passed, passed, fits, reads, turned-away}
@@ -15,7 +16,7 @@ use Rattle.call_spec.specs.Calls.{Rooms, rooms}
 use Rattle.bench_order.specs.Performed.{lineStart}
 use Rattle.bench_order.proofs.Plays.{declines}
 use Rattle.bench_line.proofs.Asked as asked
-use Rattle.bench_line.proofs.Asked.{unready, passes, sizes, some-octet}
+use Rattle.bench_line.proofs.Asked.{unready, passes, some-octet}
 use native.Mathlib.Omega.{arith}
 use borrow.Author.Needs.{needs}
 use Rattle.bench_line.proofs.perform.Statement.{statement}
@@ -28,8 +29,11 @@ abbrev room-of : tie.Start → Rooms
 room-of s = rooms (length (now (s .args .out))) (length (now (s .args .up)))
 
 -- 11 and 12 are passed
+asks-none : (c : tie.Else1) → first (readyQuestions (bench-of (c .before .before .before .before .before .before .before .before .before .before .before)) (room-of (c .before .before .before .before .before .before .before .before .before .before .before))) ≡ 0
+asks-none c = sym (c .before .ready .ensures) ∙ c .if1 .left
+
 is-ready : (c : tie.Else1) → checked.Passed (bench-of (c .before .before .before .before .before .before .before .before .before .before .before)) (room-of (c .before .before .before .before .before .before .before .before .before .before .before))
-is-ready c = checked.passed (bench-of (c .before .before .before .before .before .before .before .before .before .before .before)) (room-of (c .before .before .before .before .before .before .before .before .before .before .before)) (sym (c .before .ready .ensures) ∙ c .if1 .left)
+is-ready c = checked.passed (bench-of (c .before .before .before .before .before .before .before .before .before .before .before)) (room-of (c .before .before .before .before .before .before .before .before .before .before .before)) (asks-none c)
 
 -- the line of a bench that is ready
 abbrev line : tie.After-ask-arg3 → List ℕ
@@ -62,7 +66,7 @@ ask-requires c κs =
     let s = c .before .before .before .before .before .before .before .before .before .before .before .before .before .before .before .before .before .before .before .before .before .before .before in
     let a = s .args in
     let d = c .before .before .before in
-    (omega (arith, ap length (reads (line d) (replicate longestFrame 0) refl (is-read d)), some-octet (now (a .line)) (is-read d .all-yes)), sizes (now (a .a)) (now (a .b)) (now (a .log)) (a .count) (now (a .line)) (room-of s) (is-ready (c .before .before .before .before .before .before .before .before .before .before .before .before)))
+    (omega (arith, ap length (reads (line d) (replicate longestFrame 0) refl (is-read d)), some-octet (now (a .line)) (is-read d .all-yes)), asks-none (c .before .before .before .before .before .before .before .before .before .before .before .before))
 
 returns-2 : tie.Need-returns-2
 returns-2 c =

@@ -8,8 +8,10 @@ use Rattle.frame.specs.Read.{kindOf}
 use Rattle.call_spec.specs.declared.Call.the-variants.{Request}
 use Rattle.call_spec.specs.Calls.{Rooms, rooms}
 use Rattle.link.specs.Lent.{lentCall}
+use Rattle.bench_spec.specs.Bench.{benchOf}
+use Rattle.bench_checks.proofs.Passed.{Passed, passed}
 use Rattle.bench_order.specs.Performed.{lineStart}
-use Rattle.bench_order.proofs.Plays.{declines, at-a, at-b, asks-a, asks-b, asks-none, asks-short, asks-frame, starts-none, starts-at, number-of}
+use Rattle.bench_order.proofs.Plays.{ready-a, ready-b, declines, at-a, at-b, asks-a, asks-b, asks-none, asks-short, asks-frame, starts-none, starts-at, number-of}
 use native.Mathlib.Omega.{arith}
 use borrow.Author.Needs.{needs}
 use Rattle.bench_order.proofs.ask.Statement.{statement}
@@ -17,6 +19,22 @@ use Rattle.bench_order.proofs.ask.Tie as tie
 
 abbrev room-of : tie.Start → Rooms
 room-of s = rooms (length (now (s .args .out))) (length (now (s .args .up)))
+
+-- 11 and 12 have been passed
+is-ready : (s : tie.Start) → Passed (benchOf (now (s .args .a)) (now (s .args .b)) (now (s .args .log)) (s .args .count)) (room-of s)
+is-ready s = passed _ (room-of s) (s .pre .1)
+
+request-at-requires : tie.Need-request-at-requires
+request-at-requires c κs =
+    let s = c .before .before .before .before .before .before .before .before .before .before .before .before .before in
+    let r = is-ready s in
+    (ready-a (now (s .args .out)) (now (s .args .up)) r, r .long-log)
+
+request-at-requires-2 : tie.Need-request-at-requires-2
+request-at-requires-2 c κs =
+    let s = c .before .before .before .before .before .before .before .before .before .before .before .before .before .before in
+    let r = is-ready s in
+    (ready-b (now (s .args .out)) (now (s .args .up)) r, r .long-log)
 
 returns : tie.Need-returns
 unfolding kindOf
@@ -67,9 +85,9 @@ returns-5 c =
 pub ask-spec : {M : Type 1} → statement M
 ask-spec =
     tie.close
-    (tie.spec (λ c. search needs) (λ c. search needs) (λ c. search needs) (λ c. search needs) (λ c κs. search needs) (λ c. search needs)
+    (tie.spec (λ c. search needs) (λ c. search needs) (λ c. search needs) (λ c. search needs) request-at-requires (λ c. search needs)
     (λ c. search needs) (λ c. search needs) (λ c. search needs) returns (λ c. search needs) (λ c. search needs) (λ c. search needs)
-    (λ c κs. search needs) (λ c. search needs) (λ c. search needs) (λ c. search needs) (λ c. search needs) returns-2 (λ c κs. search needs)
+    request-at-requires-2 (λ c. search needs) (λ c. search needs) (λ c. search needs) (λ c. search needs) returns-2 (λ c κs. search needs)
     (λ c. search needs) returns-3 (λ c κs. search needs) (λ c. search needs) returns-4 (λ c. search needs) (λ c κs. search needs) (λ c. search needs)
     (λ c. search needs) (λ c κs. search needs) (λ c. search needs) (λ c κs. search needs) (λ c. search needs) (λ c. search needs) (λ c. search needs)
     (λ c. search needs) (λ c. search needs) returns-5)

@@ -4,27 +4,19 @@ use native.Mathlib.Omega.{arith}
 use borrow.Author.Needs.{needs}
 use borrow.Author.Tests.{not-true, not-false}
 use Rattle.octets.specs.Octets.{Octets}
-use Rattle.endpoint.specs.Record.{decode}
-use Rattle.bench_query.proofs.Plans.{enough-accepted, refuses, too-full, tells}
+use Rattle.bench_query.proofs.Plans.{refuses, too-full, tells}
 use Rattle.bench_query.proofs.changes.Statement.{statement}
 use Rattle.bench_query.proofs.changes.Tie as tie
 
-receive-requires : tie.Need-receive-requires
-receive-requires c κs =
-    let s = c .before .before .before .before in
-    (search needs, enough-accepted (now (s .args .rec)) (s .pre .0) (s .pre .1) (c .before .load-numbers .ensures))
-
 returns : tie.Need-returns
-unfolding decode
 returns c =
-    let s = c .before .before .before .before .before .before .before in
-    refuses (now (s .args .rec)) (s .pre .0) (s .pre .1) (now (s .args .s)) (s .args .count) (c .before .before .before .before .load-numbers .ensures) (c .before .before .receive .ensures) (c .if1 .taken)
+    let s = c .before .before .before .before .before in
+    refuses (now (s .args .rec)) (s .pre .0) (s .pre .1) (now (s .args .s)) (s .args .count) (c .before .before .plan-sound .ensures) (c .if1 .taken)
 
 returns-2 : tie.Need-returns-2
-unfolding decode
 returns-2 c =
-    let s = c .before .before .before .before .before .before .before .before .before in
-    too-full (now (s .args .rec)) (s .pre .0) (s .pre .1) (now (s .args .s)) (s .args .count) (c .before .before .before .before .before .before .load-numbers .ensures) (c .before .before .before .before .receive .ensures)
+    let s = c .before .before .before .before .before .before .before in
+    too-full (now (s .args .rec)) (s .pre .0) (s .pre .1) (now (s .args .s)) (s .args .count) (c .before .before .before .before .plan-sound .ensures)
     (sym (c .before .has-place .ensures) ∙ not-true (c .before .has-place .result) (c .if2 .taken))
 
 -- what is lent is octets
@@ -37,15 +29,13 @@ unfolding Octets
 octets-s c i = omega (arith, c .shared-slice-known2 .given i)
 
 returns-3 : tie.Need-returns-3
-unfolding decode
 returns-3 c =
-    let s = c .before .before .before .before .before .before .before .before .before .before .before .before in
+    let s = c .before .before .before .before .before .before .before .before .before .before .before in
     rw (c .before .same .ensures, c .stays .ensures)
-    (tells (now (s .args .rec)) (s .pre .0) (s .pre .1) (now (s .args .s)) (s .args .count) (c .before .before .before .before .before .before .before .before .before .load-numbers .ensures) (c .before .before .before .before .before .before .before .receive .ensures)
-    (octets-rec (c .before .before .before .before .before .before .before .before .before .before .before)) (octets-s (c .before .before .before .before .before .before .before .before .before .before)) (c .before .before .before .before .before .if1 .left) (sym (c .before .before .before .before .has-place .ensures) ∙ not-false (c .before .before .before .before .has-place .result) (c .before .before .before .if2 .left)))
+    (tells (now (s .args .rec)) (s .pre .0) (s .pre .1) (now (s .args .s)) (s .args .count) (c .before .before .before .before .before .before .before .before .plan-sound .ensures) (c .before .before .before .load-numbers .ensures)
+    (octets-rec (c .before .before .before .before .before .before .before .before .before .before)) (octets-s (c .before .before .before .before .before .before .before .before .before)) (c .before .before .before .before .before .before .if1 .left) (sym (c .before .before .before .before .before .has-place .ensures) ∙ not-false (c .before .before .before .before .before .has-place .result) (c .before .before .before .before .if2 .left)))
 
 pub changes-spec : {M : Type 1} → statement M
 changes-spec =
     tie.close
-    (tie.spec (λ c κs. search needs) (λ c. search needs) (λ c. search needs) (λ c. search needs) receive-requires returns (λ c κs. search needs)
-    returns-2 (λ c κs. search needs) (λ c κs. search needs) returns-3)
+    (tie.spec (λ c κs. search needs) returns (λ c κs. search needs) returns-2 (λ c κs. search needs) (λ c κs. search needs) (λ c κs. search needs) returns-3)
