@@ -5,16 +5,13 @@ use mathlib.Core.Logic.{_≢_}
 use mathlib.Core.Bool.{Bool, true, false}
 use mathlib.Core.List.{List, [], _∷_}
 use native.Mathlib.Omega.{arith}
-use borrow.Author.Tests.{le-leb, ltb-true}
+use borrow.Author.Tests.{ltb-true}
 use lib.Dec.{ltb}
 use lib.ListN.{length}
-use Rattle.octets.specs.Sizes.{longestBlock}
 use Rattle.octets.specs.Test.{when, first, Outcome, refused, ok, outcome, andThen}
 use Rattle.frame.specs.Frame.{Block, Frame}
 use Rattle.protocol.specs.Table.{Step, Sent, nothing, frame}
-use Rattle.call_spec.specs.declared.Call.{Call}
-use Rattle.call_spec.specs.declared.Call.the-variants.{Request, Receive}
-use Rattle.call_spec.specs.Calls.{Arguments, blockRoomOk, wire, performed}
+use Rattle.call_spec.specs.Calls.{Arguments, wire, performed}
 use Rattle.step_plan.specs.declared.Plan.{Plan}
 use Rattle.step_plan.specs.declared.Reply.{Reply}
 use Rattle.step_plan.specs.declared.Reply.the-variants as reply
@@ -51,12 +48,6 @@ by-reply (refused n) reply.Nothing b count e = refl
 by-reply (refused n) (reply.Frame h) b count e = absurd (let z : _≡_ {A = ℕ} 0 1 = cc in omega arith)
 by-reply (ok x) reply.Nothing b count e = quiet-logs count x (sym e)
 by-reply (ok x) (reply.Frame h) b count e = sending-logs count x _ (sym e)
-
--- a buffer for the longest block passes 11 of every call
-pub room-for : (c : Call) (n : ℕ) → longestBlock ≤ n → blockRoomOk c n ≡ true
-unfolding blockRoomOk
-room-for Request n h = le-leb longestBlock n h
-room-for Receive n h = refl
 
 module _ (rec : List ℕ) (long : recordSize ≤ length rec) (count : ℕ) (c : Arguments) {p : Plan} (w : Plans (decode rec) c p) where
   pub by-plan : callOutcome rec count c ≡ when (hasPlace (p .reply) count) (performed format rec c) (refused 14)

@@ -24,6 +24,7 @@ use Rattle.step_plan.specs.declared.Plan.{Plan}
 use Rattle.step_plan.specs.declared.Places.{Places}
 use Rattle.step_plan.specs.declared.Places.the-variants.{Keep, Join, Release}
 use Rattle.call_spec.specs.Answers.{endpointAfter}
+use Rattle.call_spec.proofs.Sequence.{has-room}
 use Rattle.step_plan.specs.Internal.{queueAfter, heldAfter, Room, HeldRoom, Comes}
 use Rattle.endpoint.specs.declared.Endpoint.{Endpoint}
 use Rattle.endpoint.specs.View.{pack, placeBlock, view}
@@ -43,7 +44,7 @@ use Rattle.link.proofs.Demand.{lawful}
 use Rattle.link.proofs.Stays.{bounded}
 use Rattle.bench_spec.specs.Bench.{logged, callOutcome}
 use Rattle.bench_call.specs.Internal.{hasPlace}
-use Rattle.bench_call.proofs.Moves.{room-for, by-plan}
+use Rattle.bench_call.proofs.Moves.{by-plan}
 use Rattle.bench_query.specs.Found.{Changes}
 use Rattle.bench_query.specs.Internal.{Says, sameNumbers, staying}
 
@@ -130,7 +131,7 @@ module _ (rec : List ℕ) (long : recordSize ≤ length rec) (fine : sound (deco
 
     -- the record is sound and there is room for a frame
     ready-is : outcomeOf end call ≡ hears
-    ready-is = ready end call (omega arith) (room-for Receive longestBlock (omega arith)) fine
+    ready-is = ready end call (omega arith) (has-room Receive longestBlock (omega arith)) fine
 
     comes-to : performed format rec call ≡ hears
     comes-to = enough rec long call ∙ ready-is
@@ -154,7 +155,7 @@ module _ (rec : List ℕ) (long : recordSize ≤ length rec) (fine : sound (deco
       early = joinsHeld p s
 
       plans : Plans end call p
-      plans = h (rooms longestFrame longestBlock) (omega arith) (room-for Receive longestBlock (omega arith))
+      plans = h (rooms longestFrame longestBlock) (omega arith) (has-room Receive longestBlock (omega arith))
 
       planned : Comes (numbersOf end) (view end .queue) (view end .held) joins early (placeBlock (end .lengths) (end .blocks) 0) hears p
       planned = rw ready-is at plans

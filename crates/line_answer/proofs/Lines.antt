@@ -1,85 +1,57 @@
 -- What a line comes to, from what its reading answers.
-use Prim.Native.Nat.{ℕ, zero, suc, _≤_, _<_}
+use Prim.Native.Nat.{ℕ, _≤_, _<_}
 use mathlib.Core.Path.{_≡_, refl, sym, ap, _∙_}
 use mathlib.Core.Logic.{_≢_}
-use mathlib.Core.Bool.{Bool, true, false}
-use mathlib.Core.List.{List, [], _∷_}
-use borrow.Author.Tests.{le-leb, lt-leb}
-use lib.Dec.{leb}
+use mathlib.Core.Bool.{true}
+use mathlib.Core.List.{List}
+use borrow.Author.Tests.{le-leb, lt-leb, leb-true}
 use lib.ListN.{length}
-use Rattle.octets.specs.Sizes.{longestFrame, longestBlock}
-use Rattle.octets.specs.Test.{when, first, Outcome, refused, ok, outcome, refusing, mapped, numberOf}
+use Rattle.octets.specs.Sizes.{longestFrame}
+use Rattle.octets.specs.Test.{when, first, Outcome, refused, ok, outcome, refusing, mapped}
+use Rattle.octets.proofs.Test.{all-yes, all-before, refuses-before}
 use Rattle.octets.specs.Octets.{left}
 use Rattle.hex.specs.Line.{unhex, lineQuestions, readInto, lineOf}
 use Rattle.hex.specs.declared.Line.the-variants.{Refused}
 use Rattle.hex.proofs.Asked.{turned-away}
 use Rattle.protocol.specs.Table.{Step}
-use Rattle.call_spec.specs.declared.Call.{Call}
-use Rattle.call_spec.specs.declared.Call.the-variants.{Request, Receive}
-use Rattle.call_spec.specs.Calls.{blockRoomOk, asked, performed}
+use Rattle.call_spec.specs.Calls.{performed}
 use Rattle.link.specs.Record.{format, recordQuestions}
 use Rattle.answer_text.specs.declared.Output.{Output}
 use Rattle.answer_text.specs.declared.Output.the-variants as output
 use Rattle.answer_text.specs.Text.{outputOf, answerRoom}
 use Rattle.answer_text.proofs.Outputs.{output-fits}
-use Rattle.line_answer.specs.Line.{callIn, lineCall, lineOutcome}
+use Rattle.line_answer.specs.Line.{lineCall, lineOutcome}
 use Rattle.line_answer.specs.Text.{text, inRoom, recordLeft, LineAnswered}
-use Rattle.line_answer.specs.Internal.{refusedLine, Gives}
+use Rattle.line_answer.specs.Internal.{Gives}
 
--- 11 and 12 of the record come before 1 and 2 of the line, and the call asks them too
-in-order : (a b c : Bool) (qs : List (ℕ × Bool)) (o : Outcome Step) → c ≡ true → first qs ≡ 0
-    → refusing (first ((11, a) ∷ (12, b) ∷ qs)) (refusing (first ((11, a) ∷ [])) (refusing (first ((11, true) ∷ (11, c) ∷ (12, b) ∷ [])) o))
-    ≡ refusing (first ((11, a) ∷ [])) (refusing (first ((11, true) ∷ (11, c) ∷ (12, b) ∷ [])) o)
-unfolding refusing first when
-in-order false b c qs o k h = refl
-in-order true false c qs o k h = rw k refl
-in-order true true c qs o k h = rw (h, k) refl
+module _ (rec line : List ℕ) where
+  abbrev comes : Outcome Step
+  comes = performed format rec (lineCall (unhex line))
 
--- a line's call has room for a block
-enough : (c : Call) → blockRoomOk c longestBlock ≡ true
-unfolding blockRoomOk
-enough Request = refl
-enough Receive = refl
+  -- 11 and 12 of the record come first
+  pub unready : {n : ℕ} → n ≡ first (recordQuestions rec) → n ≢ 0 → lineOutcome rec line ≡ refused n
+  unfolding lineOutcome
+  unready e h = refuses-before comes (recordQuestions rec) (lineQuestions line) e h
 
-pub line-asks : (rec line : List ℕ) → first (lineQuestions line) ≡ 0 → lineOutcome rec line ≡ performed format rec (lineCall (unhex line))
-unfolding lineOutcome performed asked
-line-asks rec line h = in-order (leb (format .size) (length rec)) (format .sound rec) _ (lineQuestions line) _ (enough (callIn (unhex line))) h
+  module _ (y : first (recordQuestions rec) ≡ 0) where
+    next : lineOutcome rec line ≡ refusing (first (lineQuestions line)) comes
+    unfolding lineOutcome
+    next = ap (λ (m : ℕ). refusing m comes) (all-before (recordQuestions rec) (lineQuestions line) (tt, (tt, tt)) y)
 
-in-turn : (a b : Bool) (m : ℕ) (qs : List (ℕ × Bool)) (o : Outcome Step) → first qs ≡ suc m
-    → refusing (first ((11, a) ∷ (12, b) ∷ qs)) o ≡ refusing (first ((11, a) ∷ (12, b) ∷ [])) (refused (suc m))
-unfolding refusing first when
-in-turn false b m qs o h = refl
-in-turn true false m qs o h = refl
-in-turn true true m qs o h = rw h refl
+    -- then 1 and 2 of the line
+    pub line-asks : first (lineQuestions line) ≡ 0 → lineOutcome rec line ≡ comes
+    unfolding refusing
+    line-asks h = next ∙ ap (λ (m : ℕ). refusing m comes) h
 
-pub line-refused : (rec line : List ℕ) (n : ℕ) → first (lineQuestions line) ≡ suc n → lineOutcome rec line ≡ refusedLine rec (suc n)
-unfolding lineOutcome refusedLine
-line-refused rec line n h = in-turn (leb (format .size) (length rec)) (format .sound rec) n (lineQuestions line) _ h
+    pub declined : (d : List ℕ) → length d ≡ longestFrame → {n : ℕ} → lineOf (readInto line d) ≡ Refused n → lineOutcome rec line ≡ refused n
+    unfolding refusing
+    declined d l {n} h = let q = turned-away line d l n h in next ∙ ap (λ (m : ℕ). refusing m comes) (q .1) ∙ ap refused (sym (q .2))
 
-pub declined : (line d : List ℕ) (l : length d ≡ longestFrame) (rec : List ℕ) (n : ℕ) → lineOf (readInto line d) ≡ Refused n → lineOutcome rec line ≡ refusedLine rec n
-declined line d l rec n h = let q = turned-away line d l n h in line-refused rec line (q .0) (q .1) ∙ ap (refusedLine rec) (sym (q .2))
-
--- its number
-pub refused-so : (rec : List ℕ) (n : ℕ) → refusedLine rec n ≡ refused (numberOf (refusedLine rec n))
-unfolding refusedLine refusing numberOf
-refused-so rec n = by-number (first (recordQuestions rec))
-  where
-    by-number : (m : ℕ) → _≡_ {A = Outcome Step} (refusing m (refused n)) (refused (numberOf {A = Step} (refusing m (refused n))))
-    by-number zero = refl
-    by-number (suc m) = refl
-
-first-number : (m n : ℕ) → m ≢ 0 → {x : ℕ} → x ≡ m → x ≡ numberOf {A = Step} (refusing m (refused n))
-unfolding refusing numberOf
-first-number zero n h e = absurd (h refl)
-first-number (suc m) n h e = e
-
-pub first-refuses : (rec : List ℕ) (n : ℕ) {x : ℕ} → x ≡ first (recordQuestions rec) → x ≢ 0 → x ≡ numberOf (refusedLine rec n)
-unfolding refusedLine
-first-refuses rec n e h = first-number (first (recordQuestions rec)) n (λ z. h (e ∙ z)) e
-
-pub second-refuses : (rec : List ℕ) (n : ℕ) {x : ℕ} → x ≡ first (recordQuestions rec) → x ≡ 0 → n ≡ numberOf (refusedLine rec n)
-unfolding refusedLine refusing numberOf
-second-refuses rec n e z = rw (sym e ∙ z) refl
+-- what 11 and 12 ask of a record holds
+pub asked-of : (rec : List ℕ) → first (recordQuestions rec) ≡ 0 → (format .size ≤ length rec) × (format .sound rec ≡ true)
+asked-of rec h =
+    let a = all-yes 11 _ _ h tt in
+    (leb-true (format .size) (length rec) (a .0), all-yes 12 _ _ (a .1) tt .0)
 
 -- the whole answer, without room for it and with
 module _ (rec line out : List ℕ) where

@@ -2,16 +2,12 @@
 use Prim.Native.Nat.{ℕ}
 use mathlib.Core.Path.{_≡_}
 use mathlib.Core.List.{List}
-use Rattle.octets.specs.Test.{first, Outcome, refused, refusing}
+use Rattle.octets.specs.Test.{Outcome}
 use Rattle.protocol.specs.Table.{Step}
 use Rattle.call_spec.specs.Calls.{recordAfter}
-use Rattle.link.specs.Record.{format, recordQuestions}
+use Rattle.link.specs.Record.{format}
 use Rattle.answer_text.specs.Text.{Begins}
 use Rattle.line_answer.specs.Text.{text}
-
--- a line refused with this number, after 11 and 12 of the record
-unfoldable pub refusedLine : List ℕ → ℕ → Outcome Step
-refusedLine rec n = refusing (first (recordQuestions rec)) (refused n)
 
 -- the text of an outcome stands there, and the record is as the outcome leaves it
 pub record Gives (o : Outcome Step) (rec out rec′ out′ : List ℕ) (n : ℕ) : Type 0 where

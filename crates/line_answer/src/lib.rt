@@ -8,13 +8,13 @@ ghost use mathlib.Core.Path.{_≡_};
 ghost use Prim.Native.Nat.{_≤_};
 ghost use lib.ListN.{length};
 ghost use Rattle.octets.specs.Sizes.{longestFrame};
-ghost use Rattle.octets.specs.Test.{numberOf};
+ghost use Rattle.octets.specs.Test.{first, refused};
 ghost use Rattle.call_spec.specs.Calls.{performed};
-ghost use Rattle.link.specs.Record.{format};
+ghost use Rattle.link.specs.Record.{format, recordQuestions};
 ghost use Rattle.answer_text.specs.Text.{answerRoom};
 ghost use Rattle.line_answer.specs.Line.{callIn, lineCall};
 ghost use Rattle.line_answer.specs.Text.{LineAnswered};
-ghost use Rattle.line_answer.specs.Internal.{refusedLine, Gives};
+ghost use Rattle.line_answer.specs.Internal.{Gives};
 
 // The call that the octets of a line make.
 fn call_in(s: &[u8]) -> Call
@@ -28,37 +28,26 @@ fn call_in(s: &[u8]) -> Call
     }
 }
 
-// What the octets of a line ask.
+// What the octets of a line ask, where 11 and 12 of the record are passed.
 fn ask(rec: &mut [u8], s: &[u8], out: &mut [u8]) -> usize
-    requires { ⌜ (length (now s) ≤ longestFrame) × (answerRoom ≤ length (now out)) ⌝ }
+    requires { ⌜ (first (recordQuestions (now rec)) ≡ 0) × ((length (now s) ≤ longestFrame) × (answerRoom ≤ length (now out))) ⌝ }
     ensures { λ r. ⌜ Gives (performed format (now (rec .entry)) (lineCall (now (s .entry)))) (now (rec .entry)) (now (out .entry)) (now (rec .exit)) (now (out .exit)) r ⌝ }
 {
     let mut frame = [0u8; octets::LONGEST_FRAME];
     let mut up = [0u8; octets::LONGEST_BLOCK];
     let call = call_in(s);
-    let a = link::perform(call, rec, s, &mut frame, &mut up);
+    let p = link::plan_sound(call, rec, s);
+    let a = link::finish(call, p, rec, s, &mut frame, &mut up);
     let told = a.status;
     let sent = a.sent;
     let block = step_plan::block_part(call, s, &up, a.block);
     answer_text::write_text(told, block, &frame[..sent], out)
 }
 
-// The number of a line that question 1 or 2 refuses: 11 and 12 of the record come first.
-fn refusal_of(rec: &[u8], refusal: u8) -> u8
-    ensures { λ r. ⌜ r ≡ numberOf (refusedLine (now (rec .entry)) refusal) ⌝ }
-{
-    let asked = link::ready(rec);
-    if asked != 0 {
-        return asked;
-    }
-    refusal
-}
-
-fn refuse(rec: &[u8], refusal: u8, out: &mut [u8]) -> usize
+fn refuse(rec: &[u8], number: u8, out: &mut [u8]) -> usize
     requires { ⌜ answerRoom ≤ length (now out) ⌝ }
-    ensures { λ r. ⌜ Gives (refusedLine (now (rec .entry)) refusal) (now (rec .entry)) (now (out .entry)) (now (rec .entry)) (now (out .exit)) r ⌝ }
+    ensures { λ r. ⌜ Gives (refused number) (now (rec .entry)) (now (out .entry)) (now (rec .entry)) (now (out .exit)) r ⌝ }
 {
-    let number = refusal_of(rec, refusal);
     let a = link::refuse(rec, number);
     let told = a.status;
     answer_text::write_text(told, &rec[..0], &rec[..0], out)
@@ -72,10 +61,14 @@ pub fn answer(rec: &mut [u8], line: &[u8], out: &mut [u8]) -> Output
     if out.len() < answer_text::ANSWER_ROOM {
         return Output::Refused(refusal::SHORT_BUFFER);
     }
+    let asked = link::ready(rec);
+    if asked != 0 {
+        return Output::Written(refuse(rec, asked, out));
+    }
     let mut s = [0u8; octets::LONGEST_FRAME];
     let read = hex::read(line, &mut s);
     match read {
         Line::Decoded(n) => Output::Written(ask(rec, &s[..n], out)),
-        Line::Refused(refusal) => Output::Written(refuse(rec, refusal, out)),
+        Line::Refused(number) => Output::Written(refuse(rec, number, out)),
     }
 }

@@ -4,13 +4,14 @@ use lib.ListN.{length}
 use borrow.Author.Tests.{not-true, not-false}
 use Rattle.octets.specs.Test.{when, refused}
 use Rattle.call_spec.specs.Calls.{Arguments, rooms, performed}
+use Rattle.call_spec.proofs.Sequence.{has-room}
 use Rattle.endpoint.specs.Record.{decode}
 use Rattle.endpoint_step.specs.Internal.{Plans}
 use Rattle.link.specs.Record.{format}
 use Rattle.link.specs.Lent.{lentCall}
 use Rattle.link.proofs.Answers.{turned-down}
 use Rattle.bench_spec.specs.Bench.{callOutcome}
-use Rattle.bench_call.proofs.Moves.{room-for, by-plan}
+use Rattle.bench_call.proofs.Moves.{by-plan}
 use borrow.Author.Needs.{needs}
 use Rattle.bench_call.proofs.call_end.Statement.{statement}
 use Rattle.bench_call.proofs.call_end.Tie as tie
@@ -22,7 +23,7 @@ call-of c = lentCall (c .args .call) (now (c .args .s)) (now (c .args .out)) (no
 plans : (c : tie.After-plan-sound) → let s = c .before .before .before .before .before .before in Plans (decode (now (s .args .rec))) (call-of s) (c .plan-sound .result)
 plans c =
     let s = c .before .before .before .before .before .before in
-    c .plan-sound .ensures (rooms (length (now (s .args .out))) (length (now (s .args .up)))) (s .pre .1 .0) (room-for (s .args .call) (length (now (s .args .up))) (s .pre .1 .1))
+    c .plan-sound .ensures (rooms (length (now (s .args .out))) (length (now (s .args .up)))) (s .pre .1 .0) (has-room (s .args .call) (length (now (s .args .up))) (s .pre .1 .1))
 
 -- 14 refuses, or does not
 full : (c : tie.Then1) → let s = c .before .before .before .before .before .before .before .before in callOutcome (now (s .args .rec)) (s .args .count) (call-of s) ≡ refused 14

@@ -1,13 +1,11 @@
 use Rattle.bench_spec.specs.Bench.{Bench, benchOf}
 use Rattle.bench_checks.specs.Ready.{readyQuestions}
-use Rattle.bench_checks.proofs.Passed as checked
-use Prim.Native.Nat.{ℕ, zero, suc}
 use mathlib.Core.Path.{_≡_, refl, sym, ap, _∙_}
-use mathlib.Core.Logic.{_≢_}
 use mathlib.Core.List.{List}
 use denote.Ref.{now}
 use lib.ListN.{length, replicate}
 use lib.Seq.{length-take-le}
+use Prim.Native.Nat.{ℕ}
 use Rattle.octets.specs.Test.{first, refused}
 use Rattle.hex.specs.Line.{unhex}
 use Rattle.octets.specs.Sizes.{longestFrame}
@@ -29,11 +27,8 @@ abbrev room-of : tie.Start → Rooms
 room-of s = rooms (length (now (s .args .out))) (length (now (s .args .up)))
 
 -- 11 and 12 are passed
-asks-none : (c : tie.Else1) → first (readyQuestions (bench-of (c .before .before .before .before .before .before .before .before .before .before .before)) (room-of (c .before .before .before .before .before .before .before .before .before .before .before))) ≡ 0
-asks-none c = sym (c .before .ready .ensures) ∙ c .if1 .left
-
-is-ready : (c : tie.Else1) → checked.Passed (bench-of (c .before .before .before .before .before .before .before .before .before .before .before)) (room-of (c .before .before .before .before .before .before .before .before .before .before .before))
-is-ready c = checked.passed (bench-of (c .before .before .before .before .before .before .before .before .before .before .before)) (room-of (c .before .before .before .before .before .before .before .before .before .before .before)) (asks-none c)
+is-ready : (c : tie.Else1) → first (readyQuestions (bench-of (c .before .before .before .before .before .before .before .before .before .before .before)) (room-of (c .before .before .before .before .before .before .before .before .before .before .before))) ≡ 0
+is-ready c = sym (c .before .ready .ensures) ∙ c .if1 .left
 
 -- the line of a bench that is ready
 abbrev line : tie.After-ask-arg3 → List ℕ
@@ -42,18 +37,13 @@ line c = now (c .before .before .before .before .before .before .before .before 
 is-read : (c : tie.After-ask-arg3) → Passed (line c) (replicate longestFrame 0) refl (c .before .before .before .before .read2 .given .0 .0) (c .before .before .before .before .before .before .before .read .last .1 .0)
 is-read c = let r = c .before .before .before .before .before .before .before .read in passed (line c) (replicate longestFrame 0) refl _ _ (sym (r .ensures .0) ∙ c .before .before .before .before .read2 .given .1) (r .ensures .1)
 
-nonzero : (n : ℕ) → n ≢ 0 → (k : ℕ) × (n ≡ suc k)
-nonzero zero h = absurd (h refl)
-nonzero (suc n) h = (n, refl)
-
 returns : tie.Need-returns
 returns c =
     let s = c .before .before .before .before .before .before .before .before .before .before .before .before .before in
     let a = s .args in
     let r = c .before .before .before .ready in
-    let q = nonzero (r .result) (c .before .before .if1 .taken) in
     declines (now (a .a)) (now (a .b)) (now (a .log)) (a .count) (lineStart (unhex (now (a .line)))) (r .result) (now (a .out)) (now (a .up))
-    (rw (q .1) (unready (now (a .a)) (now (a .b)) (now (a .log)) (a .count) (now (a .line)) (room-of s) (q .0) (sym (r .ensures) ∙ q .1))) (c .refuse .ensures (lineStart (unhex (now (a .line)))))
+    (unready (now (a .a)) (now (a .b)) (now (a .log)) (a .count) (now (a .line)) (room-of s) (r .ensures) (c .before .before .if1 .taken)) (c .refuse .ensures (lineStart (unhex (now (a .line)))))
 
 array-share-prefix-s : tie.Need-array-share-prefix-s
 array-share-prefix-s c = omega (arith, fits (line c) (replicate longestFrame 0) refl (is-read c) (search needs))
@@ -66,7 +56,7 @@ ask-requires c κs =
     let s = c .before .before .before .before .before .before .before .before .before .before .before .before .before .before .before .before .before .before .before .before .before .before .before in
     let a = s .args in
     let d = c .before .before .before in
-    (omega (arith, ap length (reads (line d) (replicate longestFrame 0) refl (is-read d)), some-octet (now (a .line)) (is-read d .all-yes)), asks-none (c .before .before .before .before .before .before .before .before .before .before .before .before))
+    (omega (arith, ap length (reads (line d) (replicate longestFrame 0) refl (is-read d)), some-octet (now (a .line)) (is-read d .all-yes)), is-ready (c .before .before .before .before .before .before .before .before .before .before .before .before))
 
 returns-2 : tie.Need-returns-2
 returns-2 c =

@@ -1,20 +1,26 @@
-use mathlib.Core.Path.{refl, sym, ap, _∙_}
+use mathlib.Core.Path.{_≡_, refl, sym, ap, _∙_}
 use mathlib.Core.List.{List}
 use Prim.Native.Nat.{ℕ}
 use denote.Ref.{now}
 use lib.ListN.{length, replicate}
 use lib.Seq.{length-take-le}
 use Rattle.octets.specs.Sizes.{longestFrame}
+use Rattle.octets.specs.Test.{first}
 use Rattle.hex.proofs.Asked.{Passed, passed, fits, reads}
-use Rattle.line_answer.proofs.Lines.{line-asks, declined, no-room, with-text}
+use Rattle.link.specs.Record.{recordQuestions}
+use Rattle.line_answer.proofs.Lines.{unready, line-asks, declined, no-room, with-text}
 use native.Mathlib.Omega.{arith}
 use borrow.Author.Needs.{needs}
 use Rattle.line_answer.proofs.answer.Statement.{statement}
 use Rattle.line_answer.proofs.answer.Tie as tie
 
+-- 11 and 12 of the record are passed
+is-ready : (c : tie.Else2) → first (recordQuestions (now (c .before .before .before .before .before .before .before .args .rec))) ≡ 0
+is-ready c = sym (c .before .ready .ensures) ∙ c .if2 .left
+
 -- the octets of the line
 abbrev line : tie.After-ask-arg → List ℕ
-line c = now (c .before .before .before .before .before .before .before .before .before .before .before .args .line)
+line c = now (c .before .before .before .before .before .before .before .before .before .before .before .before .before .before .args .line)
 
 abbrev buffer : List ℕ
 buffer = replicate longestFrame 0
@@ -27,6 +33,12 @@ is-read c =
 returns : tie.Need-returns
 returns c = let a = c .before .before .before .before .args in no-room (now (a .rec)) (now (a .line)) (now (a .out)) (c .if1 .taken)
 
+returns-2 : tie.Need-returns-2
+returns-2 c =
+    let s = c .before .before .before .before .before .before .before .before .before .before .before .before .args in
+    with-text (now (s .rec)) (now (s .line)) (now (s .out)) (omega (arith, c .before .before .before .before .before .before .before .before .if1 .left))
+    (rw (unready (now (s .rec)) (now (s .line)) (c .before .before .before .before .before .before .ready .ensures) (c .before .before .before .before .before .if2 .taken)) (c .before .before .refuse .ensures))
+
 array-share-prefix-s : tie.Need-array-share-prefix-s
 array-share-prefix-s c = omega (arith, fits (line c) buffer refl (is-read c) (search needs))
 
@@ -36,24 +48,25 @@ slice-aggregate-ask c = let d = c .before in sym (length-take-le _ _ (omega (ari
 ask-requires : tie.Need-ask-requires
 ask-requires c κs =
     let d = c .before .before in
-    (omega (arith, fits (line d) buffer refl (is-read d) (search needs), is-read d .count, ap length (reads (line d) buffer refl (is-read d))), search needs)
-
-returns-2 : tie.Need-returns-2
-returns-2 c =
-    let s = c .before .before .before .before .before .before .before .before .before .before .before .before .before .before .before .before .before .before .args in
-    let d = c .before .before .before .before .before .before .before in
-    with-text (now (s .rec)) (now (s .line)) (now (s .out)) (omega (arith, c .before .before .before .before .before .before .before .before .before .before .before .before .before .before .if1 .left))
-    (rw (line-asks (now (s .rec)) (line d) (is-read d .all-yes)) (rw (reads (line d) buffer refl (is-read d)) at (c .before .before .before .before .ask .ensures)))
+    (is-ready (c .before .before .before .before .before .before .before .before .before), (omega (arith, fits (line d) buffer refl (is-read d) (search needs), is-read d .count, ap length (reads (line d) buffer refl (is-read d))), search needs))
 
 returns-3 : tie.Need-returns-3
 returns-3 c =
-    let s = c .before .before .before .before .before .before .before .before .before .before .before .before .before .before .before .args in
+    let s = c .before .before .before .before .before .before .before .before .before .before .before .before .before .before .before .before .before .before .before .before .before .args in
+    let d = c .before .before .before .before .before .before .before in
+    with-text (now (s .rec)) (now (s .line)) (now (s .out)) (omega (arith, c .before .before .before .before .before .before .before .before .before .before .before .before .before .before .before .before .before .if1 .left))
+    (rw (line-asks (now (s .rec)) (line d) (is-ready (c .before .before .before .before .before .before .before .before .before .before .before .before .before .before)) (is-read d .all-yes)) (rw (reads (line d) buffer refl (is-read d)) at (c .before .before .before .before .ask .ensures)))
+
+returns-4 : tie.Need-returns-4
+returns-4 c =
+    let s = c .before .before .before .before .before .before .before .before .before .before .before .before .before .before .before .before .before .before .args in
     let r = c .before .before .before .before .before .before .before .before .before .read in
-    with-text (now (s .rec)) (now (s .line)) (now (s .out)) (omega (arith, c .before .before .before .before .before .before .before .before .before .before .before .if1 .left))
-    (rw (declined (now (s .line)) buffer refl (now (s .rec)) _ (sym (r .ensures .0) ∙ c .before .before .before .before .before .before .read3 .given .1)) (c .before .before .refuse .ensures))
+    with-text (now (s .rec)) (now (s .line)) (now (s .out)) (omega (arith, c .before .before .before .before .before .before .before .before .before .before .before .before .before .before .if1 .left))
+    (rw (declined (now (s .rec)) (now (s .line)) (is-ready (c .before .before .before .before .before .before .before .before .before .before .before)) buffer refl (sym (r .ensures .0) ∙ c .before .before .before .before .before .before .read3 .given .1)) (c .before .before .refuse2 .ensures))
 
 pub answer-spec : {M : Type 1} → statement M
 answer-spec =
     tie.close
-    (tie.spec returns (λ c. search needs) (λ c κs. search needs) (λ c. search needs) array-share-prefix-s slice-aggregate-ask ask-requires (λ c. search needs)
-    (λ c κs. search needs) (λ c. search needs) (λ c. search needs) returns-2 (λ c. search needs) (λ c. search needs) returns-3)
+    (tie.spec returns (λ c κs. search needs) (λ c κs. search needs) (λ c. search needs) (λ c. search needs) returns-2 (λ c. search needs) (λ c κs. search needs)
+    (λ c. search needs) array-share-prefix-s slice-aggregate-ask ask-requires (λ c. search needs) (λ c κs. search needs) (λ c. search needs) (λ c. search needs)
+    returns-3 (λ c. search needs) (λ c. search needs) returns-4)
