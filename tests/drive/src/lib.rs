@@ -6,6 +6,7 @@ pub mod bench;
 pub mod comparison;
 mod end;
 pub mod handed_up;
+pub mod long;
 pub mod nearby;
 pub mod odd;
 pub mod overtaking;

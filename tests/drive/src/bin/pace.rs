@@ -1,11 +1,9 @@
 //! How many lines a second programs answer: each runs the same long script from a file into
 //! nothing, in turns.
 //!
-//! The command line names the sort of the programs, `line` or `bench`, then the programs, and one
-//! to compare with last.
+//! The command line names the script, then the programs, and one to compare with last.
 
-use drive::script::Script;
-use drive::{bench, sessions};
+use drive::long;
 use std::env;
 use std::ffi::OsStr;
 use std::fs::{self, File};
@@ -13,19 +11,14 @@ use std::io::Result;
 use std::process::{Command, ExitCode, Stdio};
 use std::time::{Duration, Instant};
 
-/// So many calls have the two ends of a session, and half of them the one that is asked.
-const CALLS: usize = 1_000_000;
-/// So many lines has a session of a bench. Its book is soon full: from then on about half the lines
-/// are refused by 14, and most others are deliveries that are passed over.
-const LINES: usize = 500_000;
 const ROUNDS: u32 = 15;
 
 fn main() -> Result<ExitCode> {
     let mut words = env::args_os().skip(1);
-    let script = words.next().and_then(|sort| script(&sort));
+    let script = words.next().and_then(|name| long::script(name.to_str()?));
     let programs: Vec<_> = words.collect();
     let (Some(script), [_, ..]) = (script, &programs[..]) else {
-        eprintln!("usage: pace line|bench PROGRAM..");
+        eprintln!("usage: pace {} PROGRAM..", long::NAMES);
         return Ok(ExitCode::FAILURE);
     };
     let path = env::temp_dir().join(format!("pace-{}", std::process::id()));
@@ -48,18 +41,6 @@ fn main() -> Result<ExitCode> {
         );
     }
     Ok(ExitCode::SUCCESS)
-}
-
-/// A long script for programs of this sort.
-fn script(sort: &OsStr) -> Option<Script> {
-    match sort.to_str()? {
-        "line" => {
-            let [script, _] = sessions::session(700, CALLS);
-            Some(script)
-        }
-        "bench" => Some(bench::sessions::session(1_700, LINES)),
-        _ => None,
-    }
 }
 
 /// The time of one run.

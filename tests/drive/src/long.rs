@@ -1,0 +1,65 @@
+//! Long scripts, for what is measured.
+
+use crate::script::Script;
+use crate::{bench, sessions};
+use cases::sample::message;
+use reference::block::LONGEST_BLOCK;
+use reference::frame::{Signal, DATA};
+use reference::request::LISTEN;
+
+/// The names of the scripts.
+pub const NAMES: &str = "line|bench|blocks";
+
+/// So many calls have the two ends of a session, and half of them the one that is asked.
+const CALLS: usize = 1_000_000;
+/// So many lines has a session of a bench. Its book is soon full: from then on about half the lines
+/// are refused by 14, and most others are deliveries that are passed over.
+const LINES: usize = 500_000;
+/// So many blocks are handed up.
+const BLOCKS: u32 = 100_000;
+
+/// A session of one end (line) or of a bench, or (blocks) one end that is opened and then hears
+/// nothing but blocks of 64 bytes: the longest answers that there are.
+pub fn script(name: &str) -> Option<Script> {
+    match name {
+        "line" => {
+            let [script, _] = sessions::session(700, CALLS);
+            Some(script)
+        }
+        "bench" => Some(bench::sessions::session(1_700, LINES)),
+        "blocks" => Some(blocks(BLOCKS)),
+        _ => None,
+    }
+}
+
+fn blocks(count: u32) -> Script {
+    let mut script = Script::default();
+    script.push(&message(LISTEN, &[], &[]));
+    script.push(&message(Signal::Crao as u8, &[1, 0], &[]));
+    script.push(&message(Signal::Crack as u8, &[1, 1], &[]));
+    for number in 0..count {
+        let byte = |at| (number as usize * 37 + at * 5) as u8;
+        let block: Vec<u8> = (0..LONGEST_BLOCK).map(byte).collect();
+        script.push(&message(DATA, &[1, 1, number], &block));
+    }
+    script
+}
+
+#[cfg(test)]
+mod tests {
+    use super::*;
+    use crate::reference_program::ReferenceProgram;
+    use reference::program::LineProgram;
+
+    #[test]
+    fn every_block_is_handed_up() {
+        let mut program = LineProgram::default();
+        let script = blocks(300);
+        let notices = script.lines().map(|line| {
+            let answer = program.answer(line);
+            LineProgram::notice(&answer)
+        });
+        let notices: Vec<_> = notices.skip(3).collect();
+        assert_eq!(notices, [5; 300]);
+    }
+}
