@@ -7,6 +7,7 @@ use mathlib.Core.List.{List, [], _∷_, _++_}
 use native.Mathlib.Nat.{le-of-suc-le-suc, not-suc-le-zero, eq-or-lt-of-le}
 use native.Mathlib.Numerals.{add-one}
 use native.Mathlib.Omega.{arith}
+use lib.Bits.{bitOr, or-add-and, and-le-l, and-le-r}
 use lib.Dec.{eqb}
 use lib.ListN.{length, take, getD}
 use lib.Seq.{take-suc}
@@ -42,10 +43,27 @@ unfolding zeros
 zeros-append [] t = refl
 zeros-append (x ∷ s) t = rw (zeros-append s t) (sym (and-assoc (eqb x 0) (zeros s) (zeros t)))
 
+-- no bit of two numbers is set where both are 0
+or-zero : (a b : ℕ) → eqb (bitOr a b) 0 ≡ (eqb a 0 && eqb b 0)
+or-zero a b =
+    let o = or-add-and a b in
+    let l = and-le-l a b in
+    let r = and-le-r a b in
+    alike (eqb (bitOr a b) 0) (eqb a 0 && eqb b 0)
+    (λ t. let z = eqb-true (bitOr a b) 0 t in joined (eq-eqb a 0 (omega arith)) (eq-eqb b 0 (omega arith)))
+    (λ t.
+    let z = both (eqb a 0) (eqb b 0) t in
+    let x = eqb-true a 0 (z .0) in
+    let y = eqb-true b 0 (z .1) in
+    eq-eqb (bitOr a b) 0 (omega arith))
+
 -- one element more
 pub zeros-more : (s : List ℕ) (i : ℕ) → i < length s → (zeros (take i s) && eqb (getD s i 0) 0) ≡ zeros (take (i + 1) s)
 unfolding zeros
 zeros-more s i h = sym (rw (add-one, take-suc s i 0 h) (zeros-append (take i s) (getD s i 0 ∷ []) ∙ ap (λ (b : Bool). zeros (take i s) && b) (and-true (eqb (getD s i 0) 0))))
+
+pub bits-more : (s : List ℕ) (i : ℕ) → i < length s → (x : ℕ) → eqb x 0 ≡ zeros (take i s) → eqb (bitOr x (getD s i 0)) 0 ≡ zeros (take (i + 1) s)
+bits-more s i h x e = or-zero x (getD s i 0) ∙ rw e (zeros-more s i h)
 
 pub zeros-at : (s : List ℕ) (i : ℕ) → zeros s ≡ true → getD s i 0 ≡ 0
 unfolding zeros
