@@ -8,7 +8,7 @@ use native.Mathlib.Omega.{arith}
 use lib.Dec.{leb, ltb, eqb, leb·zero}
 use lib.ListN.{length, take, drop, getD, length-take, length-drop, drop-of-length-le}
 use lib.Seq.{getD-drop, getD-take, take-all}
-use borrow.Author.Tests.{lt-ltb, le-ltb, le-leb, eq-eqb, eqb-true, eqb-false, leb-true}
+use borrow.Author.Tests.{lt-ltb, le-ltb, lt-leb, le-leb, eq-eqb, ne-eqb, eqb-true, eqb-false, leb-true}
 use Rattle.octets.specs.Sizes.{longestBlock, queueSize, heldSize, lastNumber}
 use Rattle.octets.specs.Test.{when, inRange, allBelow, zeros}
 use Rattle.octets.proofs.Test.{split, both, joined, within, in-range, if-lt}
@@ -56,99 +56,54 @@ clear-at l b u k h m =
     let d = drop (i * longestBlock + n) b in
     rw at at (sym (getD-drop (i * longestBlock + n) b (k % longestBlock - n) 0) ∙ sym (getD-take (longestBlock - n) d (k % longestBlock - n) 0 (omega arith)) ∙ zeros-at (take (longestBlock - n) d) (k % longestBlock - n) z)
 
--- The length at place i of eight, of which w are used, by blocks of at least so many octets: those that wait, or those that are held.
-abbrev lengthAt : ℕ → ℕ → List ℕ → ℕ → Bool
-lengthAt least w l i = when (ltb i w) (inRange least longestBlock (getD l i 0)) (eqb (getD l i 0) 0)
+-- the lengths, where w blocks wait
+module _ (w : ℕ) (l : List ℕ) (h : lengthsOk w l ≡ true) where
+  length-at : (i : ℕ) → i < queueSize → placeLengthOk w i (getD l i 0) ≡ true
+  unfolding lengthsOk
+  length-at i n = all-at (λ k. placeLengthOk w k (getD l k 0)) queueSize i n h
 
-abbrev lengthsIn : ℕ → ℕ → List ℕ → Bool
-lengthsIn least w l = allBelow queueSize (lengthAt least w l)
+  used : (i : ℕ) → i < w → w ≤ queueSize → (1 ≤ getD l i 0) × (getD l i 0 ≤ longestBlock)
+  unfolding placeLengthOk when
+  used i m n = within 1 longestBlock (getD l i 0) (rw (lt-ltb i w m) at (length-at i (omega arith)))
 
-module _ (least w : ℕ) (l b : List ℕ) (w8 : w ≤ queueSize) (l8 : length l ≡ queueSize) (l512 : length b ≡ placesSize) where
-  -- the places that are used, and what is unused after them in one run: the same tests in another order
-  module _ (h : allBelow w (placeOk least l b) ≡ true) (k : (zeros (drop w l) && zeros (drop (w * longestBlock) b)) ≡ true) where
-    place-at : (i : ℕ) → i < w → (inRange least longestBlock (getD l i 0) ≡ true) × (zeros (unusedAt l b i) ≡ true)
-    unfolding placeOk
-    place-at i m = both (inRange least longestBlock (getD l i 0)) _ (all-at (placeOk least l b) w i m h)
+  rests : (i : ℕ) → w ≤ i → i < queueSize → getD l i 0 ≡ 0
+  unfolding placeLengthOk when
+  rests i m n = eqb-true (getD l i 0) 0 (rw (le-ltb i w m) at (length-at i n))
 
-    lengths-so : (i : ℕ) → lengthAt least w l i ≡ true
-    unfolding when
-    lengths-so i =
-        by-lt i w (λ m. rw (lt-ltb i w m) (place-at i m .0))
-        (λ m. rw (le-ltb i w m) (eq-eqb (getD l i 0) 0 (after-zero w l (both (zeros (drop w l)) _ k .0) i m)))
+-- The tests of each place, and the tests of all lengths and of all that is unused, are the same in another order.
+all-both : (p q : ℕ → Bool) (n : ℕ) → allBelow n (λ i. p i && q i) ≡ (allBelow n p && allBelow n q)
+all-both p q n =
+    alike (allBelow n (λ i. p i && q i)) (allBelow n p && allBelow n q)
+    (λ t.
+    let at : (i : ℕ) → i < n → (p i ≡ true) × (q i ≡ true) = λ i m. both (p i) (q i) (all-at (λ k. p k && q k) n i m t) in
+    joined (all-hold p n (λ i m. at i m .0)) (all-hold q n (λ i m. at i m .1)))
+    (λ t. let a = both (allBelow n p) (allBelow n q) t in all-hold (λ i. p i && q i) n (λ i m. joined (all-at p n i m (a .0)) (all-at q n i m (a .1))))
 
-    unused-so : (i : ℕ) → zeros (unusedAt l b i) ≡ true
-    unfolding unusedAt
-    unused-so i =
-        by-lt i w (λ m. place-at i m .1)
-        (λ m.
-        let n = getD l i 0 in
-        let d = drop (i * longestBlock + n) b in
-        zeros-of (take (longestBlock - n) d)
-        (λ j v.
-        let v′ : j < longestBlock - n = omega (arith, length-take (longestBlock - n) d, min-le-left (longestBlock - n) (length d)) in
-        getD-take (longestBlock - n) d j 0 v′
-        ∙ getD-drop (i * longestBlock + n) b j 0
-        ∙ after-zero (w * longestBlock) b (both (zeros (drop w l)) _ k .1) (i * longestBlock + n + j) (omega arith)))
+by-place : (filled used : ℕ) (l b : List ℕ) (q : ℕ → ℕ → Bool)
+    → ((i x : ℕ) → i < queueSize → when (eqb x 0) (leb filled i) (ltb i used && leb x longestBlock) ≡ q i x)
+    → placesOk filled used l b ≡ (allBelow queueSize (λ i. q i (getD l i 0)) && unusedOk l b)
+unfolding placesOk placeOk unusedOk
+by-place filled used l b q e =
+    all-both _ (λ i. zeros (unusedAt l b i)) queueSize
+    ∙ ap (λ (t : Bool). t && unusedOk l b) (all-same _ (λ i. q i (getD l i 0)) queueSize (λ i m. e i (getD l i 0) m))
 
-  module _ (h : lengthsIn least w l ≡ true) where
-    used : (i : ℕ) → i < w → (least ≤ getD l i 0) × (getD l i 0 ≤ longestBlock)
-    unfolding when
-    used i m = within least longestBlock (getD l i 0) (rw (lt-ltb i w m) at (all-at (lengthAt least w l) queueSize i (omega arith) h))
+-- the length at a place, where w blocks wait, and where blocks are held
+waiting-length : (w i x : ℕ) → i < queueSize → when (eqb x 0) (leb w i) (ltb i w && leb x longestBlock) ≡ placeLengthOk w i x
+unfolding placeLengthOk when inRange
+waiting-length w i zero _ = by-lt i w (λ m. rw (lt-ltb i w m, lt-leb w i m) refl) (λ m. rw (le-ltb i w m, le-leb w i m) refl)
+waiting-length w i (suc x) _ =
+    rw (ne-eqb (suc x) 0 (λ e. omega arith), le-leb 1 (suc x) (omega arith)) (by-lt i w (λ m. rw (lt-ltb i w m) refl) (λ m. rw (le-ltb i w m) refl))
 
-    rests : (i : ℕ) → w ≤ i → i < queueSize → getD l i 0 ≡ 0
-    unfolding when
-    rests i m n = eqb-true (getD l i 0) 0 (rw (le-ltb i w m) at (all-at (lengthAt least w l) queueSize i n h))
+held-length : (i x : ℕ) → i < heldSize → when (eqb x 0) (leb 0 i) (ltb i heldSize && leb x longestBlock) ≡ leb x longestBlock
+unfolding when
+held-length i zero m = rw (leb·zero i) refl
+held-length i (suc x) m = rw (ne-eqb (suc x) 0 (λ e. omega arith), lt-ltb i heldSize m) refl
 
-    module _ (k : unusedOk l b ≡ true) where
-      used-so : (i : ℕ) → i < w → placeOk least l b i ≡ true
-      unfolding placeOk unusedOk
-      used-so i m =
-          joined (in-range least longestBlock (getD l i 0) (used i m .0) (used i m .1)) (all-at (λ j. zeros (unusedAt l b j)) queueSize i (omega arith) k)
-
-      after-so : (zeros (drop w l) && zeros (drop (w * longestBlock) b)) ≡ true
-      after-so =
-          joined
-          (zeros-of (drop w l) (λ j v. getD-drop w l j 0 ∙ rests (w + j) (omega arith) (omega (arith, length-drop w l))))
-          (zeros-of (drop (w * longestBlock) b)
-          (λ j v.
-          let n : w * longestBlock + j < placesSize = omega (arith, length-drop (w * longestBlock) b) in
-          getD-drop (w * longestBlock) b j 0
-          ∙ clear-at l b k (w * longestBlock + j) n (omega (arith, rests ((w * longestBlock + j) / longestBlock) (omega arith) (omega arith)))))
-
-      places-tidy : Tidy w l b
-      places-tidy = record { eight = l8; bytes = l512; few = w8; short = λ i m. used i m .1; unused = rests; clear = clear-at l b k }
-
-  in-one-run : placesOk least w l b ≡ (lengthsIn least w l && unusedOk l b)
-  unfolding placesOk unusedOk
-  in-one-run =
-      alike (placesOk least w l b) (lengthsIn least w l && unusedOk l b)
-      (λ t.
-      let p = both (allBelow w (placeOk least l b)) _ t in
-      joined (all-hold (lengthAt least w l) queueSize (λ i _. lengths-so (p .0) (p .1) i))
-      (all-hold (λ i. zeros (unusedAt l b i)) queueSize (λ i _. unused-so (p .0) (p .1) i)))
-      (λ t.
-      let p = both (lengthsIn least w l) (unusedOk l b) t in
-      joined (all-hold (placeOk least l b) w (λ i m. used-so (p .0) (p .1) i m)) (after-so (p .0) (p .1)))
-
--- The places where blocks are held: all eight may be used.
 abbrev shortIn : List ℕ → Bool
 shortIn l = allBelow heldSize (λ i. leb (getD l i 0) longestBlock)
 
 abbrev numberedIn : ℕ → List ℕ → Bool
 numberedIn e l = allBelow heldSize (λ i. when (eqb (getD l i 0) 0) true (ltb (e + i) lastNumber))
-
--- after all eight there is nothing
-pub all-used : (l : List ℕ) → length l ≡ heldSize → zeros (drop heldSize l) ≡ true
-unfolding zeros
-all-used l h = ap zeros (drop-of-length-le l {i = heldSize} (omega arith))
-
-held-lengths : (w : ℕ) (l : List ℕ) → zeros (drop w l) ≡ true → shortIn l ≡ lengthsIn 0 w l
-unfolding when inRange
-held-lengths w l z =
-    all-same _ _ heldSize
-    (λ i _.
-    by-lt i w (λ m. sym (rw (lt-ltb i w m, leb·zero (getD l i 0)) refl))
-    (λ m. sym (rw (le-ltb i w m, after-zero w l z i m) refl)))
 
 -- what is left of a test where the other fails
 only : (t : Bool) → when t true false ≡ t
@@ -190,28 +145,38 @@ module _ (st e : ℕ) (l b : List ℕ) (l8 : length l ≡ heldSize) (l512 : leng
         (joined (all-hold _ heldSize (λ i _. split (λ (u : Bool). u ≡ true) _ (λ _. refl) (λ t. absurd (eqb-false (getD l i 0) 0 t (zeros-at l i z)))))
         (joined (split (λ (u : Bool). u ≡ true) (eqb st abstract.established) (λ _. refl) (λ _. z)) refl)))
 
-    none-used : lengthsIn 0 0 l ≡ true
-    unfolding when
-    none-used = all-hold (lengthAt 0 0 l) queueSize (λ i _. rw (le-ltb i 0 (omega arith)) (eq-eqb (getD l i 0) 0 (zeros-at l i z)))
+    none-unused : zeros b ≡ unusedOk l b
+    unfolding unusedOk unusedAt
+    none-unused =
+        alike (zeros b) (unusedOk l b)
+        (λ t.
+        all-hold (λ i. zeros (unusedAt l b i)) queueSize
+        (λ i _.
+        let n = getD l i 0 in
+        let d = drop (i * longestBlock + n) b in
+        zeros-of (take (longestBlock - n) d)
+        (λ j v.
+        let v′ : j < longestBlock - n = omega (arith, length-take (longestBlock - n) d, min-le-left (longestBlock - n) (length d)) in
+        getD-take (longestBlock - n) d j 0 v′ ∙ getD-drop (i * longestBlock + n) b j 0 ∙ zeros-at b (i * longestBlock + n + j) t)))
+        (λ t. zeros-of b (λ k v. clear-at l b t k (omega arith) (omega (arith, zeros-at l (k / longestBlock) z))))
 
     pub none-held : zeros b ≡ (allOf (heldSound st e l) && unusedOk l b)
-    unfolding placesOk allBelow
-    none-held = rw (z, none-used) at (in-one-run 0 0 l b (omega arith) l8 l512) ∙ sym (rw none-sound refl)
+    none-held = none-unused ∙ sym (rw none-sound refl)
 
-  -- where one is, and all that is held is in the first w places
-  pub some-held : (w : ℕ) → w ≤ heldSize → zeros (drop w l) ≡ true → zeros l ≡ false
-      → (eqb st abstract.established && (zeros (drop (lastNumber - e) l) && placesOk 0 w l b)) ≡ (allOf (heldSound st e l) && unusedOk l b)
+  -- where one is
+  pub some-held : zeros l ≡ false
+      → (eqb st abstract.established && (zeros (drop (lastNumber - e) l) && placesOk 0 heldSize l b)) ≡ (allOf (heldSound st e l) && unusedOk l b)
   unfolding heldSound allOf
-  some-held w w8 u z =
-      rw (in-one-run 0 w l b w8 l8 l512, ← held-lengths w l u, held-numbers e l l8, eq-eqb (length l) heldSize l8, z, only (eqb st abstract.established))
+  some-held z =
+      rw (by-place 0 heldSize l b (λ _ x. leb x longestBlock) held-length, held-numbers e l l8, eq-eqb (length l) heldSize l8, z, only (eqb st abstract.established))
       (regroup (eqb st abstract.established) (numberedIn e l) (shortIn l) (unusedOk l b))
 
 -- where the numbers are sound, the places decide
-pub places-decide : (e : Endpoint) → Numbers e ≡ true → length (e .lengths) ≡ queueSize → length (e .blocks) ≡ placesSize
-    → {w h : Bool} → w ≡ placesOk 1 (e .waiting) (e .lengths) (e .blocks)
+pub places-decide : (e : Endpoint) → Numbers e ≡ true → {w h : Bool} → w ≡ placesOk (e .waiting) (e .waiting) (e .lengths) (e .blocks)
     → h ≡ (allOf (heldSound (e .state) (e .delivered) (e .«held_lengths»)) && unusedOk (e .«held_lengths») (e .«held_blocks»)) → (w && h) ≡ sound e
-unfolding sound lengthsOk placeLengthOk
-places-decide e n l8 l512 ew eh = rw (n, ew, eh, in-one-run 1 (e .waiting) (e .lengths) (e .blocks) (numbers-few e n) l8 l512) refl
+unfolding sound lengthsOk
+places-decide e n ew eh =
+    rw (n, ew, eh, by-place (e .waiting) (e .waiting) (e .lengths) (e .blocks) (placeLengthOk (e .waiting)) (waiting-length (e .waiting))) refl
 
 module _ (e : Endpoint) (s : sound e ≡ true) (long : Long e) where
   abbrev Waits : Bool
@@ -228,9 +193,8 @@ module _ (e : Endpoint) (s : sound e ≡ true) (long : Long e) where
   unfolding sound
   places-ok = both Waits _ (both (Numbers e) _ s .1)
 
-  waits : (lengthsIn 1 (e .waiting) (e .lengths) ≡ true) × (unusedOk (e .lengths) (e .blocks) ≡ true)
-  unfolding lengthsOk placeLengthOk
-  waits = both (lengthsIn 1 (e .waiting) (e .lengths)) _ (places-ok .0)
+  waits : (lengthsOk (e .waiting) (e .lengths) ≡ true) × (unusedOk (e .lengths) (e .blocks) ≡ true)
+  waits = both (lengthsOk (e .waiting) (e .lengths)) _ (places-ok .0)
 
   holds : (Holds ≡ true) × (unusedOk (e .«held_lengths») (e .«held_blocks») ≡ true)
   holds = both Holds _ (places-ok .1)
@@ -238,15 +202,33 @@ module _ (e : Endpoint) (s : sound e ≡ true) (long : Long e) where
   few : e .waiting ≤ queueSize
   few = numbers-few e numbers-ok
 
+  short : (i : ℕ) → i < e .waiting → (1 ≤ getD (e .lengths) i 0) × (getD (e .lengths) i 0 ≤ longestBlock)
+  short i m = used (e .waiting) (e .lengths) (waits .0) i m few
+
   pub tidy : Tidy (e .waiting) (e .lengths) (e .blocks)
-  tidy = places-tidy 1 (e .waiting) (e .lengths) (e .blocks) few (long .lengths) (long .blocks) (waits .0) (waits .1)
+  tidy =
+      record {
+        eight = long .lengths;
+        bytes = long .blocks;
+        few = few;
+        short = λ i m. short i m .1;
+        unused = rests (e .waiting) (e .lengths) (waits .0);
+        clear = clear-at (e .lengths) (e .blocks) (waits .1);
+      }
 
   pub tidy-held : Tidy heldSize (e .«held_lengths») (e .«held_blocks»)
   unfolding heldSound allOf
   tidy-held =
-      let short = both _ _ (both (eqb (length (e .«held_lengths»)) heldSize) _ (holds .0) .1) .0 in
-      places-tidy 0 heldSize (e .«held_lengths») (e .«held_blocks») (omega arith) (long .held-lengths) (long .held-blocks)
-      (sym (held-lengths heldSize (e .«held_lengths») (all-used (e .«held_lengths») (long .held-lengths))) ∙ short) (holds .1)
+      let l = e .«held_lengths» in
+      let s : shortIn l ≡ true = both _ _ (both (eqb (length l) heldSize) _ (holds .0) .1) .0 in
+      record {
+        eight = long .held-lengths;
+        bytes = long .held-blocks;
+        few = omega arith;
+        short = λ i m. leb-true (getD l i 0) longestBlock (all-at (λ k. leb (getD l k 0) longestBlock) heldSize i m s);
+        unused = λ i m n. absurd (omega arith);
+        clear = clear-at l (e .«held_blocks») (holds .1);
+      }
 
   sized-tab : (w : ℕ) → w ≤ e .waiting → sized (tab w (placeBlock (e .lengths) (e .blocks))) ≡ true
   unfolding tab sized
@@ -254,7 +236,7 @@ module _ (e : Endpoint) (s : sound e ≡ true) (long : Long e) where
   sized-tab (suc w) h =
       let b = placeBlock (e .lengths) (e .blocks) w in
       let n = length-block (e .lengths) (e .blocks) (e .waiting) tidy w h in
-      let u = used 1 (e .waiting) (e .lengths) (e .blocks) few (long .lengths) (long .blocks) (waits .0) w h in
+      let u = short w h in
       sized-append (tab w (placeBlock (e .lengths) (e .blocks))) (b ∷ []) (sized-tab w (omega arith))
       (joined (in-range 1 longestBlock (length b) (rw n (u .0)) (rw n (u .1))) refl)
 

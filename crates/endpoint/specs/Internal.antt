@@ -1,24 +1,25 @@
 -- Parts of question 12, for the code, and the record from its parts. No public call's contract needs this.
-use Prim.Native.Nat.{ℕ, _*_}
+use Prim.Native.Nat.{ℕ}
 use mathlib.Core.Bool.{Bool, _&&_}
 use mathlib.Core.List.{List, [], _∷_}
-use lib.ListN.{drop, getD}
-use Rattle.octets.specs.Sizes.{longestBlock}
-use Rattle.octets.specs.Test.{inRange, allBelow, zeros}
+use lib.ListN.{getD}
+use lib.Dec.{leb, ltb, eqb}
+use Rattle.octets.specs.Sizes.{longestBlock, queueSize}
+use Rattle.octets.specs.Test.{when, allBelow, zeros}
 use Rattle.octets.specs.Octets.{lay}
 use Rattle.step_rules.specs.declared.Numbers.{Numbers}
 use Rattle.endpoint.specs.declared.Endpoint.{Endpoint}
 use Rattle.endpoint.specs.Sound.{unusedAt}
 use Rattle.endpoint.specs.Record.{numbersLayout}
 
--- the tests of soundness that concern place i alone, where a block of at least so many octets may be
-unfoldable pub placeOk : ℕ → List ℕ → List ℕ → ℕ → Bool
-placeOk least lengths blocks i = inRange least longestBlock (getD lengths i 0) && zeros (unusedAt lengths blocks i)
+-- the tests of soundness that concern place i alone, where each of the first so many places has a block, and none from so many on
+unfoldable pub placeOk : ℕ → ℕ → List ℕ → List ℕ → ℕ → Bool
+placeOk filled used lengths blocks i =
+    when (eqb (getD lengths i 0) 0) (leb filled i) (ltb i used && leb (getD lengths i 0) longestBlock) && zeros (unusedAt lengths blocks i)
 
--- those of all places, of which the first are used
+-- those of all places
 unfoldable pub placesOk : ℕ → ℕ → List ℕ → List ℕ → Bool
-placesOk least used lengths blocks =
-    allBelow used (placeOk least lengths blocks) && (zeros (drop used lengths) && zeros (drop (used * longestBlock) blocks))
+placesOk filled used lengths blocks = allBelow queueSize (placeOk filled used lengths blocks)
 
 -- the record of these numbers, and of these lengths and blocks, waiting and held
 abbrev pub recordOf : Numbers → List ℕ → List ℕ → List ℕ → List ℕ → Endpoint

@@ -6,10 +6,10 @@ use step_rules::LISTENING;
 use step_rules::Numbers;
 use step_rules::PASSIVE_OPENING;
 ghost use mathlib.Core.Path.{_≡_};
-ghost use mathlib.Core.Bool.{true, _&&_};
+ghost use mathlib.Core.Bool.{_&&_};
 ghost use Prim.Native.Nat.{_+_, _-_, _≤_, _<_};
-ghost use lib.ListN.{length, drop};
-ghost use Rattle.octets.specs.Sizes.{queueSize, heldSize, lastNumber};
+ghost use lib.ListN.{length, take, drop};
+ghost use Rattle.octets.specs.Sizes.{longestBlock, queueSize, heldSize, lastNumber};
 ghost use Rattle.octets.specs.Test.{when, zeros};
 ghost use Rattle.octets.specs.Octets.{put, octetsOf};
 ghost use Rattle.protocol.specs.Endpoint as abstract;
@@ -121,35 +121,57 @@ fn numbers_ok(
                             ))))))
 }
 
-// Place i, where a block may be: its length is least to 64, and zeros follow it.
-fn place_ok(least: usize, lengths: &[u8], blocks: &[u8], i: usize) -> bool
+// The octets of the place at at, from n on, are 0. All 64 are looked at and those before n let pass, so that the loop has no branch and
+// takes many octets at once: j is i as an octet, since so many are compared with n only as octets.
+fn rest_ok(n: u8, blocks: &[u8], at: usize) -> bool
+    requires { ⌜ at + longestBlock ≤ length (now blocks) ⌝ }
+    ensures { λ r. ⌜ r ≡ zeros (take (longestBlock - n) (drop (at + n) (now (blocks .entry)))) ⌝ }
+{
+    let mut ok = true;
+    let mut i = 0;
+    let mut j = 0;
+    while i < Endpoint::LONGEST_BLOCK {
+        ok = ok & ((j < n) | (blocks[at + i] == 0));
+        i += 1;
+        j += 1;
+    }
+    ok
+}
+
+// Place i: each of the first filled has a block, and none from used on; a block is up to 64 long, and zeros follow it.
+fn place_ok(filled: usize, used: usize, lengths: &[u8], blocks: &[u8], i: usize) -> bool
     requires { ⌜ (length (now blocks) ≡ placesSize) × ((length (now lengths) ≡ queueSize) × (i < queueSize)) ⌝ }
-    ensures { λ r. ⌜ r ≡ placeOk least (now (lengths .entry)) (now (blocks .entry)) i ⌝ }
+    ensures { λ r. ⌜ r ≡ placeOk filled used (now (lengths .entry)) (now (blocks .entry)) i ⌝ }
 {
     let n = octets::wide(lengths[i]);
-    if n < least {
+    let at = i * Endpoint::LONGEST_BLOCK;
+    if n == 0 {
+        if i < filled {
+            return false;
+        }
+        return octets::is_clear(&blocks[at..at + Endpoint::LONGEST_BLOCK]);
+    }
+    if used <= i {
         return false;
     }
     if Endpoint::LONGEST_BLOCK < n {
         return false;
     }
-    let at = i * Endpoint::LONGEST_BLOCK;
-    octets::is_clear(&blocks[at + n..at + Endpoint::LONGEST_BLOCK])
+    rest_ok(lengths[i], blocks, at)
 }
 
-// The places that are used, one by one; then all that is unused after them, in one run.
-fn places_ok(least: usize, used: usize, lengths: &[u8], blocks: &[u8]) -> bool
-    requires { ⌜ (length (now blocks) ≡ placesSize) × ((length (now lengths) ≡ queueSize) × (used ≤ queueSize)) ⌝ }
-    ensures { λ r. ⌜ r ≡ placesOk least used (now (lengths .entry)) (now (blocks .entry)) ⌝ }
+fn places_ok(filled: usize, used: usize, lengths: &[u8], blocks: &[u8]) -> bool
+    requires { ⌜ (length (now blocks) ≡ placesSize) × (length (now lengths) ≡ queueSize) ⌝ }
+    ensures { λ r. ⌜ r ≡ placesOk filled used (now (lengths .entry)) (now (blocks .entry)) ⌝ }
 {
-    let mut ok = true;
     let mut i = 0;
-    while i < used {
-        ok = ok & place_ok(least, lengths, blocks, i);
+    while i < octets::QUEUE_SIZE {
+        if !place_ok(filled, used, lengths, blocks, i) {
+            return false;
+        }
         i += 1;
     }
-    let at = used * Endpoint::LONGEST_BLOCK;
-    ok & (octets::is_clear(&lengths[used..]) & octets::is_clear(&blocks[at..]))
+    true
 }
 
 // No held number, which is delivered + i at place i, is above 4294967294: the places from there on hold nothing.
@@ -164,32 +186,17 @@ fn held_numbers_ok(delivered: u32, lengths: &[u8]) -> bool
     octets::is_clear(&lengths[left..])
 }
 
-// How many of the places have all that is held: those up to the last block.
-fn used_places(lengths: &[u8]) -> usize
-    requires { ⌜ length (now lengths) ≡ heldSize ⌝ }
-    ensures { λ r. ⌜ (r ≤ heldSize) × (zeros (drop r (now (lengths .entry))) ≡ true) ⌝ }
-{
-    let mut used = octets::HELD_SIZE;
-    while used > 0 {
-        if lengths[used - 1] != 0 {
-            return used;
-        }
-        used -= 1;
-    }
-    used
-}
-
-// The held places. Where nothing is held, all of them are unused: one run.
+// The held places: where nothing is held, all of them are unused. The sizes of the slices stand here, so that the compiler knows them.
 fn held_ok(state: u8, delivered: u32, lengths: &[u8], blocks: &[u8]) -> bool
     requires { ⌜ (length (now blocks) ≡ placesSize) × (length (now lengths) ≡ heldSize) ⌝ }
     ensures { λ r. ⌜ r ≡ (allOf (heldSound state delivered (now (lengths .entry))) && unusedOk (now (lengths .entry)) (now (blocks .entry))) ⌝ }
 {
-    if octets::is_clear(lengths) {
-        return octets::is_clear(blocks);
+    if octets::is_clear(&lengths[0..octets::HELD_SIZE]) {
+        return octets::is_clear(&blocks[0..PLACES_SIZE]);
     }
-    let used = used_places(lengths);
     (state == ESTABLISHED)
-        & (held_numbers_ok(delivered, lengths) & places_ok(0, used, lengths, blocks))
+        & (held_numbers_ok(delivered, lengths)
+            & places_ok(0, octets::HELD_SIZE, lengths, blocks))
 }
 
 // Question 12: is the record of these numbers, lengths and blocks sound?
@@ -213,7 +220,8 @@ pub fn is_sound<'a>(
     ) {
         return false;
     }
-    places_ok(1, octets::wide(n.waiting), lengths, blocks)
+    let waiting = octets::wide(n.waiting);
+    places_ok(waiting, waiting, lengths, blocks)
         & held_ok(n.state, n.delivered, held_lengths, held_blocks)
 }
 

@@ -2,7 +2,7 @@
 use Prim.Native.Nat.{ℕ, zero, suc, _+_, _<_}
 use mathlib.Core.Path.{_≡_, refl, sym, ap, _∙_}
 use mathlib.Core.Logic.{⊎-elim}
-use mathlib.Core.Bool.{Bool, true, false, _&&_, and-true, and-assoc}
+use mathlib.Core.Bool.{Bool, true, false, _&&_, false≢true, and-true, and-assoc}
 use mathlib.Core.List.{List, [], _∷_, _++_}
 use native.Mathlib.Nat.{le-of-suc-le-suc, not-suc-le-zero, eq-or-lt-of-le}
 use native.Mathlib.Numerals.{add-one}
@@ -14,6 +14,12 @@ use lib.Seq.{take-suc}
 use borrow.Author.Tests.{eqb-true, eq-eqb}
 use Rattle.octets.specs.Test.{allBelow, zeros}
 use Rattle.octets.proofs.Test.{both, joined}
+
+-- what two tests mean alike, they are
+pub alike : (a b : Bool) → (a ≡ true → b ≡ true) → (b ≡ true → a ≡ true) → a ≡ b
+alike true b f g = sym (f refl)
+alike false true f g = g refl
+alike false false f g = refl
 
 -- one number more
 pub all-step : (p : ℕ → Bool) (i : ℕ) (ok r : Bool) → ok ≡ allBelow i p → r ≡ p i → (ok && r) ≡ allBelow (i + 1) p
@@ -27,16 +33,13 @@ all-at p (suc n) i h k =
     let b = both (allBelow n p) (p n) k in
     ⊎-elim (λ (e : i ≡ n). rw e (b .1)) (λ (l : i < n). all-at p n i l (b .0)) (eq-or-lt-of-le (le-of-suc-le-suc h))
 
+pub all-fail : (p : ℕ → Bool) (n i : ℕ) → i < n → p i ≡ false → false ≡ allBelow n p
+all-fail p n i h k = alike false (allBelow n p) (λ t. absurd (false≢true t)) (λ t. sym k ∙ all-at p n i h t)
+
 pub all-hold : (p : ℕ → Bool) (n : ℕ) → ((i : ℕ) → i < n → p i ≡ true) → allBelow n p ≡ true
 unfolding allBelow
 all-hold p zero h = refl
 all-hold p (suc n) h = joined (all-hold p n (λ i k. h i (omega arith))) (h n (omega arith))
-
--- what two tests mean alike, they are
-pub alike : (a b : Bool) → (a ≡ true → b ≡ true) → (b ≡ true → a ≡ true) → a ≡ b
-alike true b f g = sym (f refl)
-alike false true f g = g refl
-alike false false f g = refl
 
 zeros-append : (s t : List ℕ) → zeros (s ++ t) ≡ (zeros s && zeros t)
 unfolding zeros

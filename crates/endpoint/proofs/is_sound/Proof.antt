@@ -5,8 +5,7 @@ use borrow.Author.Tests.{not-true, not-false}
 use Rattle.endpoint.specs.declared.Endpoint.{Endpoint}
 use Rattle.endpoint.specs.Sound.{sound}
 use Rattle.endpoint.specs.Internal.{recordOf}
-use Rattle.endpoint.proofs.Sounds.{Numbers, numbers-few, places-decide}
-use native.Mathlib.Omega.{arith}
+use Rattle.endpoint.proofs.Sounds.{Numbers, places-decide}
 use borrow.Author.Needs.{needs}
 use Rattle.endpoint.proofs.is_sound.Statement.{statement}
 use Rattle.endpoint.proofs.is_sound.Tie as tie
@@ -26,18 +25,13 @@ returns c =
     let n = rw (c .before .before .wide32 .ensures .0) at (sym (c .before .numbers-ok .ensures)) ∙ not-true (c .before .numbers-ok .result) (c .if1 .taken) in
     rw n refl
 
-places-ok-requires : tie.Need-places-ok-requires
-places-ok-requires c κs =
-    let s = c .before .before .before .before .before .before .before .before in
-    (s .pre .0 .0, (s .pre .0 .1, omega (arith, numbers-few (asked s) (numbers-hold (c .before)))))
-
 returns-2 : tie.Need-returns-2
 returns-2 c =
     let s = c .before .before .before .before .before .before .before .before .before .before in
-    places-decide (asked s) (numbers-hold (c .before .before .before)) (s .pre .0 .1) (s .pre .0 .0)
+    places-decide (asked s) (numbers-hold (c .before .before .before))
     (rw (c .before .before .wide .ensures .0) at (c .before .places-ok .ensures)) (c .held-ok .ensures)
 
 pub is-sound-spec : {M : Type 1} → statement M
 is-sound-spec =
     tie.close
-    (tie.spec (λ c κs. search needs) (λ c κs. search needs) returns (λ c κs. search needs) places-ok-requires (λ c κs. search needs) returns-2)
+    (tie.spec (λ c κs. search needs) (λ c κs. search needs) returns (λ c κs. search needs) (λ c κs. search needs) (λ c κs. search needs) returns-2)
