@@ -21,10 +21,10 @@ alike true b f g = sym (f refl)
 alike false true f g = g refl
 alike false false f g = refl
 
--- one number more
-pub all-step : (p : ℕ → Bool) (i : ℕ) (ok r : Bool) → ok ≡ allBelow i p → r ≡ p i → (ok && r) ≡ allBelow (i + 1) p
+-- one number more, of which it holds
+pub all-more : (p : ℕ → Bool) (i : ℕ) → allBelow i p ≡ true → {r : Bool} → r ≡ p i → r ≡ true → allBelow (i + 1) p ≡ true
 unfolding allBelow
-all-step p i ok r h k = rw (add-one, h, k) refl
+all-more p i h k t = rw add-one (joined h (sym k ∙ t))
 
 pub all-at : (p : ℕ → Bool) (n i : ℕ) → i < n → allBelow n p ≡ true → p i ≡ true
 unfolding allBelow
@@ -33,8 +33,9 @@ all-at p (suc n) i h k =
     let b = both (allBelow n p) (p n) k in
     ⊎-elim (λ (e : i ≡ n). rw e (b .1)) (λ (l : i < n). all-at p n i l (b .0)) (eq-or-lt-of-le (le-of-suc-le-suc h))
 
-pub all-fail : (p : ℕ → Bool) (n i : ℕ) → i < n → p i ≡ false → false ≡ allBelow n p
-all-fail p n i h k = alike false (allBelow n p) (λ t. absurd (false≢true t)) (λ t. sym k ∙ all-at p n i h t)
+-- where it fails of one, it does not hold of each
+pub all-fail : (p : ℕ → Bool) (n i : ℕ) → i < n → {r : Bool} → r ≡ p i → r ≡ false → false ≡ allBelow n p
+all-fail p n i h k t = alike false (allBelow n p) (λ e. absurd (false≢true e)) (λ e. sym t ∙ k ∙ all-at p n i h e)
 
 pub all-hold : (p : ℕ → Bool) (n : ℕ) → ((i : ℕ) → i < n → p i ≡ true) → allBelow n p ≡ true
 unfolding allBelow
