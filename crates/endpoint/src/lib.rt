@@ -108,7 +108,7 @@ fn numbers_ok(
 ) -> bool
     ensures { λ r. ⌜ r ≡ allOf (numbersSound state local remote accepted delivered waiting) ⌝ }
 {
-    // Most records are in open: there the state decides all but four tests.
+    // Most records are in open, where four tests are left. Outside it nothing waits, so that w ≤ 8 and w ≤ t ask no test.
     if state == ESTABLISHED {
         return (waiting <= Endpoint::QUEUE_SIZE as u32)
             & ((waiting <= accepted) & ((1 <= local) & (1 <= remote)));
@@ -120,8 +120,8 @@ fn numbers_ok(
                     & ((accepted == 0) & ((waiting == 0) & (delivered == 0))))))
 }
 
-// The octets of the place at at, from n on, are 0. All 64 are looked at and those before n let pass, so that the loop has no branch and
-// takes many octets at once: j is i as an octet, since so many are compared with n only as octets.
+// The octets from n on of the place that starts at at are 0. All 64 are looked at, and those before n let pass: the loop then has no branch
+// and always the same length, and takes many octets at once. j is i in an octet, so that as many of it are compared with n at once.
 fn rest_ok(n: u8, blocks: &[u8], at: usize) -> bool
     requires { ⌜ at + longestBlock ≤ length (now blocks) ⌝ }
     ensures { λ r. ⌜ r ≡ zeros (take (longestBlock - n) (drop (at + n) (now (blocks .entry)))) ⌝ }
@@ -137,7 +137,8 @@ fn rest_ok(n: u8, blocks: &[u8], at: usize) -> bool
     ok
 }
 
-// Place i: each of the first filled has a block, and none from used on; a block is up to 64 long, and zeros follow it.
+// Place i, where each of the first filled places has a block, and none from used on: a block is up to 64 long, and zeros follow it. A place
+// without one is asked by itself, since that is quicker.
 fn place_ok(filled: usize, used: usize, lengths: &[u8], blocks: &[u8], i: usize) -> bool
     requires { ⌜ (length (now blocks) ≡ placesSize) × ((length (now lengths) ≡ queueSize) × (i < queueSize)) ⌝ }
     ensures { λ r. ⌜ r ≡ placeOk filled used (now (lengths .entry)) (now (blocks .entry)) i ⌝ }
@@ -185,7 +186,7 @@ fn held_numbers_ok(delivered: u32, lengths: &[u8]) -> bool
     octets::is_clear(&lengths[left..])
 }
 
-// The held places: where nothing is held, all of them are unused. The sizes of the slices stand here, so that the compiler knows them.
+// The held places. Where nothing is held, all of them are unused: one run. The sizes are written out, so that the compiler knows them.
 fn held_ok(state: u8, delivered: u32, lengths: &[u8], blocks: &[u8]) -> bool
     requires { ⌜ (length (now blocks) ≡ placesSize) × (length (now lengths) ≡ heldSize) ⌝ }
     ensures { λ r. ⌜ r ≡ (allOf (heldSound state delivered (now (lengths .entry))) && unusedOk (now (lengths .entry)) (now (blocks .entry))) ⌝ }
