@@ -138,7 +138,7 @@ fn rest_ok(n: u8, blocks: &[u8], at: usize) -> bool
 }
 
 // Place i, where each of the first filled places has a block, and none from used on: a block is up to 64 long, and zeros follow it. A place
-// without one is asked by itself, since that is quicker.
+// without a block and one that a block fills are asked by themselves, since that is quicker.
 fn place_ok(filled: usize, used: usize, lengths: &[u8], blocks: &[u8], i: usize) -> bool
     requires { ⌜ (length (now blocks) ≡ placesSize) × ((length (now lengths) ≡ queueSize) × (i < queueSize)) ⌝ }
     ensures { λ r. ⌜ r ≡ placeOk filled used (now (lengths .entry)) (now (blocks .entry)) i ⌝ }
@@ -156,6 +156,9 @@ fn place_ok(filled: usize, used: usize, lengths: &[u8], blocks: &[u8], i: usize)
     }
     if Endpoint::LONGEST_BLOCK < n {
         return false;
+    }
+    if n == Endpoint::LONGEST_BLOCK {
+        return true;
     }
     rest_ok(lengths[i], blocks, at)
 }
