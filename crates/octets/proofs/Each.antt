@@ -7,11 +7,11 @@ use mathlib.Core.List.{List, [], _∷_, _++_}
 use native.Mathlib.Nat.{le-of-suc-le-suc, not-suc-le-zero, eq-or-lt-of-le}
 use native.Mathlib.Numerals.{add-one}
 use native.Mathlib.Omega.{arith}
-use lib.Bits.{bitOr, or-add-and, and-le-l, and-le-r}
+use lib.Bits.{bitOr, or-zero-l, or-add-and, and-le-r}
 use lib.Dec.{eqb}
 use lib.ListN.{length, take, getD}
 use lib.Seq.{take-suc}
-use borrow.Author.Tests.{eqb-true, eq-eqb}
+use borrow.Author.Tests.{eqb-true, eq-eqb, ne-eqb}
 use Rattle.octets.specs.Test.{allBelow, zeros}
 use Rattle.octets.proofs.Test.{both, joined}
 
@@ -49,23 +49,16 @@ zeros-append (x ∷ s) t = rw (zeros-append s t) (sym (and-assoc (eqb x 0) (zero
 
 -- no bit of two numbers is set where both are 0
 or-zero : (a b : ℕ) → eqb (bitOr a b) 0 ≡ (eqb a 0 && eqb b 0)
-or-zero a b =
-    let o = or-add-and a b in
-    let l = and-le-l a b in
-    let r = and-le-r a b in
-    alike (eqb (bitOr a b) 0) (eqb a 0 && eqb b 0)
-    (λ t. let z = eqb-true (bitOr a b) 0 t in joined (eq-eqb a 0 (omega arith)) (eq-eqb b 0 (omega arith)))
-    (λ t.
-    let z = both (eqb a 0) (eqb b 0) t in
-    let x = eqb-true a 0 (z .0) in
-    let y = eqb-true b 0 (z .1) in
-    eq-eqb (bitOr a b) 0 (omega arith))
+or-zero zero b = rw (or-zero-l b) refl
+or-zero (suc a) b =
+    rw (ne-eqb (suc a) 0 (λ e. omega arith)) (ne-eqb (bitOr (suc a) b) 0 (λ e. omega (arith, or-add-and (suc a) b, and-le-r (suc a) b)))
 
 -- one element more
 pub zeros-more : (s : List ℕ) (i : ℕ) → i < length s → (zeros (take i s) && eqb (getD s i 0) 0) ≡ zeros (take (i + 1) s)
 unfolding zeros
 zeros-more s i h = sym (rw (add-one, take-suc s i 0 h) (zeros-append (take i s) (getD s i 0 ∷ []) ∙ ap (λ (b : Bool). zeros (take i s) && b) (and-true (eqb (getD s i 0) 0))))
 
+-- and where x has the bits of those before it
 pub bits-more : (s : List ℕ) (i : ℕ) → i < length s → (x : ℕ) → eqb x 0 ≡ zeros (take i s) → eqb (bitOr x (getD s i 0)) 0 ≡ zeros (take (i + 1) s)
 bits-more s i h x e = or-zero x (getD s i 0) ∙ rw e (zeros-more s i h)
 
