@@ -98,6 +98,7 @@ fn when(t: bool, yes: bool, no: bool) -> bool
     no
 }
 
+// The numbers. Most records are in open, where four tests are left; outside it nothing waits, so that w ≤ 8 and w ≤ t ask no test.
 fn numbers_ok(
     state: u8,
     local: u32,
@@ -108,7 +109,6 @@ fn numbers_ok(
 ) -> bool
     ensures { λ r. ⌜ r ≡ allOf (numbersSound state local remote accepted delivered waiting) ⌝ }
 {
-    // Most records are in open, where four tests are left. Outside it nothing waits, so that w ≤ 8 and w ≤ t ask no test.
     if state == ESTABLISHED {
         return (waiting <= Endpoint::QUEUE_SIZE as u32)
             & ((waiting <= accepted) & ((1 <= local) & (1 <= remote)));

@@ -2,6 +2,7 @@
 
 pub mod alter;
 pub mod bench;
+pub mod callgrind;
 pub mod coverage;
 pub mod end;
 pub mod group;

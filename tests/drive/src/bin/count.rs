@@ -1,15 +1,16 @@
-//! How many instructions a line the programs take, by callgrind: the count is the same in every run,
-//! whatever else the machine does. What a program takes for no line at all does not count.
+//! How many instructions a line the programs take. What a program takes for no line at all does not
+//! count.
 //!
 //! The command line names the script, of which the first lines are taken, then the programs.
 
+use cases::callgrind::instructions;
 use drive::long;
 use drive::script::Script;
 use std::env;
 use std::ffi::OsStr;
 use std::fs::{self, File};
-use std::io::{Error, Result};
-use std::process::{Command, ExitCode};
+use std::io::Result;
+use std::process::ExitCode;
 
 /// So many lines of the script are answered.
 const LINES: usize = 50_000;
@@ -24,11 +25,11 @@ fn main() -> Result<ExitCode> {
     };
     let lines = Script::from_iter(script.lines().take(LINES));
     for program in &programs {
-        let instructions = count(program, &lines)? - count(program, &Script::default())?;
+        let count = count(program, &lines)? - count(program, &Script::default())?;
         println!(
             "{}: {:.1} instructions a line",
             program.to_string_lossy(),
-            instructions as f64 / lines.lines().count() as f64
+            count as f64 / lines.lines().count() as f64
         );
     }
     Ok(ExitCode::SUCCESS)
@@ -38,16 +39,7 @@ fn main() -> Result<ExitCode> {
 fn count(program: &OsStr, script: &Script) -> Result<u64> {
     let path = env::temp_dir().join(format!("count-{}", std::process::id()));
     fs::write(&path, &script.0)?;
-    let output = Command::new("valgrind")
-        .args(["--tool=callgrind", "--callgrind-out-file=/dev/null"])
-        .arg(program)
-        .stdin(File::open(&path)?)
-        .output()?;
+    let count = instructions::<&OsStr>(program, &[], File::open(&path)?.into());
     fs::remove_file(&path)?;
-    let said = String::from_utf8_lossy(&output.stderr).into_owned();
-    let total = said
-        .lines()
-        .find_map(|line| line.split_once("Collected : "));
-    let count = total.and_then(|(_, count)| count.trim().parse().ok());
-    count.ok_or_else(|| Error::other(said))
+    count
 }

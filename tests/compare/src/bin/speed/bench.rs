@@ -1,7 +1,7 @@
 //! Lines of a bench and its question. Each line gets both records anew, copies of 1,058 bytes that
 //! both implementations pay.
 
-use crate::measure::{compare, Both};
+use crate::measure::{Both, Measure};
 use crate::sample::{holding, record, BLOCK};
 use cases::bench::{Bench, Lent, Named, Reply};
 use cases::sample::message;
@@ -93,7 +93,7 @@ const QUESTION: Both<Case> = Both {
 };
 
 /// Measures typical lines, and the question on a full book.
-pub fn measure() {
+pub fn measure(measure: &mut impl Measure) {
     let send = format!("504440{}", "78".repeat(64));
     for (name, waiting, handed_up, count, line) in [
         ("bench: send of 64", 0, SENT, PLACES - 1, &send[..]),
@@ -111,15 +111,15 @@ pub fn measure() {
         ("bench: refused by 14", 1, SENT, PLACES, "5045"),
     ] {
         let mut case = Case::new(waiting, handed_up, count, line);
-        compare(name, LINES, &mut case, LINE);
+        measure.call(name, LINES, &mut case, LINE);
     }
     let mut case = Case::new(0, SENT, PLACES - 1, "5146").with_all_held();
-    compare("bench: collect of 64 with 8 held", LINES, &mut case, LINE);
+    measure.call("bench: collect of 64 with 8 held", LINES, &mut case, LINE);
     for (name, waiting) in [
         ("question: none of 512 frames", 0),
         ("question: the last of 512 frames", 1),
     ] {
         let mut case = Case::new(waiting, SENT, PLACES, "");
-        compare(name, QUESTIONS, &mut case, QUESTION);
+        measure.call(name, QUESTIONS, &mut case, QUESTION);
     }
 }

@@ -1,8 +1,8 @@
 //! The calls of an end. Each call gets its record anew, a copy of 1,058 bytes that both
 //! implementations pay.
 
-use crate::measure::{self, Both};
-use crate::sample::{holding, record, BLOCK};
+use crate::measure::{Both, Measure};
+use crate::sample::{holding, record, waiting_of, BLOCK};
 use cases::end::End;
 use cases::sample::message;
 use cases::Reference;
@@ -59,13 +59,14 @@ const REQUEST: Both<Case> = Both {
 };
 
 /// Measures typical calls.
-pub fn measure() {
+pub fn measure(measure: &mut impl Measure) {
     let closed = record(State::Closed, 0, [0, 0], 0);
     let listening = record(State::Listening, 0, [0, 0], 0);
     let calling = record(State::Calling, 0, [0, 0], 0);
     let answering = record(State::Answering, 7, [0, 0], 0);
     let open = record(State::Open, 7, [0, 0], 0);
     let full = record(State::Open, 7, [8, 0], 8);
+    let short = waiting_of(20, State::Open, 7, [8, 0], 8);
     let early = holding(open, 1..8);
     let next = holding(open, [0]);
     let all = holding(open, 0..8);
@@ -84,30 +85,37 @@ pub fn measure() {
         ("open: passed over", open, frame(4, 0)),
         ("closing: DRACK", closing, frame(7, 0)),
     ] {
-        compare(name, record, frame, RECEIVE);
+        compare(measure, name, record, frame, RECEIVE);
     }
     for (name, record, kind) in [
         ("open: send of 64", open, 0x44),
         ("open: timer with none waiting", open, 0x45),
         ("open: timer with 8 waiting", full, 0x45),
         ("open: timer with 8 waiting and 8 held", crowded, 0x45),
+        ("open: timer with 8 short ones waiting", short, 0x45),
         ("open: collect with none held", open, 0x46),
         ("open: collect of 64 with 1 held", next, 0x46),
         ("open: collect of 64 with 8 held", all, 0x46),
     ] {
-        compare(name, record, message(kind, &[], BLOCK), REQUEST);
+        compare(measure, name, record, message(kind, &[], BLOCK), REQUEST);
     }
 }
 
 /// Measures the call of an end with this record.
-fn compare(name: &str, record: [u8; RECORD], message: Vec<u8>, both: Both<Case>) {
+fn compare(
+    measure: &mut impl Measure,
+    name: &str,
+    record: [u8; RECORD],
+    message: Vec<u8>,
+    both: Both<Case>,
+) {
     let mut case = Case {
         record,
         message,
         out: [0; LONGEST_FRAME],
         up: [0; LONGEST_BLOCK],
     };
-    measure::compare(name, BATCH, &mut case, both);
+    measure.call(name, BATCH, &mut case, both);
 }
 
 /// A frame with s = 7 and r = 1, as the records expect them, and where it has them this number and

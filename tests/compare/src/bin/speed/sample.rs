@@ -8,7 +8,13 @@ use reference::State;
 pub const BLOCK: &[u8] = &[b'x'; 64];
 
 /// A record with L = 1, this D, these counts t and e, and so many waiting blocks.
-pub fn record(
+pub fn record(state: State, remote: u32, counts: [u32; 2], waiting: usize) -> [u8; RECORD] {
+    waiting_of(BLOCK.len(), state, remote, counts, waiting)
+}
+
+/// The same with waiting blocks of so many bytes.
+pub fn waiting_of(
+    bytes: usize,
     state: State,
     remote: u32,
     [accepted, handed_up]: [u32; 2],
@@ -20,7 +26,7 @@ pub fn record(
         accepted,
         handed_up,
     };
-    numbers.record(state, &vec![BLOCK.to_vec(); waiting])
+    numbers.record(state, &vec![BLOCK[..bytes].to_vec(); waiting])
 }
 
 /// The record with blocks held so far above e.
