@@ -51,6 +51,7 @@ fn changes(rec: &[u8], s: &[u8], count: usize) -> bool
     requires { ⌜ (recordSize ≤ length (now rec)) × (format .sound (now rec) ≡ true) ⌝ }
     ensures { λ r. ⌜ Says r (Changes (now (rec .entry)) (callOutcome (now (rec .entry)) count (given Receive (now (s .entry)) (rooms longestFrame longestBlock)))) ⌝ }
 {
+    let n = endpoint::load_numbers(rec);
     let p = link::plan_sound(Call::Receive, rec, s);
     if p.number != step_plan::ACCEPTED {
         return false;
@@ -59,7 +60,6 @@ fn changes(rec: &[u8], s: &[u8], count: usize) -> bool
     if !bench_call::has_place(reply, count) {
         return false;
     }
-    let n = endpoint::load_numbers(rec);
     let m = p.numbers;
     let held = p.held;
     !(same(m, n) & stays(held))
