@@ -25,10 +25,16 @@ pub digit-high : (n : ℕ) → 10 ≤ n → digit n ≡ 87 + n
 unfolding digit
 digit-high n h = lt-no n 10 (48 + n) (87 + n) h
 
--- what a number's digit is told by: the figure below ten, the letter from ten on
-pub digit-is : (n d : ℕ) → (n < 10 → d ≡ 48 + n) → (10 ≤ n → d ≡ 87 + n) → d ≡ digit n
+-- the digit by arithmetic on its value
+pub digit-sum : (n : ℕ) → n < 16 → digit n ≡ 48 + n + 39 * ((n + 6) / 16)
 unfolding digit
-digit-is n d low high = if-lt (λ (x : ℕ). d ≡ x) n 10 low high
+digit-sum n h = if-lt (λ (d : ℕ). d ≡ 48 + n + 39 * ((n + 6) / 16)) n 10 (λ l. omega arith) (λ l. omega arith)
+
+-- two digits in one number
+pub two-digits : (h l : ℕ) {r : ℕ} → h < 16 → r ≡ digit l * 256 + digit h → (r % 256 ≡ digit h) × (r / 256 ≡ digit l)
+two-digits h l below e =
+    let d : digit h < 256 = omega (arith, digit-sum h below) in
+    (rw e (digits-mod (digit l) d), rw e (digits-div (digit l) d))
 
 pub value-figure : (c : ℕ) → c < 65 → value c ≡ c - 48
 unfolding value

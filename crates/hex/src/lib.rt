@@ -13,15 +13,24 @@ pub enum Line {
     Refused(u8),
 }
 
-// What a letter's character is more than that of a figure of its number would be: a stands for ten.
-const LETTERS: u8 = b'a' - 10 - b'0';
+// Two numbers in one: the first in its low octet, the second in its high one. The same number twice is its product by TWICE.
+const TWICE: u16 = 0x0101;
 
-// The digit of a number below 16, without a branch: six more than a figure's number is below 16, six more than a letter's is not.
-fn to_digit(n: u8) -> u8
-    requires { ⌜ n < 16 ⌝ }
-    ensures { λ r. ⌜ r ≡ digit n ⌝ }
+// The character of 0, and what a letter's character is more than that of a figure of its number would be: a stands for ten.
+const FIGURES: u16 = b'0' as u16;
+
+const LETTERS: u16 = (b'a' - 10 - b'0') as u16;
+
+// The two digits of an octet, by arithmetic on their values, without a branch: six more than a figure's value is below 16, six more than a
+// letter's is not. Both are made at once, so that they are stored at once.
+fn to_digits(b: u8) -> u16
+    ensures { λ r. ⌜ (r % 256 ≡ digit (b / 16)) × (r / 256 ≡ digit (b % 16)) ⌝ }
 {
-    b'0' + n + LETTERS * ((n + 6) / 16)
+    let octet = b as u16;
+    let values = octet / 16 + octet % 16 * 256;
+    let more = values + 6 * TWICE;
+    let letters = more / 16 % 2 + more / 4096 * 256;
+    values + FIGURES * TWICE + LETTERS * letters
 }
 
 // Writes the digits of s to the start of out.
@@ -31,8 +40,9 @@ pub fn write(s: &[u8], out: &mut [u8])
 {
     let mut i = 0;
     while i < s.len() {
-        out[2 * i] = to_digit(s[i] / 16);
-        out[2 * i + 1] = to_digit(s[i] % 16);
+        let digits = to_digits(s[i]);
+        out[2 * i] = (digits % 256) as u8;
+        out[2 * i + 1] = (digits / 256) as u8;
         i += 1;
     }
 }

@@ -25,7 +25,7 @@ loop-holds c = (search needs, (search needs, put-none (now (c .before .before .a
 
 loop-again : tie.Need-loop-again Inv-loop μ-loop
 loop-again c =
-    let l = c .before .before .before .before .before in
+    let l = c .before .before .before in
     let a = l .before .before .before .args in
     let s = now (a .s) in
     let i = l .loop .i in
@@ -35,7 +35,7 @@ loop-again c =
       search needs,
       (
         simp length-set (omega arith),
-        rw (l .loop .inv .1 .1, c .before .before .to-digit .ensures, c .to-digit2 .ensures, e, hex-more s i (omega arith))
+        rw (l .loop .inv .1 .1, c .to-digits .ensures .0, c .to-digits .ensures .1, e, hex-more s i (omega arith))
             (front-more (now (a .out)) (hex (take i s)) (digit (getD s i 0 / 16) ∷ digit (getD s i 0 % 16) ∷ []) (2 * i) n (omega arith)),
       ),
     )
@@ -50,6 +50,6 @@ returns c =
 pub write-spec : {M : Type 1} → statement M
 write-spec =
     tie.close
-    (tie.spec Inv-loop μ-loop loop-holds (λ c. search needs) (λ c κs. omega (arith, c .shared-slice-known2 .given (c .before .before .loop .i)))
-    (λ c. search needs) (λ c. search needs) (λ c. search needs) (λ c κs. search needs) (λ c. search needs) (λ c. search needs)
-    (λ c. simp length-set (omega arith)) (λ c. search needs) (λ c. search needs) loop-again (λ c. search needs) returns)
+    (tie.spec Inv-loop μ-loop loop-holds (λ c. search needs) (λ c κs. search needs) (λ c. search needs) (λ c. search needs) (λ c. search needs)
+    (λ c. search needs) (λ c. search needs) (λ c. search needs) (λ c. simp length-set (omega arith)) (λ c. search needs) (λ c. search needs) loop-again
+    (λ c. search needs) returns)
