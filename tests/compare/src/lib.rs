@@ -2,7 +2,7 @@
 
 mod bench;
 mod call;
-mod codec;
+pub mod codec;
 mod end;
 pub mod lines;
 pub mod messages;

@@ -1,6 +1,6 @@
 //! The loops that write digits.
 //!
-//! A digit is 48 + n, and 39 more for a letter; the product by 39 tells such a loop where the writer
+//! A digit is 48 + n, and 39 more for a letter. The product by 39 tells such a loop where the writer
 //! stands within other functions, as it does in the programs.
 
 use crate::listing::{Function, Instruction};

@@ -4,6 +4,7 @@
 mod bench;
 mod count;
 mod end;
+mod line;
 mod measure;
 mod sample;
 
@@ -43,6 +44,7 @@ fn main() -> ExitCode {
 
 /// All calls that are measured.
 fn all(measure: &mut impl Measure) {
+    line::measure(measure);
     end::measure(measure);
     bench::measure(measure);
 }
