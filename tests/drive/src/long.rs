@@ -6,9 +6,8 @@ use cases::sample::message;
 use reference::block::LONGEST_BLOCK;
 use reference::frame::{Signal, DATA};
 use reference::request::LISTEN;
-
-/// The names of the scripts.
-pub const NAMES: &str = "line|bench|blocks";
+use std::env;
+use std::ffi::OsString;
 
 /// So many calls have the two ends of a session, and half of them the one that is asked.
 const CALLS: usize = 1_000_000;
@@ -18,9 +17,22 @@ const LINES: usize = 500_000;
 /// So many blocks are handed up.
 const BLOCKS: u32 = 100_000;
 
+/// The script that the command line of this program names, and the programs after it; says how it is
+/// used where one of them is missing.
+pub fn asked_for(name: &str) -> Option<(Script, Vec<OsString>)> {
+    let mut words = env::args_os().skip(1);
+    let script = words.next().and_then(|word| script(word.to_str()?));
+    let programs: Vec<_> = words.collect();
+    let asked = script.filter(|_| !programs.is_empty());
+    if asked.is_none() {
+        eprintln!("usage: {name} line|bench|blocks PROGRAM..");
+    }
+    asked.map(|script| (script, programs))
+}
+
 /// A session of one end (line) or of a bench, or (blocks) one end that is opened and then hears
 /// nothing but blocks of 64 bytes: the longest answers that there are.
-pub fn script(name: &str) -> Option<Script> {
+fn script(name: &str) -> Option<Script> {
     match name {
         "line" => {
             let [script, _] = sessions::session(700, CALLS);

@@ -16,11 +16,7 @@ use std::process::ExitCode;
 const LINES: usize = 50_000;
 
 fn main() -> Result<ExitCode> {
-    let mut words = env::args_os().skip(1);
-    let script = words.next().and_then(|name| long::script(name.to_str()?));
-    let programs: Vec<_> = words.collect();
-    let (Some(script), [_, ..]) = (script, &programs[..]) else {
-        eprintln!("usage: count {} PROGRAM..", long::NAMES);
+    let Some((script, programs)) = long::asked_for("count") else {
         return Ok(ExitCode::FAILURE);
     };
     let lines = Script::from_iter(script.lines().take(LINES));

@@ -14,11 +14,7 @@ use std::time::{Duration, Instant};
 const ROUNDS: u32 = 15;
 
 fn main() -> Result<ExitCode> {
-    let mut words = env::args_os().skip(1);
-    let script = words.next().and_then(|name| long::script(name.to_str()?));
-    let programs: Vec<_> = words.collect();
-    let (Some(script), [_, ..]) = (script, &programs[..]) else {
-        eprintln!("usage: pace {} PROGRAM..", long::NAMES);
+    let Some((script, programs)) = long::asked_for("pace") else {
         return Ok(ExitCode::FAILURE);
     };
     let path = env::temp_dir().join(format!("pace-{}", std::process::id()));
