@@ -22,7 +22,7 @@ use Rattle.protocol.specs.declared.Rule.the-variants.{RejectedByDisconnect, Lis
 use Rattle.protocol.specs.declared.Rule.the-variants.{FinishedByDisconnect, Finished}
 use Rattle.protocol.specs.Endpoint.{Endpoint, sized, sound}
 use Rattle.protocol.specs.Table.{Sent, frame, Step, rule, apply, step}
-use Rattle.protocol.specs.Requests.{oldest, resent, refusal, collected, accept}
+use Rattle.protocol.specs.Requests.{oldest, resent, refusal, hungUp, collected, accept}
 use Rattle.protocol.specs.Requests as protocol
 use Rattle.protocol.specs.History.{ask, deliver, Call, perform}
 use Rattle.protocol.specs.Claim.{blockSent}
@@ -86,6 +86,10 @@ timer-short e h =
     if-eq Short (e .state) 4 (λ _. oldest-short e (e .queue) h) (λ _.
     if-eq Short (e .state) 5 (λ _. control-short 6 (e .local) (e .remote) (omega arith) (omega arith)) (λ _. omega arith))))
 
+close-short : (e : Endpoint) → Short (hungUp e .sent)
+unfolding hungUp wire
+close-short e = if-eq (λ (x : Step). Short (x .sent)) (e .remote) 0 (λ _. omega arith) (λ _. control-short 6 (e .local) (e .remote) (omega arith) (omega arith))
+
 collect-short : (e : Endpoint) (b : Block) → Short (collected e b .sent)
 unfolding collected wire encode layout numbers lay octetsOf ifEq when isFrame inRange
 collect-short e [] = omega arith
@@ -96,7 +100,7 @@ unfolding accept wire encode layout numbers lay octetsOf ifEq when isFrame inRan
 accept-short connect e h k = omega arith
 accept-short listen e h k = omega arith
 accept-short endListening e h k = omega arith
-accept-short close e h k = omega arith
+accept-short close e h k = close-short e
 accept-short (send b) e h k = data-short (e .local) (e .remote) (e .accepted) b (sized-at 0 (b ∷ []) k (omega arith) .1)
 accept-short timer e h k = timer-short e h
 accept-short collect e h k = collect-short e (getD (e .held) 0 [])

@@ -1,21 +1,21 @@
 -- The calls: when a request is allowed, and what each call does, as the facts say it.
-use Prim.Native.Nat.{ℕ, zero, suc, _-_, _<_}
+use Prim.Native.Nat.{ℕ, zero, suc, _-_, _≤_, _<_}
 use mathlib.Core.Path.{_≡_, refl, sym, subst, ap, _∙_}
-use mathlib.Core.Logic.{⊎-elim}
+use mathlib.Core.Logic.{_⊎_, inl, inr, ⊎-elim}
 use mathlib.Core.Bool.{Bool, true, false}
 use mathlib.Core.List.{List, [], _∷_, _++_, List·Memᴰ, List·Memᴰ·cases-cons}
 use native.Mathlib.Omega.{arith}
 use borrow.Author.Tests.{eqb-true, ltb-true}
-use lib.Dec.{T}
+use lib.Dec.{T, eqb}
 use lib.ListN.{length, getD, length-append}
 use lib.Seq.{getD-append-seam}
 use Rattle.octets.specs.Test.{Question, first, Outcome, refused, ok, outcome}
-use Rattle.octets.proofs.Test.{split, if-eq}
+use Rattle.octets.proofs.Test.{split, if-eq, either}
 use Rattle.frame.specs.Frame.{Block, Frame, control, dataFrame, Request, connect, listen, endListening, close, timer, collect, send}
 use Rattle.protocol.specs.Endpoint.{Endpoint, waiting}
 use Rattle.protocol.specs.Table.{Sent, nothing, frame, Step}
 use Rattle.octets.specs.Sizes.{lastNumber, queueSize}
-use Rattle.protocol.specs.Requests.{questions, refusal, queueing, oldest, resent, collected, accept, request}
+use Rattle.protocol.specs.Requests.{questions, refusal, queueing, oldest, resent, hungUp, collected, accept, request}
 use Rattle.protocol.specs.History.{Call, ask, deliver, perform, Event, History, now, also, sent, recorded, after, Due}
 use Rattle.protocol.specs.Claim.{blockSent}
 use Rattle.protocol.proofs.Facts.{alone, stays, hangs-up, drops, was-held, keeps, clears, takes, queues, Sane, Laden}
@@ -53,7 +53,7 @@ abbrev pub Allowed : Request → Endpoint → Type 0
 Allowed connect e = (e .state ≡ 0) × (e .local < lastNumber)
 Allowed listen e = (e .state ≡ 0) × (e .local < lastNumber)
 Allowed endListening e = e .state ≡ 1
-Allowed close e = e .state ≡ 4
+Allowed close e = (e .state ≡ 2) ⊎ (e .state ≡ 4)
 Allowed (send b) e = (e .state ≡ 4) × (e .accepted < lastNumber) × (length (e .queue) < queueSize)
 Allowed timer e = Unit {0}
 Allowed collect e = e .state ≡ 4
@@ -64,7 +64,9 @@ unfolding request refusal questions
 requested P connect e n y = asked P (questions connect e) tt n (λ z. y (omega (arith, eqb-true, ltb-true)))
 requested P listen e n y = asked P (questions listen e) tt n (λ z. y (omega (arith, eqb-true, ltb-true)))
 requested P endListening e n y = asked P (questions endListening e) tt n (λ z. y (omega (arith, eqb-true, ltb-true)))
-requested P close e n y = asked P (questions close e) tt n (λ z. y (omega (arith, eqb-true, ltb-true)))
+requested P close e n y =
+    asked P (questions close e) tt n
+    (λ z. y (⊎-elim (λ t. inl (eqb-true _ _ t)) (λ t. inr (eqb-true _ _ t)) (either (eqb (e .state) 2) (eqb (e .state) 4) (z .0))))
 requested P (send b) e n y = asked P (questions (send b) e) tt n (λ z. y (omega (arith, eqb-true, ltb-true)))
 requested P timer e n y = asked P (questions timer e) tt n (λ z. y tt)
 requested P collect e n y = asked P (questions collect e) tt n (λ z. y (omega (arith, eqb-true, ltb-true)))
@@ -89,6 +91,13 @@ module _ {e : Endpoint} (f : Frame) (s : Sane e) (l : Laden e) where
       datum (e .accepted) b h (omega arith) (omega arith)
       (ap (λ (n : ℕ). getD (e .queue ++ (b ∷ [])) n []) (omega arith) ∙ getD-append-seam (e .queue) b [] [])
 
+  closes : 1 ≤ e .state → Fires e f [] (hungUp e)
+  unfolding hungUp
+  closes h =
+      if-eq (Fires e f []) (e .remote) 0
+      (λ z. fires (drops h (alone z)) (clears tt tt) silence)
+      (λ n. fires (hangs-up h (omega arith)) (clears tt tt) (dr refl))
+
   collects : e .state ≡ 4 → (b : Block) → getD (e .held) 0 [] ≡ b → Fires e f [] (collected e b)
   unfolding collected
   collects h [] p = fires (stays refl refl refl) (keeps tt) silence
@@ -99,7 +108,7 @@ module _ {e : Endpoint} (f : Frame) (s : Sane e) (l : Laden e) where
   asks-on connect t a = absurd t
   asks-on listen t a = absurd t
   asks-on endListening t a = fires (drops (omega arith) (alone (s .remote-none (omega arith)))) (clears tt tt) silence
-  asks-on close t a = fires (hangs-up (omega arith) (s .remote≥ (omega arith))) (clears tt tt) (dr refl)
+  asks-on close t a = closes (⊎-elim (λ p. omega arith) (λ p. omega arith) a)
   asks-on (send b) t a = fires (stays refl refl refl) (queues b (a .0) (a .1) (a .2)) (newest b (a .0))
   asks-on timer t a = fires (stays refl refl refl) (keeps tt) timed
   asks-on collect t a = collects a (getD (e .held) 0 []) refl

@@ -3,12 +3,13 @@ use mathlib.Core.Path.{refl}
 use mathlib.Core.List.{List, [], _∷_, List·Memᴰ, List·Memᴰ·head, List·Memᴰ·tail}
 use Rattle.octets.specs.Test.{when, ifEq, ifLt, first, outcome}
 use Rattle.frame.specs.Frame.{Frame}
-use Rattle.protocol.specs.Table.{whenListening, whenActive, whenPassive, dataRow, openRows, whenEstablished, rule, movedDown, apply, step}
-use Rattle.protocol.specs.Requests.{questions, refusal, accept, request}
+use Rattle.protocol.specs.Table.{whenClosed, whenListening, whenActive, whenPassive, dataRow, openRows, whenEstablished, whenClosing, rule, movedDown, apply, step}
+use Rattle.protocol.specs.Requests.{questions, refusal, resent, hungUp, accept, request}
 use Rattle.protocol.specs.History.{perform, now, sent, recorded}
 use Rattle.protocol.specs.World.{called, ends}
 use Rattle.protocol.specs.Claim.{handedUpIn, Demand}
 use Rattle.protocol.specs.Examples.{start, callOne, callBoth, ping, pong, talk, BothOpen, HandsUp}
+use Rattle.protocol.specs.Examples.{noticesOf, opensLate, hungUpCalls, EachComesTo}
 use Rattle.protocol.proofs.Theorem.{demand-3}
 
 -- the frame delivered is the last one sent
@@ -41,3 +42,27 @@ they-hear = record { by-a = refl; by-b = refl }
 
 pub so-they-talk : Demand ends start talk
 so-they-talk = demand-3 start ((refl, refl), (refl, refl)) talk (they-talk .due)
+
+pub hung-up : EachComesTo hungUpCalls
+unfolding noticesOf called recorded perform now sent step rule apply whenClosed whenListening whenActive whenPassive whenEstablished openRows whenClosing
+    request refusal questions resent hungUp accept first outcome ifEq ifLt when
+hung-up = (
+  record { due = (tt, (tt, tt)); at-a = refl; at-b = refl },
+  (
+    record { due = (tt, (tt, (last, (tt, (last, (last, tt)))))); at-a = refl; at-b = refl },
+    (
+      record { due = (tt, (tt, (last, (tt, (last, (last, tt)))))); at-a = refl; at-b = refl },
+      (
+        record { due = (tt, (tt, (last, (tt, (tt, (last, (tt, (last, (last, (tt, (last, (last, tt)))))))))))); at-a = refl; at-b = refl },
+        (
+          record { due = (tt, (tt, (last, (tt, (List·Memᴰ·tail last, (last, (last, tt))))))); at-a = refl; at-b = refl },
+          tt,
+        ),
+      ),
+    ),
+  ),
+)
+
+-- the partner towards which an end opens may be closing and never have been open
+pub so-it-opens-late : Demand ends start (opensLate .calls)
+so-it-opens-late = demand-3 start ((refl, refl), (refl, refl)) (opensLate .calls) (hung-up .1 .1 .1 .1 .0 .due)

@@ -1,4 +1,4 @@
--- The eleven cases that document 01 marks P, "at the edges", as one table: what each call edgeAnswers, whole; and N2's.
+-- The eleven cases that document 01 marks P, "at the edges", as one table: what each call answers, whole; then those of N2 and N4.
 use Prim.Native.Nat.{ℕ}
 use mathlib.Core.List.{List, [], _∷_, map}
 use Rattle.octets.specs.Test.{Outcome, refused, ok}
@@ -17,7 +17,7 @@ abbrev edge : Endpoint → Call → Outcome Step → Edge
 edge e c x = record { before = e; call = c; answer = x }
 
 -- an endpoint with no blocks: state, L, D
-abbrev at : ℕ → ℕ → ℕ → Endpoint
+abbrev pub at : ℕ → ℕ → ℕ → Endpoint
 at st l d = record { state = st; local = l; remote = d; accepted = 0; delivered = 0; queue = []; held = noneHeld }
 
 -- an open endpoint with L = 1 and D = 2, that has handed up e blocks and holds those of h
@@ -88,6 +88,18 @@ overtakings =
     -- leaving open
     ∷ edge (having 0 (early block)) (deliver (control DR 2 1)) (ok (says (at closed 1 0) closedByPartner (control DRACK 1 2)))
     ∷ edge (having 0 (early block)) (ask close) (ok (says (at closing 1 2) none (control DR 1 2)))
+    ∷ []
+
+-- N4's: close in every state, and where it calls, with D known and not.
+unfoldable pub hangUps : List Edge
+hangUps =
+    edge (at activeOpening 5 0) (ask close) (ok (quiet (at closed 5 0) closeFinished))
+    ∷ edge (at activeOpening 5 3) (ask close) (ok (says (at closing 5 3) none (control DR 5 3)))
+    ∷ edge (at established 5 3) (ask close) (ok (says (at closing 5 3) none (control DR 5 3)))
+    ∷ edge (at closed 5 0) (ask close) (refused 8)
+    ∷ edge (at listening 5 0) (ask close) (refused 8)
+    ∷ edge (at passiveOpening 5 3) (ask close) (refused 8)
+    ∷ edge (at closing 5 3) (ask close) (refused 8)
     ∷ []
 
 -- what the table says, and what the calls answer

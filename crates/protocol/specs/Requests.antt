@@ -1,5 +1,6 @@
 -- Requests and the timer call: questions 8, 9 and 10 of document 01, and what a request does where all answers are yes.
 use Prim.Native.Nat.{ℕ, _+_, _-_}
+use mathlib.Core.Bool.{_||_}
 use mathlib.Core.List.{List, [], _∷_, _++_}
 use lib.ListN.{getD}
 use lib.Dec.{ltb, eqb}
@@ -8,11 +9,14 @@ use Rattle.octets.specs.Test.{ifEq, Question, first, Outcome, outcome}
 use Rattle.frame.specs.Frame.{Block, CRAO, CRPO, DR, control, dataFrame, ackFrame}
 use Rattle.frame.specs.Frame.{Request, connect, listen, endListening, close, timer, collect, send}
 use Rattle.protocol.specs.Endpoint.{closed, listening, activeOpening, passiveOpening, established, closing, Endpoint, waiting, noneHeld}
-use Rattle.protocol.specs.Table.{none, handedUp, Sent, nothing, frame, Step, quiet, says, turned, delivering}
+use Rattle.protocol.specs.Table.{none, closeFinished, handedUp, Sent, nothing, frame, Step, quiet, says, turned, delivering}
 
 -- 8: does the state allow the request?
 abbrev pub stateIs : ℕ → Endpoint → Question
 stateIs n e = (8, eqb (e .state) n)
+
+abbrev pub stateIsEither : ℕ → ℕ → Endpoint → Question
+stateIsEither m n e = (8, eqb (e .state) m || eqb (e .state) n)
 
 -- 9: is a number left?
 abbrev pub numberLeft : ℕ → Question
@@ -27,7 +31,7 @@ unfoldable pub questions : Request → Endpoint → List Question
 questions connect e = stateIs closed e ∷ numberLeft (e .local) ∷ []
 questions listen e = stateIs closed e ∷ numberLeft (e .local) ∷ []
 questions endListening e = stateIs listening e ∷ []
-questions close e = stateIs established e ∷ []
+questions close e = stateIsEither activeOpening established e ∷ []
 questions (send b) e = stateIs established e ∷ numberLeft (e .accepted) ∷ placeLeft e ∷ []
 questions timer e = []
 questions collect e = stateIs established e ∷ []
@@ -67,6 +71,12 @@ resent e =
     (ifEq (e .state) closing (frame (control DR (e .local) (e .remote)))
     nothing)))
 
+-- what close does: DR(L,D), and closing; an end that calls and has heard of no partner has nobody to tell, and is closed at once
+unfoldable pub hungUp : Endpoint → Step
+hungUp e =
+    ifEq (e .remote) 0 (quiet (turned closed 0 e) closeFinished)
+    (says (turned closing (e .remote) e) none (control DR (e .local) (e .remote)))
+
 -- what collect does, where b is held as block e: it is handed up; where none is, nothing
 unfoldable pub collected : Endpoint → Block → Step
 collected e [] = quiet e none
@@ -77,7 +87,7 @@ unfoldable pub accept : Request → Endpoint → Step
 accept connect e = says (begun activeOpening e) none (control CRAO (e .local + 1) 0)
 accept listen e = quiet (begun listening e) none
 accept endListening e = quiet (turned closed 0 e) none
-accept close e = says (turned closing (e .remote) e) none (control DR (e .local) (e .remote))
+accept close e = hungUp e
 accept (send b) e = says (queueing b e) none (dataFrame (e .local) (e .remote) (e .accepted) b)
 accept timer e = record { endpoint = e; notice = none; sent = resent e }
 accept collect e = collected e (getD (e .held) 0 [])

@@ -8,7 +8,7 @@ use native.Mathlib.Omega.{arith}
 use lib.ListN.{length, drop, getD}
 use Rattle.frame.specs.Layout.{dataBlockAt}
 use Rattle.octets.specs.Test.{Outcome, refused, ok, mapped, andThen}
-use Rattle.octets.proofs.Test.{by-eq, eq-yes, eq-no}
+use Rattle.octets.proofs.Test.{by-eq, eq-yes, eq-no, if-eq}
 use Rattle.octets.proofs.Outcomes.{after-question, of-value}
 use Rattle.frame.specs.Frame.{Block, Frame, Request, connect, listen, endListening, close, timer, collect, send}
 use Rattle.frame.specs.Read.{readFrame, readRequest}
@@ -19,7 +19,7 @@ use Rattle.protocol.specs.declared.Rule.the-variants.{RejectedByDisconnect, Lis
 use Rattle.protocol.specs.declared.Rule.the-variants.{FinishedByDisconnect, Finished}
 use Rattle.protocol.specs.Endpoint.{Endpoint}
 use Rattle.protocol.specs.Table.{noticeNumber, rule, Step, apply, step}
-use Rattle.protocol.specs.Requests.{refusal, collected, accept}
+use Rattle.protocol.specs.Requests.{refusal, hungUp, collected, accept}
 use Rattle.protocol.specs.Requests as protocol
 use Rattle.protocol.specs.History.{ask, deliver, perform}
 use Rattle.protocol.specs.History as history
@@ -94,6 +94,10 @@ unfolding andThen mapped perform noticeOf blockOf
 hearing-right b Q e (refused m) d = none b Q 0 (λ z. omega arith)
 hearing-right b Q e (ok f) d = right-step b Q e f (d f refl)
 
+closes-right : (e : Endpoint) (b : Block) → RightOf b (Unit {0}) (ok (hungUp e))
+unfolding hungUp noticeNumber blockIn noticeOf blockOf
+closes-right e b = if-eq (λ (x : Step). RightOf b (Unit {0}) (ok x)) (e .remote) 0 (λ _. none _ _ 4 (λ z. omega arith)) (λ _. none _ _ 0 (λ z. omega arith))
+
 collects-right : (e : Endpoint) (b : Block) → RightOf b (Unit {0}) (ok (collected e b))
 unfolding collected noticeNumber blockIn noticeOf blockOf
 collects-right e [] = none [] _ 0 (λ z. omega arith)
@@ -104,7 +108,7 @@ unfolding accept noticeNumber blockIn noticeOf blockOf
 accepts-right connect e = none _ _ 0 (λ z. omega arith)
 accepts-right listen e = none _ _ 0 (λ z. omega arith)
 accepts-right endListening e = none _ _ 0 (λ z. omega arith)
-accepts-right close e = none _ _ 0 (λ z. omega arith)
+accepts-right close e = closes-right e (getD (e .held) 0 [])
 accepts-right (send b) e = none _ _ 0 (λ z. omega arith)
 accepts-right timer e = none _ _ 0 (λ z. omega arith)
 accepts-right collect e = collects-right e (getD (e .held) 0 [])

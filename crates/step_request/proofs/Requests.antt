@@ -2,24 +2,28 @@
 use Prim.Native.Nat.{ℕ, _+_, _-_, _≤_, _<_}
 use mathlib.Core.Path.{_≡_, refl, sym, ap, _∙_}
 use mathlib.Core.Logic.{_≢_}
-use mathlib.Core.Bool.{Bool}
+use mathlib.Core.Bool.{Bool, true, false, not, _||_}
 use mathlib.Core.List.{List, [], _∷_}
 use native.Mathlib.Omega.{arith}
-use borrow.Author.Tests.{eq-eqb, ne-eqb, lt-ltb, le-ltb, ltb-true}
+use borrow.Author.Tests.{eq-eqb, ne-eqb, lt-ltb, le-ltb, ltb-true, not-true, not-false}
 use lib.Dec.{ltb, eqb}
 use lib.ListN.{length, getD}
 use Rattle.octets.specs.Sizes.{lastNumber, queueSize}
 use Rattle.octets.specs.Test.{first, refused, ok, outcome}
-use Rattle.octets.proofs.Test.{picks, no, yes, done, all-yes, refused-of, no-before, all-before}
-use Rattle.frame.specs.Frame.{Block, Frame, Request, dataFrame, ackFrame, endListening, close, timer, collect, send}
-use Rattle.protocol.specs.Endpoint.{listening, established, Endpoint, waiting}
-use Rattle.protocol.specs.Table.{none, handedUp, Sent, nothing, frame, quiet, says, delivering}
-use Rattle.protocol.specs.Requests.{placeLeft, questions, refusal, collected, accept, request, oldest, resent}
+use Rattle.octets.proofs.Test.{eq-yes, eq-no, picks, no, yes, done, all-yes, refused-of, no-before, all-before}
+use Rattle.frame.specs.Frame.{Block, Frame, DR, Request, control, dataFrame, ackFrame, endListening, close, timer, collect, send}
+use Rattle.protocol.specs.Endpoint.{closed, listening, activeOpening, established, closing, Endpoint, waiting}
+use Rattle.protocol.specs.Table.{none, closeFinished, handedUp, Sent, nothing, frame, quiet, says, turned, delivering}
+use Rattle.protocol.specs.Requests.{placeLeft, questions, refusal, hungUp, collected, accept, request, oldest, resent}
 use Rattle.step_plan.specs.Internal.{Oldest}
 
 -- where a number is left
 pub left : (b : Bool) (n : ℕ) → first ((8, b) ∷ (9, ltb n lastNumber) ∷ []) ≡ 0 → n < lastNumber
 left b n h = ltb-true n lastNumber (all-yes 9 _ _ (all-yes 8 _ _ h tt .1) tt .0)
+
+-- the states in which close is allowed
+abbrev closable : Endpoint → Bool
+closable a = eqb (a .state) activeOpening || eqb (a .state) established
 
 module _ (a : Endpoint) where
   -- a request whose questions are answered
@@ -39,13 +43,22 @@ module _ (a : Endpoint) where
   unfolding request refusal questions
   end-listening-0 h = yes (accept endListening a) 8 (eqb (a .state) listening) _ (eq-eqb (a .state) listening h) ∙ done (accept endListening a)
 
-  pub close-8 : a .state ≢ established → request close a ≡ refused 8
+  pub close-8 : not (closable a) ≡ true → request close a ≡ refused 8
   unfolding request refusal questions
-  close-8 h = no (accept close a) 7 (eqb (a .state) established) _ (ne-eqb (a .state) established h)
+  close-8 h = no (accept close a) 7 (closable a) _ (not-true (closable a) h)
 
-  pub close-0 : a .state ≡ established → request close a ≡ ok (accept close a)
-  unfolding request refusal questions
-  close-0 h = yes (accept close a) 8 (eqb (a .state) established) _ (eq-eqb (a .state) established h) ∙ done (accept close a)
+  close-0 : not (closable a) ≡ false → request close a ≡ ok (hungUp a)
+  unfolding request refusal questions accept
+  close-0 h = yes (accept close a) 8 (closable a) _ (not-false (closable a) h) ∙ done (accept close a)
+
+  module _ (h : not (closable a) ≡ false) where
+    pub close-unheard : a .remote ≡ 0 → request close a ≡ ok (quiet (turned closed 0 a) closeFinished)
+    unfolding hungUp
+    close-unheard z = close-0 h ∙ ap ok (eq-yes _ _ _ _ z)
+
+    pub close-heard : a .remote ≢ 0 → request close a ≡ ok (says (turned closing (a .remote) a) none (control DR (a .local) (a .remote)))
+    unfolding hungUp
+    close-heard n = close-0 h ∙ ap ok (eq-no _ _ _ _ n)
 
   pub collect-8 : a .state ≢ established → request collect a ≡ refused 8
   unfolding request refusal questions

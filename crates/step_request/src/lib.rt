@@ -5,6 +5,7 @@ use frame::RequestRead;
 use octets::LAST_NUMBER;
 use octets::refusal;
 use step_plan::ACCEPTED;
+use step_plan::CLOSE_FINISHED;
 use step_plan::NONE;
 use step_plan::Places;
 use step_plan::Plan;
@@ -112,12 +113,17 @@ fn end_listening(n: Numbers, held: &[u8]) -> Plan
     step_plan::turn(n, held, CLOSED, 0, NONE, Reply::Nothing)
 }
 
+// Close tells the partner, and waits until it has heard. Where no partner is known, there is nobody to tell.
 fn close(n: Numbers, held: &[u8]) -> Plan
     requires { ⌜ length (now held) ≡ heldSize ⌝ }
     ensures { λ r. ⌜ ((b x : Block) → Planned n (now (held .entry)) b x (request close) r) ⌝ }
 {
-    if n.state != ESTABLISHED {
+    let allowed = (n.state == ACTIVE_OPENING) | (n.state == ESTABLISHED);
+    if !allowed {
         return step_plan::refuse(n, refusal::WRONG_STATE);
+    }
+    if n.remote == 0 {
+        return step_plan::turn(n, held, CLOSED, 0, CLOSE_FINISHED, Reply::Nothing);
     }
     let sender = n.local;
     let quoted = n.remote;
