@@ -9,7 +9,7 @@ use Rattle.protocol.specs.History.{perform, now, sent, recorded}
 use Rattle.protocol.specs.World.{called, ends}
 use Rattle.protocol.specs.Claim.{handedUpIn, Demand}
 use Rattle.protocol.specs.Examples.{start, callOne, callBoth, ping, pong, talk, BothOpen, HandsUp}
-use Rattle.protocol.specs.Examples.{noticesOf, opensLate, hungUpCalls, EachComesTo}
+use Rattle.protocol.specs.Examples.{entries, answersOf, unheard, calledByBoth, answeredTooLate, answeredAnew, opensLate, HungUp}
 use Rattle.protocol.proofs.Theorem.{demand-3}
 
 -- the frame delivered is the last one sent
@@ -43,26 +43,17 @@ they-hear = record { by-a = refl; by-b = refl }
 pub so-they-talk : Demand ends start talk
 so-they-talk = demand-3 start ((refl, refl), (refl, refl)) talk (they-talk .due)
 
-pub hung-up : EachComesTo hungUpCalls
-unfolding noticesOf called recorded perform now sent step rule apply whenClosed whenListening whenActive whenPassive whenEstablished openRows whenClosing
+pub hung-up : HungUp
+unfolding entries answersOf unheard calledByBoth answeredTooLate answeredAnew opensLate
+    called recorded perform now sent step rule apply whenClosed whenListening whenActive whenPassive whenEstablished openRows whenClosing
     request refusal questions resent hungUp accept first outcome ifEq ifLt when
-hung-up = (
-  record { due = (tt, (tt, tt)); at-a = refl; at-b = refl },
-  (
-    record { due = (tt, (tt, (last, (tt, (last, (last, tt)))))); at-a = refl; at-b = refl },
-    (
-      record { due = (tt, (tt, (last, (tt, (last, (last, tt)))))); at-a = refl; at-b = refl },
-      (
-        record { due = (tt, (tt, (last, (tt, (tt, (last, (tt, (last, (last, (tt, (last, (last, tt)))))))))))); at-a = refl; at-b = refl },
-        (
-          record { due = (tt, (tt, (last, (tt, (List·Memᴰ·tail last, (last, (last, tt))))))); at-a = refl; at-b = refl },
-          tt,
-        ),
-      ),
-    ),
-  ),
-)
+hung-up = record {
+  before-anything = record { due = (tt, (tt, tt)); right = refl };
+  by-one-of-both = record { due = (tt, (tt, (last, (tt, (last, (last, tt)))))); right = refl };
+  before-the-answer = record { due = (tt, (tt, (last, (tt, (tt, (last, (last, tt))))))); right = refl };
+  before-an-answer-anew = record { due = (tt, (tt, (last, (tt, (tt, (last, (tt, (last, (last, (tt, (last, (last, tt)))))))))))); right = refl };
+  before-the-other-opens = record { due = (tt, (tt, (last, (tt, (List·Memᴰ·tail last, (last, (last, tt))))))); right = refl };
+}
 
--- the partner towards which an end opens may be closing and never have been open
-pub so-it-opens-late : Demand ends start (opensLate .calls)
-so-it-opens-late = demand-3 start ((refl, refl), (refl, refl)) (opensLate .calls) (hung-up .1 .1 .1 .1 .0 .due)
+pub so-it-opens-late : Demand ends start (entries opensLate)
+so-it-opens-late = demand-3 start ((refl, refl), (refl, refl)) (entries opensLate) (hung-up .before-the-other-opens .due)
