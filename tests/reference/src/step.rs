@@ -9,7 +9,7 @@ pub use requests::make as request;
 use crate::block::LONGEST_BLOCK;
 use crate::frame::{Body, Signal};
 use crate::record::Record;
-use crate::{Block, Frame, Message, Notice, Refusal};
+use crate::{Block, Frame, Message, Notice, Refusal, State};
 
 /// What a step does besides changing the record.
 #[derive(Clone, Copy, Debug, Default, PartialEq, Eq)]
@@ -88,6 +88,12 @@ fn hand_up<'a>(record: &mut Record, block: Block<'a>) -> Outcome<'a> {
         block: Some(block),
         ..Outcome::send(Sending::Ack).with(Notice::BlockHandedUp)
     }
+}
+
+/// The end closes as it wanted to.
+fn close_finished<'a>(record: &mut Record) -> Outcome<'a> {
+    record.enter(State::Closed);
+    Outcome::SILENT.with(Notice::CloseFinished)
 }
 
 /// Makes the step of a request or frame. A refusal changes nothing.

@@ -1,6 +1,6 @@
 //! The step table's frames. In each function s is the frame's sender.
 
-use super::{hand_up, Outcome, Sending};
+use super::{close_finished, hand_up, Outcome, Sending};
 use crate::frame::Body;
 use crate::frame::Signal::{Crack, Crao, Crpo, Dr, Drack, Rej, Reset};
 use crate::record::Record;
@@ -130,12 +130,6 @@ fn connected(record: &mut Record, partner: u32) {
 fn hung_up<'a>(record: &mut Record, s: u32, notice: Notice) -> Outcome<'a> {
     record.enter(State::Closed);
     Outcome::signal(Drack, s).with(notice)
-}
-
-/// The end closes as it wanted to.
-fn close_finished<'a>(record: &mut Record) -> Outcome<'a> {
-    record.enter(State::Closed);
-    Outcome::SILENT.with(Notice::CloseFinished)
 }
 
 /// The awaited block is handed up, an early one held; every DATA is acknowledged.

@@ -1,6 +1,6 @@
 //! The step table's requests.
 
-use super::{hand_up, Outcome, Sending};
+use super::{close_finished, hand_up, Outcome, Sending};
 use crate::block::LONGEST_BLOCK;
 use crate::frame::Signal;
 use crate::record::Record;
@@ -39,10 +39,16 @@ fn end_listening<'a>(record: &mut Record) -> Result<Outcome<'a>, Refusal> {
     Ok(Outcome::SILENT)
 }
 
+/// A call hung up before any partner was heard is over at once: there is no number to quote in DR.
 fn close<'a>(record: &mut Record) -> Result<Outcome<'a>, Refusal> {
-    ask_state(record, State::Open)?;
-    record.enter(State::Closing);
-    Ok(Outcome::signal(Signal::Dr, record.remote))
+    match record.state {
+        State::Calling if record.remote == 0 => Ok(close_finished(record)),
+        State::Calling | State::Open => {
+            record.enter(State::Closing);
+            Ok(Outcome::signal(Signal::Dr, record.remote))
+        }
+        _ => Err(Refusal::State),
+    }
 }
 
 fn send<'a>(record: &mut Record, block: Block) -> Result<Outcome<'a>, Refusal> {

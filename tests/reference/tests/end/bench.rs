@@ -1,6 +1,6 @@
 //! Bench lines on lent buffers: the order of the questions, and every byte written.
 
-use crate::sample::{ack, data, end, holding, open, send, signal, Held, Record, LAST};
+use crate::sample::{ack, data, end, holding, open, send, signal, Held, Record, FRESH, LAST};
 use reference::bench::book::{place, Place, BOOK, HEAD, PLACE, PLACES};
 use reference::bench::{self, Side};
 use reference::block::LONGEST_BLOCK;
@@ -122,7 +122,6 @@ impl Lent {
     }
 }
 
-const FRESH: Record = [0; RECORD];
 const UNSOUND: Record = [0xff; RECORD];
 use Side::{A, B};
 
@@ -255,18 +254,21 @@ fn frames_found_are_asked_3_to_7_and_14() {
 #[test]
 fn a_full_book_stops_only_what_sends() {
     let requests = [
-        (FRESH, vec![0x41]),
-        (end(Listening, 1, 0), vec![0x42]),
-        (FRESH, vec![0x45]),
-        (end(Listening, 1, 0), vec![0x45]),
-        (open(1, 0, &[]), vec![0x45]),
-        (open(1, 0, &[]), vec![0x46]),
-        (holding(open(1, 0, &[]), &[(1, b"early")]), vec![0x46]),
+        (FRESH, 0x41, 0),
+        (end(Listening, 1, 0), 0x42, 0),
+        (end(Calling, 1, 0), 0x43, 0),
+        (end(Calling, 5, 3), 0x43, 14),
+        (open(1, 0, &[]), 0x43, 14),
+        (FRESH, 0x45, 0),
+        (end(Listening, 1, 0), 0x45, 0),
+        (open(1, 0, &[]), 0x45, 0),
+        (open(1, 0, &[]), 0x46, 0),
+        (holding(open(1, 0, &[]), &[(1, b"early")]), 0x46, 0),
     ];
-    for (record, request) in requests {
+    for (record, request, number) in requests {
         let lent = Lent::new([record; 2], &[]).filled(512);
-        assert_eq!(lent.asked(&[&[0x50], &request[..]].concat()), (0, A));
-        assert_eq!(lent.asked(&[&[0x51], &request[..]].concat()), (0, B));
+        assert_eq!(lent.asked(&[0x50, request]), (number, A));
+        assert_eq!(lent.asked(&[0x51, request]), (number, B));
     }
     let frames = [
         (end(Calling, 5, 3), signal(Crack, 3, 5), 0),

@@ -1,14 +1,11 @@
 //! Blocks that arrive early are held, and collected when it is their turn.
 
 use crate::sample::{
-    ack, data, end, holding, open, receive, request, send, signal, Effect, Held, Record, LAST,
+    ack, data, end, holding, open, receive, request, send, signal, Effect, Held, Record, CLOSE,
+    COLLECT, LAST, TIMER,
 };
 use reference::frame::Signal::{Dr, Drack};
 use reference::State::{self, Closed, Closing, Listening};
-
-const CLOSE: &[u8] = &[0x43];
-const TIMER: &[u8] = &[0x45];
-const COLLECT: &[u8] = &[0x46];
 
 /// A DATA of the open connection.
 fn arriving(number: u32, block: &[u8]) -> Vec<u8> {

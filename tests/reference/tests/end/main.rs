@@ -4,6 +4,7 @@ mod bench;
 mod buffers;
 mod edges;
 mod frames;
+mod hanging_up;
 mod held;
 mod question;
 mod requests;

@@ -1,15 +1,13 @@
 //! The question which deliveries would be accepted and change the receiver's record.
 
 use crate::bench::Lent;
-use crate::sample::{ack, data, end, holding, open, signal, Record};
+use crate::sample::{ack, data, end, holding, open, signal, FRESH};
 use reference::bench::{self, Side};
 use reference::frame::Signal::{Crack, Crao, Crpo, Dr, Rej};
 use reference::record::RECORD;
 use reference::Refusal;
 use reference::State::{Calling, Listening};
 use Side::{A, B};
-
-const FRESH: Record = [0; RECORD];
 
 /// All frames that may be named; the first of them is named.
 fn changing(lent: &Lent) -> Result<Vec<usize>, Refusal> {

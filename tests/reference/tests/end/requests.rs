@@ -1,82 +1,78 @@
 //! The step table's requests.
 
-use crate::sample::{data, end, open, request, send, signal, Effect, Record, LAST};
+use crate::sample::{
+    data, end, open, request, send, signal, Effect, Record, CLOSE, COLLECT, CONNECT, END_LISTENING,
+    LAST, LISTEN, TIMER,
+};
 use reference::frame::Signal::{Crao, Crpo, Dr};
-use reference::State::{self, Answering, Calling, Closed, Closing, Listening, Open};
+use reference::State::{Answering, Calling, Closed, Closing, Listening, Open};
 
-const CONNECT: &[u8] = &[0x40];
-const LISTEN: &[u8] = &[0x41];
-const END_LISTENING: &[u8] = &[0x42];
-const CLOSE: &[u8] = &[0x43];
-const TIMER: &[u8] = &[0x45];
-const COLLECT: &[u8] = &[0x46];
-
-/// A record of each state; L is 5, and D 3 where it may be known.
-fn each_state() -> [Record; 6] {
-    State::ALL.map(|state| match state {
-        Closed | Listening => end(state, 5, 0),
-        _ => end(state, 5, 3),
-    })
+/// A record of each state, where calling has two: it may know a partner or none. L is 5, and D 3
+/// where it is known.
+fn each_state() -> [Record; 7] {
+    [
+        end(Closed, 5, 0),
+        end(Listening, 5, 0),
+        end(Calling, 5, 0),
+        end(Calling, 5, 3),
+        end(Answering, 5, 3),
+        end(Open, 5, 3),
+        end(Closing, 5, 3),
+    ]
 }
 
 #[test]
 fn every_request_in_every_state() {
+    let [closed, listening, unheard, calling, answering, opened, closing] = each_state();
     let a = send(b"a");
+    let hanging_up = || Effect::silent(closing).frame(signal(Dr, 5, 3));
     let rows = [
         (
-            Closed,
+            closed,
             CONNECT,
             Effect::silent(end(Calling, 6, 0)).frame(signal(Crao, 6, 0)),
         ),
-        (Closed, LISTEN, Effect::silent(end(Listening, 6, 0))),
-        (Closed, TIMER, Effect::silent(end(Closed, 5, 0))),
-        (Listening, END_LISTENING, Effect::silent(end(Closed, 5, 0))),
-        (Listening, TIMER, Effect::silent(end(Listening, 5, 0))),
+        (closed, LISTEN, Effect::silent(end(Listening, 6, 0))),
+        (closed, TIMER, Effect::silent(closed)),
+        (listening, END_LISTENING, Effect::silent(closed)),
+        (listening, TIMER, Effect::silent(listening)),
+        (unheard, CLOSE, Effect::silent(closed).notice(4)),
         (
-            Calling,
+            unheard,
             TIMER,
-            Effect::silent(end(Calling, 5, 3)).frame(signal(Crao, 5, 3)),
+            Effect::silent(unheard).frame(signal(Crao, 5, 0)),
         ),
+        (calling, CLOSE, hanging_up()),
         (
-            Answering,
+            calling,
             TIMER,
-            Effect::silent(end(Answering, 5, 3)).frame(signal(Crpo, 5, 3)),
+            Effect::silent(calling).frame(signal(Crao, 5, 3)),
         ),
         (
-            Open,
-            CLOSE,
-            Effect::silent(end(Closing, 5, 3)).frame(signal(Dr, 5, 3)),
+            answering,
+            TIMER,
+            Effect::silent(answering).frame(signal(Crpo, 5, 3)),
         ),
+        (opened, CLOSE, hanging_up()),
         (
-            Open,
+            opened,
             &a,
             Effect::silent(open(1, 0, &[b"a"])).frame(data(5, 3, 0, b"a")),
         ),
-        (Open, TIMER, Effect::silent(end(Open, 5, 3))),
-        (Open, COLLECT, Effect::silent(end(Open, 5, 3))),
-        (
-            Closing,
-            TIMER,
-            Effect::silent(end(Closing, 5, 3)).frame(signal(Dr, 5, 3)),
-        ),
+        (opened, TIMER, Effect::silent(opened)),
+        (opened, COLLECT, Effect::silent(opened)),
+        (closing, TIMER, hanging_up()),
     ];
     for record in each_state() {
         for bytes in [CONNECT, LISTEN, END_LISTENING, CLOSE, &a, TIMER, COLLECT] {
             let row = rows
                 .iter()
-                .find(|(state, request, _)| *state as u8 == record[0] && *request == bytes);
+                .find(|(other, request, _)| *other == record && *request == bytes);
             let refused = Effect::refused(record, 8);
             let right = row.map_or(&refused, |(_, _, effect)| effect);
             assert_eq!(&request(record, bytes), right);
         }
     }
-}
-
-#[test]
-fn a_calling_end_that_knows_no_partner_quotes_0() {
-    let calling = end(Calling, 5, 0);
-    let right = Effect::silent(calling).frame(signal(Crao, 5, 0));
-    assert_eq!(request(calling, TIMER), right);
 }
 
 #[test]

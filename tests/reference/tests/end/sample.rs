@@ -7,7 +7,15 @@ use reference::record::RECORD;
 use reference::{Answer, Block, Frame, State};
 
 pub type Record = [u8; RECORD];
+/// The record of a fresh end.
+pub const FRESH: Record = [0; RECORD];
 pub const LAST: u32 = u32::MAX;
+pub const CONNECT: &[u8] = &[0x40];
+pub const LISTEN: &[u8] = &[0x41];
+pub const END_LISTENING: &[u8] = &[0x42];
+pub const CLOSE: &[u8] = &[0x43];
+pub const TIMER: &[u8] = &[0x45];
+pub const COLLECT: &[u8] = &[0x46];
 /// Fills what a call may not write.
 const UNTOUCHED: u8 = 0xee;
 
