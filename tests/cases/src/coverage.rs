@@ -42,6 +42,10 @@ enum Step {
     Leave {
         kind: u8,
     },
+    /// A close while calling: is a partner known?
+    HangUp {
+        knows_partner: bool,
+    },
 }
 
 /// How far a number is above e.
@@ -78,6 +82,7 @@ impl Coverage {
         if let Ok(message) = Message::read(message) {
             self.0.insert(Step::of(record, &message));
             self.0.extend(Step::with_held(record, &message));
+            self.0.extend(Step::hang_up(record, &message));
         }
     }
 
@@ -178,6 +183,16 @@ impl Step {
         is_any.then_some(Self::Leave { kind })
     }
 
+    /// The step that hangs a call up, if it does.
+    fn hang_up(record: &[u8], message: &Message) -> Option<Self> {
+        let (state, _, remote) = record::summary(record);
+        let is_calling = state == State::Calling as u8;
+        let hangs_up = is_calling && *message == Message::Request(Request::Close);
+        hangs_up.then_some(Self::HangUp {
+            knows_partner: remote > 0,
+        })
+    }
+
     /// All steps that there are.
     fn all() -> Vec<Self> {
         let states = State::ALL.map(|state| state as u8);
@@ -185,6 +200,7 @@ impl Step {
             .into_iter()
             .flat_map(|state| Self::requests(state).chain(Self::frames(state)))
             .chain(Self::all_with_held())
+            .chain([false, true].map(|knows_partner| Self::HangUp { knows_partner }))
             .collect()
     }
 
@@ -254,12 +270,14 @@ mod tests {
     use reference::request::{COLLECT, TIMER};
 
     #[test]
-    fn there_are_42_steps_of_requests_260_of_frames_and_25_with_held_blocks() {
+    fn there_are_42_steps_of_requests_260_of_frames_25_with_held_blocks_and_2_hang_ups() {
         let all = Step::all();
         let count = |is_one: fn(&&Step) -> bool| all.iter().filter(is_one).count();
         assert_eq!(count(|step| matches!(step, Step::Request { .. })), 42);
         assert_eq!(count(|step| matches!(step, Step::Frame { .. })), 260);
-        assert_eq!(all.len(), 327);
+        assert_eq!(Step::all_with_held().count(), 25);
+        assert_eq!(count(|step| matches!(step, Step::HangUp { .. })), 2);
+        assert_eq!(all.len(), 329);
         let different: BTreeSet<_> = all.iter().collect();
         assert_eq!(different.len(), all.len());
     }
@@ -271,9 +289,9 @@ mod tests {
         coverage.see(&closed, &[0x40]);
         coverage.see(&closed, &[0x40]);
         coverage.see(&closed, &[0x40, 0x00]);
-        assert_eq!(coverage.report().failed, 326);
+        assert_eq!(coverage.report().failed, 328);
         coverage.see(&closed, &[1, 0, 0, 0, 7, 0, 0, 0, 0]);
-        assert_eq!(coverage.report().failed, 325);
+        assert_eq!(coverage.report().failed, 327);
         assert_eq!(coverage.report_least(2).failed, 0);
         assert_eq!(coverage.report_least(5).failed, 3);
     }
@@ -313,5 +331,32 @@ mod tests {
         let dr = |s, r| message(Signal::Dr as u8, &[s, r], &[]);
         assert_eq!(shown(&[vec![COLLECT], vec![CLOSE], dr(3, 5)]), 3);
         assert_eq!(shown(&[vec![TIMER], dr(4, 5), dr(3, 6)]), 0);
+    }
+
+    /// The hang-ups that a close shows at an end of this state with this D.
+    fn hang_ups(state: State, remote: u32) -> Vec<Step> {
+        let numbers = Numbers {
+            local: 5,
+            remote,
+            accepted: 0,
+            handed_up: 0,
+        };
+        let mut coverage = Coverage::default();
+        coverage.see(&numbers.record(state, &[]), &[CLOSE]);
+        coverage.see(&numbers.record(state, &[]), &[TIMER]);
+        let is_hang_up = |step: &Step| matches!(step, Step::HangUp { .. });
+        coverage.0.into_iter().filter(is_hang_up).collect()
+    }
+
+    #[test]
+    fn hang_ups_are_told_apart_by_the_partner_and_happen_while_calling_alone() {
+        for (remote, knows_partner) in [(0, false), (1, true), (u32::MAX, true)] {
+            let right = [Step::HangUp { knows_partner }];
+            assert_eq!(hang_ups(State::Calling, remote), right);
+        }
+        for state in [State::Answering, State::Open, State::Closing] {
+            assert_eq!(hang_ups(state, 3), []);
+        }
+        assert_eq!(hang_ups(State::Closed, 0), []);
     }
 }

@@ -116,7 +116,7 @@ pub fn sound(random: &mut Random) -> [u8; RECORD] {
     };
     let remote = match state {
         State::Closed | State::Listening => 0,
-        State::Calling => limit(random, 0),
+        State::Calling => heard(random),
         State::Answering | State::Open | State::Closing => limit(random, 1),
     };
     let numbers = Numbers {
@@ -128,6 +128,14 @@ pub fn sound(random: &mut Random) -> [u8; RECORD] {
     match state {
         State::Open => open(random, numbers),
         _ => numbers.record(state, &[]),
+    }
+}
+
+/// D of a calling end: none as often as one, since the two are hung up in different ways.
+fn heard(random: &mut Random) -> u32 {
+    match random.within(0..=1) {
+        0 => 0,
+        _ => limit(random, 0),
     }
 }
 
@@ -236,6 +244,22 @@ mod tests {
         }
         assert!(states.iter().all(|&times| times > 100));
         assert!(counts.iter().all(|&times| times > 10));
+    }
+
+    #[test]
+    fn sound_records_of_calling_ends_know_a_partner_or_none() {
+        let mut random = Random::new(3);
+        let [mut unheard, mut heard] = [0; 2];
+        for _ in 0..5_000 {
+            let record = sound(&mut random);
+            if record[0] == State::Calling as u8 {
+                match Numbers::of(&record).remote {
+                    0 => unheard += 1,
+                    _ => heard += 1,
+                }
+            }
+        }
+        assert!(unheard > 200 && heard > 200, "{unheard} {heard}");
     }
 
     #[test]

@@ -1,9 +1,11 @@
 //! The comparison finds what is wrong, and nothing else.
 
+mod hanging_up;
 mod held;
 
-use super::{calls, compare, Bench, Lent, Named, Reply};
+use super::{calls, compare, lines, questions, Bench, Lent, Named, Reply};
 use crate::coverage::Coverage;
+use crate::group::Group;
 use crate::records::{self, HELD_LENGTHS};
 use crate::Reference;
 use reference::bench::book::{self, Place, BOOK, HEAD, PLACE, PLACES};
@@ -119,6 +121,21 @@ fn the_reference_equals_itself_and_keeps_its_promises() {
 /// How many calls of one round fail.
 fn failed<B: Bench>() -> u64 {
     calls::<B>(1, &mut Coverage::default()).failed
+}
+
+/// How many lines of four rounds fail: a fault that few lines show needs more of them.
+fn failed_lines<B: Bench>() -> u64 {
+    lines::<B>(4, &mut Coverage::default()).report().failed
+}
+
+/// How many questions of four rounds fail.
+fn failed_questions<B: Bench>() -> u64 {
+    let groups = questions::<B>(4);
+    groups
+        .iter()
+        .map(Group::report)
+        .map(|score| score.failed)
+        .sum()
 }
 
 /// Names the last frame of all that may be named.
@@ -410,12 +427,12 @@ impl<const FAULT: u8> Bench for Misnaming<FAULT> {
 #[test]
 fn every_fault_of_the_question_is_found() {
     let failed = [
-        failed::<Misnaming<ALWAYS_NONE>>(),
-        failed::<Misnaming<NAMES_THE_NEXT>>(),
-        failed::<Misnaming<NAMES_WHAT_14_REFUSES>>(),
-        failed::<Misnaming<LOOKS_AT_ONE_TOO_FEW>>(),
-        failed::<Misnaming<NEVER_REFUSES>>(),
-        failed::<Misnaming<NAMES_WHAT_ONLY_SENDS>>(),
+        failed_questions::<Misnaming<ALWAYS_NONE>>(),
+        failed_questions::<Misnaming<NAMES_THE_NEXT>>(),
+        failed_questions::<Misnaming<NAMES_WHAT_14_REFUSES>>(),
+        failed_questions::<Misnaming<LOOKS_AT_ONE_TOO_FEW>>(),
+        failed_questions::<Misnaming<NEVER_REFUSES>>(),
+        failed_questions::<Misnaming<NAMES_WHAT_ONLY_SENDS>>(),
     ];
     assert!(failed.iter().all(|&failed| failed > 0), "{failed:?}");
 }

@@ -1,8 +1,10 @@
 //! The comparison finds what is wrong, and nothing else.
 
+mod hanging_up;
 mod held;
 
-use super::{compare, End, Reply};
+use super::{compare, requests, End, Reply};
+use crate::coverage::Coverage;
 use crate::Reference;
 use reference::frame::LONGEST_FRAME;
 use reference::record::{Record, RECORD};
@@ -65,6 +67,12 @@ fn the_reference_equals_itself_and_keeps_its_promises() {
     let score = compare::<Checked>(1);
     assert_eq!(score.failed, 0);
     assert!(score.passed > 150_000);
+}
+
+/// How many requests of an implementation fail.
+fn failed_requests<E: End>() -> u64 {
+    let group = requests::<E>(1, &mut Coverage::default());
+    group.report().failed
 }
 
 /// The reference with a fault.

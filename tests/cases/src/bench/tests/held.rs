@@ -1,6 +1,6 @@
 //! What is wrong about held blocks on a bench is found.
 
-use super::{failed, number};
+use super::{failed, failed_questions, number};
 use crate::bench::{Bench, Lent, Named, Reply};
 use crate::records::{held, Numbers};
 use crate::Reference;
@@ -152,9 +152,9 @@ fn above(records: [&[u8]; 2], book: &[u8], frame: usize) -> Option<(u32, bool)> 
 #[test]
 fn every_fault_of_the_question_about_early_blocks_is_found() {
     let failed = [
-        failed::<Misnaming<LEAVES_OUT_EARLY_BLOCKS>>(),
-        failed::<Misnaming<NAMES_SECOND_COPIES>>(),
-        failed::<Misnaming<NAMES_THE_EIGHTH_ABOVE>>(),
+        failed_questions::<Misnaming<LEAVES_OUT_EARLY_BLOCKS>>(),
+        failed_questions::<Misnaming<NAMES_SECOND_COPIES>>(),
+        failed_questions::<Misnaming<NAMES_THE_EIGHTH_ABOVE>>(),
     ];
     assert!(failed.iter().all(|&failed| failed > 0), "{failed:?}");
 }

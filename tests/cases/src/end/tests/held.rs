@@ -1,6 +1,7 @@
 //! What is wrong about held blocks is found.
 
-use super::super::{frames, requests, End, Reply};
+use super::super::{frames, End, Reply};
+use super::failed_requests;
 use crate::coverage::Coverage;
 use crate::records::unsound::{self, Fault};
 use crate::records::{held, hold, Numbers, HELD_LENGTHS};
@@ -10,12 +11,6 @@ use reference::frame::Body;
 use reference::record::RECORD;
 use reference::request::COLLECT;
 use reference::{Frame, State};
-
-/// How many requests of an implementation fail.
-fn failed_requests<E: End>() -> u64 {
-    let group = requests::<E>(1, &mut Coverage::default());
-    group.report().failed
-}
 
 /// How many frames of an implementation fail.
 fn failed_frames<E: End>() -> u64 {
