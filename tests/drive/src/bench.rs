@@ -1,6 +1,7 @@
 //! What is asked of a bench program.
 
 pub mod full;
+pub mod hanging_up;
 pub mod odd;
 pub mod overtaking;
 pub mod replay;

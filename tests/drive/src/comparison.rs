@@ -1,6 +1,7 @@
 //! The program's answers beside those of the reference.
 
 use crate::handed_up::HandedUp;
+use crate::hung_up::HungUp;
 use crate::program::{self, Run};
 use crate::reference_program::ReferenceProgram;
 use crate::script::Script;
@@ -18,6 +19,7 @@ pub struct Comparison<P> {
     program: OsString,
     pub coverage: Coverage,
     pub handed_up: HandedUp,
+    pub hung_up: HungUp,
     reference: PhantomData<P>,
 }
 
@@ -28,6 +30,7 @@ impl<P: ReferenceProgram> Comparison<P> {
             program,
             coverage: Coverage::default(),
             handed_up: HandedUp::default(),
+            hung_up: HungUp::default(),
             reference: PhantomData,
         }
     }
@@ -52,6 +55,7 @@ impl<P: ReferenceProgram> Comparison<P> {
     /// Compares the program's answer to each line of a script.
     fn script(&mut self, group: &mut Group, number: u32, script: &Script, run: &Run) {
         let mut reference = P::default();
+        self.hung_up.start();
         let mut found = Answers(&run.output);
         for (place, line) in (1..).zip(script.lines()) {
             let right = self.answer(&mut reference, line);
@@ -75,12 +79,12 @@ impl<P: ReferenceProgram> Comparison<P> {
     /// The answer of the reference. The step that it makes is noted.
     fn answer(&mut self, reference: &mut P, line: &[u8]) -> Vec<u8> {
         let meeting = reference.meeting(line);
-        if let Some((record, message)) = &meeting {
-            self.coverage.see(*record, message);
-        }
-        let message = meeting.map_or(Vec::new(), |(_, message)| message);
         let answer = reference.answer(line);
-        self.handed_up.see(&message, P::notice(&answer));
+        if let Some(meeting) = meeting {
+            self.coverage.see(&meeting.record, &meeting.message);
+            self.handed_up.see(&meeting.message, P::notice(&answer));
+            self.hung_up.see(&meeting, P::number(&answer));
+        }
         answer
     }
 }

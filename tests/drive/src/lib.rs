@@ -6,6 +6,8 @@ pub mod bench;
 pub mod comparison;
 mod end;
 pub mod handed_up;
+pub mod hanging_up;
+pub mod hung_up;
 pub mod long;
 pub mod nearby;
 pub mod odd;

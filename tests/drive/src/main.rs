@@ -6,7 +6,8 @@
 
 use cases::group::{Group, Score};
 use drive::comparison::Comparison;
-use drive::{altered, nearby, odd, overtaking, program, sessions, typed};
+use drive::hung_up::HungUp;
+use drive::{altered, hanging_up, nearby, odd, overtaking, program, sessions, typed};
 use reference::program::LineProgram;
 use std::process::ExitCode;
 
@@ -23,6 +24,7 @@ fn main() -> ExitCode {
     let groups = [
         comparison.group("sessions", &[0, 8, 10], sessions::scripts()),
         comparison.group("overtaking", &[0, 10], overtaking::scripts()),
+        comparison.group("hanging up", &[0, 8], hanging_up::scripts()),
         comparison.group("numbers nearby", &[0, 7, 8, 10], nearby::scripts()),
         comparison.group(
             "altered lines",
@@ -35,5 +37,7 @@ fn main() -> ExitCode {
     let lines: Score = groups.iter().map(Group::report).sum();
     let steps = comparison.coverage.report();
     let blocks = comparison.handed_up.report();
-    [lines, steps, blocks].into_iter().sum::<Score>().conclude()
+    let late = comparison.hung_up.report_least(HungUp::SORTS);
+    let scores = [lines, steps, blocks, late];
+    scores.into_iter().sum::<Score>().conclude()
 }

@@ -5,7 +5,7 @@ use cases::random::Random;
 use cases::sample::{hex_digits, message, EDGES};
 use reference::frame::{DATA, LONGEST_FRAME};
 use reference::line::{self, LONGEST_LINE};
-use reference::request::{CONNECT, SEND};
+use reference::request::{CLOSE, CONNECT, LISTEN, SEND, TIMER};
 
 /// The run of the document.
 pub const RUN: &[u8] = b"41\n010000000700000000\n030000000700000001\n\
@@ -133,7 +133,7 @@ fn counts(run: &[u8], lead: &[u8]) -> Script {
 /// Frames of every kind with all combinations of numbers at the edges, to ends of several states.
 fn edges() -> Script {
     let mut script = Script::default();
-    for request in [0x40, 0x41, 0x45] {
+    for request in [CONNECT, LISTEN, CLOSE, TIMER] {
         for sender in EDGES {
             for quoted in EDGES {
                 for number in EDGES {

@@ -1,18 +1,30 @@
 //! The programs of the reference that others are compared with.
 
+#[cfg(test)]
+use crate::script::Script;
 use reference::bench::program::BenchProgram;
+use reference::bench::Side;
 use reference::line;
 use reference::program::LineProgram;
 use reference::record::RECORD;
 use reference::stream::Lines;
+
+/// A message that an end is about to meet.
+pub struct Meeting {
+    /// Which end it is; that of a program with one end is A.
+    pub side: Side,
+    /// The end's record before.
+    pub record: [u8; RECORD],
+    pub message: Vec<u8>,
+}
 
 /// A program of the reference, as it starts.
 pub trait ReferenceProgram: Lines + Default {
     /// So many characters of an answer line stand before its number.
     const LEAD: usize;
 
-    /// The record that is about to meet a message with this line, and the message.
-    fn meeting(&self, line: &[u8]) -> Option<(&[u8; RECORD], Vec<u8>)>;
+    /// What an end is about to meet with this line, if anything.
+    fn meeting(&self, line: &[u8]) -> Option<Meeting>;
 
     /// The answer to this line.
     fn answer(&mut self, line: &[u8]) -> Vec<u8> {
@@ -40,19 +52,39 @@ fn byte(digits: &[u8]) -> u8 {
 impl ReferenceProgram for LineProgram {
     const LEAD: usize = 0;
 
-    fn meeting(&self, line: &[u8]) -> Option<(&[u8; RECORD], Vec<u8>)> {
+    fn meeting(&self, line: &[u8]) -> Option<Meeting> {
         let message = line::read(line).ok()?;
-        Some((self.record(), message.to_vec()))
+        Some(Meeting {
+            side: Side::A,
+            record: *self.record(),
+            message: message.to_vec(),
+        })
     }
 }
 
 impl ReferenceProgram for BenchProgram {
     const LEAD: usize = 2;
 
-    fn meeting(&self, line: &[u8]) -> Option<(&[u8; RECORD], Vec<u8>)> {
+    fn meeting(&self, line: &[u8]) -> Option<Meeting> {
         let (side, message) = cases::bench::meeting(self.used(), line)?;
-        Some((self.record(side), message))
+        Some(Meeting {
+            side,
+            record: *self.record(side),
+            message,
+        })
     }
+}
+
+/// What the ends of a program meet with this script, each with the number of its answer.
+#[cfg(test)]
+pub fn meetings<P: ReferenceProgram>(script: &Script) -> Vec<(Meeting, u8)> {
+    let mut program = P::default();
+    let lines = script.lines().filter_map(|line| {
+        let meeting = program.meeting(line);
+        let number = P::number(&program.answer(line));
+        meeting.map(|meeting| (meeting, number))
+    });
+    lines.collect()
 }
 
 #[cfg(test)]
@@ -64,7 +96,7 @@ mod tests {
         let mut program = P::default();
         let lines = lines.iter().map(|line| {
             let meeting = program.meeting(line.as_bytes());
-            let message = meeting.map(|(_, message)| message);
+            let message = meeting.map(|meeting| meeting.message);
             program.answer(line.as_bytes());
             message
         });

@@ -21,8 +21,16 @@ pub fn scripts() -> impl Iterator<Item = Script> {
         .flat_map(|(seed, calls)| session(seed, calls))
 }
 
+/// Makes a request of an end in this state.
+pub type Requests = fn(&mut Random, State) -> Vec<u8>;
+
 /// The two scripts of a session with so many calls.
 pub fn session(seed: u64, calls: usize) -> [Script; 2] {
+    session_of(seed, calls, request)
+}
+
+/// The same with these requests.
+pub fn session_of(seed: u64, calls: usize, request: Requests) -> [Script; 2] {
     let mut random = Random::new(seed);
     let [mut a, mut b] = [Party::default(), Party::default()];
     let deliveries = random.within(3..=8);
@@ -75,7 +83,7 @@ pub fn request(random: &mut Random, state: State) -> Vec<u8> {
         (_, 0) => random.pick(&REQUEST_KINDS),
         (State::Closed, _) => random.pick(&[CONNECT, LISTEN]),
         (State::Listening, 1 | 2) => END_LISTENING,
-        (State::Open, 1) => CLOSE,
+        (State::Calling | State::Open, 1) => CLOSE,
         (State::Open, 2..=19) => SEND,
         (State::Open, 20..=27) => COLLECT,
         _ => TIMER,

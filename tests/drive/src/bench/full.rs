@@ -86,4 +86,11 @@ mod tests {
         let tally = tally(scripts(), is_collect);
         assert!(tally[0] > 100 && tally[14] > 20, "{tally:?}");
     }
+
+    #[test]
+    fn a_full_book_refuses_a_close_only_if_a_partner_is_known() {
+        let is_close = |line: &[u8]| matches!(line, b"5043" | b"5143");
+        let tally = tally(scripts(), is_close);
+        assert!(tally[0] > 20 && tally[14] > 20, "{tally:?}");
+    }
 }

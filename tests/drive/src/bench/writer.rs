@@ -2,7 +2,7 @@
 
 use crate::reference_program::ReferenceProgram;
 use crate::script::Script;
-use crate::sessions::{request, Taken};
+use crate::sessions::{request, Requests, Taken};
 use cases::bench::deliver;
 use cases::random::Random;
 use cases::records::waiting;
@@ -28,6 +28,7 @@ pub struct Manner {
     pub deliveries: usize,
     /// So many deliveries of ten are of any frame, however old.
     pub old: usize,
+    pub request: Requests,
 }
 
 impl Manner {
@@ -36,6 +37,7 @@ impl Manner {
         Self {
             deliveries: random.within(3..=8),
             old: random.pick(&[0, 0, 1, 4, 10]),
+            request,
         }
     }
 }
@@ -64,7 +66,7 @@ impl Writer {
                 let number = self.frame_for(random, manner, side);
                 self.deliver(number);
             } else {
-                let request = request(random, self.state(side));
+                let request = (manner.request)(random, self.state(side));
                 self.request(side, &request);
             }
         }

@@ -5,7 +5,7 @@
 //! starts fresh, its own frames are right, and no script is long enough to use up numbers.
 
 use cases::group::{Group, Score};
-use drive::bench::{full, odd, overtaking, replay, sessions};
+use drive::bench::{full, hanging_up, odd, overtaking, replay, sessions};
 use drive::comparison::Comparison;
 use drive::{altered, program, typed};
 use reference::bench::program::BenchProgram;
@@ -18,7 +18,9 @@ const ALTERED: u64 = 16;
 /// So many lines has each session with faults whose book is not filled.
 const LINES: usize = 800;
 /// So many steps of the step table are met at least. Others need frames that no end sends.
-const STEPS: usize = 212;
+const STEPS: usize = 229;
+/// So many sorts of frames come after a hang-up. No end sends others.
+const LATE: usize = 29;
 
 fn main() -> ExitCode {
     let Some(program) = program::named("drive-bench PROGRAM") else {
@@ -31,6 +33,7 @@ fn main() -> ExitCode {
     let groups = [
         comparison.group("sessions", &[0, 8, 10, 13, 14], sessions::scripts()),
         comparison.group("overtaking", &[0, 10, 14], overtaking::scripts()),
+        comparison.group("hanging up", &[0, 8], hanging_up::scripts()),
         comparison.group("full books", &[0, 8, 10, 13, 14], full::scripts()),
         comparison.group("frames again", &[0, 8, 13, 14], replay::scripts()),
         comparison.group(
@@ -48,5 +51,7 @@ fn main() -> ExitCode {
     let lines: Score = groups.iter().map(Group::report).sum();
     let steps = comparison.coverage.report_least(STEPS);
     let blocks = comparison.handed_up.report();
-    [lines, steps, blocks].into_iter().sum::<Score>().conclude()
+    let late = comparison.hung_up.report_least(LATE);
+    let scores = [lines, steps, blocks, late];
+    scores.into_iter().sum::<Score>().conclude()
 }
