@@ -33,7 +33,7 @@ pub struct Ladder {
     lines: &'static str,
 }
 
-pub const LADDERS: [Ladder; 2] = [
+pub const LADDERS: [Ladder; 3] = [
     Ladder {
         file: "opening.svg",
         title: "A call that opens",
@@ -43,6 +43,11 @@ pub const LADDERS: [Ladder; 2] = [
         file: "refused-call.svg",
         title: "A refused call",
         lines: include_str!("../../../examples/story.in"),
+    },
+    Ladder {
+        file: "hung-up.svg",
+        title: "A call that is hung up",
+        lines: "5140 5040 520000 5043 520003 520004",
     },
 ];
 
@@ -317,6 +322,20 @@ mod tests {
         assert_eq!(count("refused-call.svg", "marker-end"), 5);
         let last = last_event("refused-call.svg");
         assert_eq!((last.side, last.notice), (Side::A, "2 rejected"));
+        assert_eq!(last.left, "closed, L = 1, D = 0");
+    }
+
+    #[test]
+    fn the_hung_up_call_never_opens_and_ends_with_notice_4() {
+        assert_eq!(count("hung-up.svg", ">lost<"), 2);
+        assert_eq!(count("hung-up.svg", ">CRAO(1,1)<"), 1);
+        assert_eq!(count("hung-up.svg", ">DR(1,1)<"), 1);
+        assert_eq!(count("hung-up.svg", ">DRACK(1,1)<"), 1);
+        assert_eq!(count("hung-up.svg", ">open,"), 0);
+        assert_eq!(count("hung-up.svg", ">notice 2 rejected<"), 1);
+        assert_eq!(count("hung-up.svg", "marker-end"), 3);
+        let last = last_event("hung-up.svg");
+        assert_eq!((last.side, last.notice), (Side::A, "4 close finished"));
         assert_eq!(last.left, "closed, L = 1, D = 0");
     }
 

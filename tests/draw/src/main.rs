@@ -1,4 +1,4 @@
-//! Draws what the protocol's document shows: `draw FOLDER` writes the diagram of the states and two
+//! Draws what the protocol's document shows: `draw FOLDER` writes the diagram of the states and
 //! ladder diagrams into the folder, and the step table into the folder's PROTOCOL.md.
 //!
 //! All of it is computed from what the reference does, so that the document cannot say anything
@@ -89,7 +89,13 @@ mod tests {
         let folder = Path::new("docs");
         let once = files(folder, EMPTY).unwrap();
         let names: Vec<_> = once.iter().map(|(path, _)| path.file_name()).collect();
-        let expected = [STATES, DOCUMENT, "opening.svg", "refused-call.svg"];
+        let expected = [
+            STATES,
+            DOCUMENT,
+            "opening.svg",
+            "refused-call.svg",
+            "hung-up.svg",
+        ];
         assert_eq!(names, expected.map(|name| Some(name.as_ref())));
         let (_, document) = &once[1];
         assert_eq!(files(folder, document), Ok(once));

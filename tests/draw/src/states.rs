@@ -14,13 +14,13 @@ use reference::State::{self, Answering, Calling, Closed, Closing, Listening, Ope
 
 const TITLE: &str = "The states of an end";
 const WIDTH: i32 = 960;
-const HEIGHT: i32 = 660;
+const HEIGHT: i32 = 684;
 /// Where the legend stands.
 const LEGEND: (i32, i32) = (640, 70);
 
 /// Each state's box: left, top, width, height.
 const BOXES: [(State, [i32; 4]); 6] = [
-    (Closed, [20, 36, 120, 604]),
+    (Closed, [20, 36, 120, 628]),
     (Listening, [500, 56, 120, 48]),
     (Calling, [500, 476, 120, 48]),
     (Answering, [500, 191, 120, 48]),
@@ -42,9 +42,15 @@ const PLACES: &[Place] = &[
     place(Closed, Calling, &[(140, 489), (500, 489)], Above),
     place(Calling, Closed, &[(500, 511), (140, 511)], Below),
     place(
+        Calling,
+        Closing,
+        &[(620, 500), (896, 500), (896, 374)],
+        Above,
+    ),
+    place(
         Closing,
         Closed,
-        &[(900, 374), (900, 625), (140, 625)],
+        &[(924, 374), (924, 649), (140, 649)],
         Above,
     ),
 ];
@@ -362,6 +368,15 @@ mod tests {
         assert_eq!(
             text(Closed, Calling),
             "from closed to calling: connect / CRAO(L,0)."
+        );
+        assert_eq!(
+            text(Calling, Closing),
+            "from calling to closing: close, D ≥ 1 / DR(L,D)."
+        );
+        assert_eq!(
+            text(Calling, Closed),
+            "from calling to closed: close, D = 0 / notice 4; REJ, r = L / notice 2; \
+             DR, r = L / DRACK(L,s), notice 2."
         );
     }
 

@@ -181,6 +181,8 @@ mod tests {
 | closed | DR | | closed | | DRACK(L,s) | |
 | listening | CRAO | | answering | D = s | CRPO(L,s) | |
 | listening | CRPO | | listening | | RESET(L,s) | |
+| calling | close | D = 0 | closed | | | 4 close finished |
+| calling | close | D ≥ 1 | closing | | DR(L,D) | |
 | calling | timer | | calling | | CRAO(L,D) | |
 | calling | CRAO, CRPO | r = L | open | D = s | CRACK(L,s) | 1 connected |
 | calling | CRAO | r ≠ L | calling | D = s | CRAO(L,s) | |
@@ -189,6 +191,7 @@ mod tests {
 | calling | DR | r ≠ L | calling | | DRACK(L,s) | |
 | answering | CRACK | s = D, r = L | open | | | 1 connected |
 | answering | REJ, RESET | r = L | listening | | | |
+| open | close | | closing | | DR(L,D) | |
 | open | send | | open | t + 1, the block waits | DATA(L,D,t) | |
 | open | timer | a block waits | open | | DATA(L,D,t − w) | |
 | open | collect | block e is held | open | e + 1 | ACK(L,D,e) | 5 block handed up |
@@ -220,8 +223,12 @@ mod tests {
         for start in [
             "| closed | timer |",
             "| closed | REJ |",
+            "| closed | close |",
             "| listening | connect |",
+            "| listening | close |",
+            "| answering | close |",
             "| answering | DATA |",
+            "| closing | close |",
             "| closing | send |",
             "| closing | collect |",
         ] {

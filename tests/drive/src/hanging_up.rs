@@ -41,7 +41,8 @@ mod tests {
     use reference::program::LineProgram;
     use std::collections::BTreeSet;
 
-    /// The ends that are asked to close: which of the two, its state, and whether it knows a partner.
+    /// The ends that are asked to close: which of the two, its state, and whether it knows a
+    /// partner.
     fn closes<P: ReferenceProgram>(
         scripts: impl Iterator<Item = Script>,
     ) -> BTreeSet<(usize, u8, bool)> {

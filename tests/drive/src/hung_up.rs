@@ -92,7 +92,8 @@ impl HungUp {
         }));
     }
 
-    /// Prints how many sorts of frames came. Each one that is missing to this many is a failed case.
+    /// Prints how many sorts of frames came. Each one that is missing to this many is a failed
+    /// case.
     pub fn report_least(&self, least: usize) -> Score {
         let seen = self.late.len();
         println!("frames after a hang-up: {seen} sorts seen, {least} expected at least");
