@@ -8,7 +8,7 @@ use cases::sample::{block, message};
 use reference::request::{CLOSE, CONNECT, END_LISTENING, LISTEN, SEND, TIMER};
 use reference::State;
 
-const SESSIONS: u64 = 24;
+const SESSIONS: u64 = 30;
 /// So many calls have the two ends of each.
 const CALLS: usize = 500;
 
@@ -21,7 +21,7 @@ pub fn scripts() -> impl Iterator<Item = Script> {
 pub fn request(random: &mut Random, state: State) -> Vec<u8> {
     let kind = match (state, random.within(0..=15)) {
         (_, 0) => CLOSE,
-        (State::Closed, 1..=9) => CONNECT,
+        (State::Closed, 1..=12) => CONNECT,
         (State::Closed, _) => LISTEN,
         (State::Listening, 1..=5) => END_LISTENING,
         (State::Calling | State::Open, 1..=4) => CLOSE,

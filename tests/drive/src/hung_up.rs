@@ -115,6 +115,8 @@ mod tests {
     use reference::frame::Signal::{self, Crack, Crao, Crpo, Dr, Drack, Rej};
     use reference::frame::DATA;
     use reference::program::LineProgram;
+    use reference::record::RECORD;
+    use reference::Notice;
 
     /// What comes after the hang-ups of these scripts.
     fn late<P: ReferenceProgram>(scripts: impl Iterator<Item = Script>) -> BTreeSet<Late> {
@@ -178,6 +180,37 @@ mod tests {
         let hung_up = HungUp::default();
         assert_eq!(hung_up.report_least(0).failed, 0);
         assert_eq!(hung_up.report_least(HungUp::SORTS).failed, 36);
+    }
+
+    /// Is the end of this record another's partner, as that one opens? It names it back, and
+    /// neither is closed nor listens.
+    fn is_partner(record: &[u8; RECORD], opening: &[u8; RECORD]) -> bool {
+        let [own, other] = [record, opening].map(Numbers::of);
+        let names_back = (own.local, own.remote) == (other.remote, other.local);
+        let state = State::of(record[0]);
+        names_back && !matches!(state, Some(State::Closed | State::Listening))
+    }
+
+    #[test]
+    fn who_opens_has_a_partner_which_may_have_hung_up() {
+        let mut hung_up = HungUp::default();
+        let mut times = 0;
+        for script in bench::hanging_up::scripts() {
+            let mut program = BenchProgram::default();
+            hung_up.start();
+            for line in script.lines() {
+                let meeting = program.meeting(line);
+                let answer = program.answer(line);
+                let Some(meeting) = meeting else { continue };
+                hung_up.see(&meeting, BenchProgram::number(&answer));
+                if BenchProgram::notice(&answer) == Notice::Connected as u8 {
+                    let [side, other] = [meeting.side, meeting.side.other()];
+                    assert!(is_partner(program.record(other), program.record(side)));
+                    times += usize::from(hung_up.last[other.index()] == Some(Told));
+                }
+            }
+        }
+        assert!(times > 10, "{times}");
     }
 
     /// The kinds of those that come after this hang-up, and quote the call or not.

@@ -173,6 +173,14 @@ mod tests {
     }
 
     #[test]
+    fn a_call_that_is_hung_up_unheard_is_told_without_a_frame() {
+        let answers = "8002000000000100000000\n010000000100000000\n\
+            8000040000000100000000\n\
+            8800000000000100000000\n";
+        assert_eq!(output(b"40\n43\n43\n"), answers);
+    }
+
+    #[test]
     fn the_stored_run_of_collect() {
         let input = include_bytes!("../../../examples/collect.in");
         let answers = include_str!("../../../examples/collect.out");

@@ -87,6 +87,18 @@ mod tests {
     }
 
     #[test]
+    fn a_call_that_is_hung_up() {
+        let input = "5140\n5040\n520000\n5043\n520003\n520004\n";
+        let answers = "518002000000000100000000\n010000000100000000\n\
+            508002000000000100000000\n010000000100000000\n\
+            508002000000000100000001\n010000000100000001\n\
+            508005000000000100000001\n060000000100000001\n\
+            518000020000000100000000\n070000000100000001\n\
+            508000040000000100000000\n";
+        assert_eq!(output(input), answers);
+    }
+
+    #[test]
     fn the_story_of_a_refused_call() {
         let input = include_str!("../../../../examples/story.in");
         let answers = include_str!("../../../../examples/story.out");
