@@ -49,6 +49,31 @@ static void test_opening(dock_end *caller, dock_end *listener) {
     expect(is_open(&a) && a.sent == 0, "the listener opens");
 }
 
+/* Calls are hung up: one that has heard of nobody, then one that has heard the partner's own call. */
+static void test_hanging_up(dock_end *caller, dock_end *partner) {
+    uint8_t call[DOCK_FRAME];
+    dock_init(caller);
+    dock_init(partner);
+    dock_answer a = dock_ask_kind(caller, DOCK_CLOSE);
+    expect(a.number == DOCK_WRONG_STATE && a.state == DOCK_CLOSED && is_silent(&a), "a closed end has nothing to hang up");
+    dock_ask_kind(caller, DOCK_CONNECT);
+    a = dock_ask_kind(caller, DOCK_CLOSE);
+    expect(a.state == DOCK_CLOSED && a.notice == DOCK_CLOSE_FINISHED && a.sent == 0, "a call to nobody is closed at once");
+    expect(a.number == DOCK_OK && a.local == 1 && a.remote == 0, "it keeps its number");
+    a = dock_ask_kind(partner, DOCK_CONNECT);
+    memcpy(call, a.sent_at, a.sent);
+    dock_ask_kind(caller, DOCK_CONNECT);
+    a = dock_hear(caller, call, a.sent);
+    expect(a.state == DOCK_CALLING && a.local == 2 && a.remote == 1, "the partner calls too");
+    a = dock_ask_kind(caller, DOCK_CLOSE);
+    expect(a.number == DOCK_OK && a.state == DOCK_CLOSING && a.notice == DOCK_NONE && a.remote == 1, "a call that was heard is closing");
+    expect(a.sent == 9 && a.sent_at == caller->out && a.sent_at[0] == DOCK_DR, "the partner is told");
+    a = dock_hear(partner, a.sent_at, a.sent);
+    expect(a.state == DOCK_CLOSED && a.notice == DOCK_REJECTED && a.sent_at[0] == DOCK_DRACK, "the partner's call is over");
+    a = dock_hear(caller, a.sent_at, a.sent);
+    expect(a.state == DOCK_CLOSED && a.notice == DOCK_CLOSE_FINISHED && a.sent == 0, "the caller is closed");
+}
+
 /* A block of each length that is allowed comes up as it was sent, and is acknowledged. */
 static void test_blocks(dock_end *from, dock_end *to) {
     uint8_t block[DOCK_BLOCK], frame[DOCK_FRAME];
@@ -195,6 +220,7 @@ static void test_names(void) {
 
 int main(void) {
     static dock_end caller, listener;
+    test_hanging_up(&caller, &listener);
     test_opening(&caller, &listener);
     test_blocks(&caller, &listener);
     test_blocks(&listener, &caller);

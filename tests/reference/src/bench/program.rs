@@ -87,18 +87,6 @@ mod tests {
     }
 
     #[test]
-    fn a_call_that_is_hung_up() {
-        let input = "5140\n5040\n520000\n5043\n520003\n520004\n";
-        let answers = "518002000000000100000000\n010000000100000000\n\
-            508002000000000100000000\n010000000100000000\n\
-            508002000000000100000001\n010000000100000001\n\
-            508005000000000100000001\n060000000100000001\n\
-            518000020000000100000000\n070000000100000001\n\
-            508000040000000100000000\n";
-        assert_eq!(output(input), answers);
-    }
-
-    #[test]
     fn the_story_of_a_refused_call() {
         let input = include_str!("../../../../examples/story.in");
         let answers = include_str!("../../../../examples/story.out");
@@ -106,7 +94,7 @@ mod tests {
     }
 
     #[test]
-    fn the_stored_runs_of_blocks_that_overtake() {
+    fn the_stored_runs_of_blocks_that_overtake_and_of_calls_that_are_hung_up() {
         for (input, answers) in [
             (
                 include_str!("../../../../examples/overtake.in"),
@@ -115,6 +103,14 @@ mod tests {
             (
                 include_str!("../../../../examples/full-book.in"),
                 include_str!("../../../../examples/full-book.out"),
+            ),
+            (
+                include_str!("../../../../examples/hang-up.in"),
+                include_str!("../../../../examples/hang-up.out"),
+            ),
+            (
+                include_str!("../../../../examples/hang-up-full-book.in"),
+                include_str!("../../../../examples/hang-up-full-book.out"),
             ),
         ] {
             assert_eq!(output(input), answers);
