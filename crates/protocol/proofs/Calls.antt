@@ -94,7 +94,7 @@ module _ {e : Endpoint} (f : Frame) (s : Sane e) (l : Laden e) where
   closes : 1 ≤ e .state → Fires e f [] (hungUp e)
   unfolding hungUp
   closes h =
-      if-eq (Fires e f []) (e .remote) 0
+      if-eq (Fires e f []) _ _
       (λ z. fires (drops h (alone z)) (clears tt tt) silence)
       (λ n. fires (hangs-up h (omega arith)) (clears tt tt) (dr refl))
 

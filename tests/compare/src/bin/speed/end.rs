@@ -63,6 +63,7 @@ pub fn measure(measure: &mut impl Measure) {
     let closed = record(State::Closed, 0, [0, 0], 0);
     let listening = record(State::Listening, 0, [0, 0], 0);
     let calling = record(State::Calling, 0, [0, 0], 0);
+    let called = record(State::Calling, 7, [0, 0], 0);
     let answering = record(State::Answering, 7, [0, 0], 0);
     let open = record(State::Open, 7, [0, 0], 0);
     let full = record(State::Open, 7, [8, 0], 8);
@@ -88,6 +89,10 @@ pub fn measure(measure: &mut impl Measure) {
         compare(measure, name, record, frame, RECEIVE);
     }
     for (name, record, kind) in [
+        ("calling: close with D = 0", calling, 0x43),
+        ("calling: close with D = 7", called, 0x43),
+        ("open: close", open, 0x43),
+        ("open: close with 8 waiting and 8 held", crowded, 0x43),
         ("open: send of 64", open, 0x44),
         ("open: timer with none waiting", open, 0x45),
         ("open: timer with 8 waiting", full, 0x45),
