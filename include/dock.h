@@ -69,8 +69,8 @@ enum { DOCK_CRAO = 0x01, DOCK_CRPO, DOCK_CRACK, DOCK_REJ, DOCK_RESET, DOCK_DR, D
  * The first byte of a request. A send has a count byte and its block after it, the others are that byte alone.
  *
  * A close hangs up, in an open connection or while calling. Its end is DOCK_CLOSING then, and DOCK_CLOSE_FINISHED is told when the
- * partner has heard it; but where the end calls and knows no partner yet (remote is 0) it is DOCK_CLOSED at once, with that notice and
- * nothing to send. In every other state it is refused: DOCK_WRONG_STATE.
+ * partner has heard it, or is found to have left by itself. But where the end calls and knows no partner yet (remote is 0) it is
+ * DOCK_CLOSED at once, with that notice and nothing to send. In every other state a close is refused: DOCK_WRONG_STATE.
  */
 enum { DOCK_CONNECT = 0x40, DOCK_LISTEN, DOCK_END_LISTENING, DOCK_CLOSE, DOCK_SEND, DOCK_TIMER, DOCK_COLLECT };
 

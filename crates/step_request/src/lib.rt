@@ -118,7 +118,8 @@ fn close(n: Numbers, held: &[u8]) -> Plan
     requires { ⌜ length (now held) ≡ heldSize ⌝ }
     ensures { λ r. ⌜ ((b x : Block) → Planned n (now (held .entry)) b x (request close) r) ⌝ }
 {
-    let allowed = (n.state == ACTIVE_OPENING) | (n.state == ESTABLISHED);
+    let state = n.state;
+    let allowed = (state == ACTIVE_OPENING) | (state == ESTABLISHED);
     if !allowed {
         return step_plan::refuse(n, refusal::WRONG_STATE);
     }

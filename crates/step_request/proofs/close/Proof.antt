@@ -11,20 +11,20 @@ use Rattle.step_request.proofs.close.Statement.{statement}
 use Rattle.step_request.proofs.close.Tie as tie
 
 returns : tie.Need-returns
-returns c = λ b x q h old w _ lz. let a = c .before .before .before .before .before .args in refuses (a .n) q h b x old w 8 (close-8 (holding (a .n) q h) (c .before .if1 .taken)) (c .refuse .ensures)
+returns c = λ b x q h old w _ lz. let a = c .before .before .before .args in refuses (a .n) q h b x old w 8 (close-8 (holding (a .n) q h) (c .before .if1 .taken)) (c .refuse .ensures)
 
 returns-2 : tie.Need-returns-2
 unfolding noticeNumber sentBy
 returns-2 c = λ b x q h old w _ lz.
-    let a = c .before .before .before .before .before .before .before .args in
-    turns (a .n) q h b x old w _ lz (c .before .before .before .before .before .before .before .pre) 0 0 closeFinished Nothing
+    let a = c .before .before .before .before .before .args in
+    turns (a .n) q h b x old w _ lz (c .before .before .before .before .before .pre) 0 0 closeFinished Nothing
     (close-unheard (holding (a .n) q h) (c .before .before .before .if1 .left) (c .before .if2 .taken)) (c .turn .ensures)
 
 returns-3 : tie.Need-returns-3
 unfolding noticeNumber sentBy frameOf
 returns-3 c = λ b x q h old w _ lz.
-    let a = c .before .before .before .before .before .before .before .args in
-    turns (a .n) q h b x old w _ lz (c .before .before .before .before .before .before .before .pre) 5 (a .n .remote) none (Frame (Dr (a .n .local) (a .n .remote)))
+    let a = c .before .before .before .before .before .args in
+    turns (a .n) q h b x old w _ lz (c .before .before .before .before .before .pre) 5 (a .n .remote) none (Frame (Dr (a .n .local) (a .n .remote)))
     (close-heard (holding (a .n) q h) (c .before .before .before .if1 .left) (c .before .if2 .left)) (c .turn2 .ensures)
 
 pub close-spec : {M : Type 1} → statement M
