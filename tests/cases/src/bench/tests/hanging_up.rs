@@ -15,13 +15,8 @@ const HANGS_UP_BEFORE_14: u8 = 1;
 
 impl<const FAULT: u8> Bench for Broken<FAULT> {
     fn line(lent: Lent, line: &[u8]) -> Reply {
-        let Lent {
-            records: [a, b],
-            book,
-            count,
-            out,
-            up,
-        } = lent;
+        let count = lent.count;
+        let [a, b] = lent.records;
         let remote = match line {
             b"5043" => calling_remote(a),
             b"5143" => calling_remote(b),
@@ -29,10 +24,7 @@ impl<const FAULT: u8> Bench for Broken<FAULT> {
         };
         let broken = Lent {
             records: [&mut *a, &mut *b],
-            book,
-            count,
-            out,
-            up,
+            ..lent
         };
         let mut reply = Reference::line(broken, line);
         match (FAULT, remote, reply.end.number) {
