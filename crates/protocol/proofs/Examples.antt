@@ -50,9 +50,9 @@ unfolding entries answersOf unheard calledByBoth answeredTooLate answeredAnew op
 hung-up = record {
   before-anything = record { due = (tt, (tt, tt)); right = refl };
   by-one-of-both = record { due = (tt, (tt, (last, (tt, (last, (last, tt)))))); right = refl };
+  before-the-other-opens = record { due = (tt, (tt, (last, (tt, (List·Memᴰ·tail last, (last, (last, tt))))))); right = refl };
   before-the-answer = record { due = (tt, (tt, (last, (tt, (tt, (last, (last, tt))))))); right = refl };
   before-an-answer-anew = record { due = (tt, (tt, (last, (tt, (tt, (last, (tt, (last, (last, (tt, (last, (last, tt)))))))))))); right = refl };
-  before-the-other-opens = record { due = (tt, (tt, (last, (tt, (List·Memᴰ·tail last, (last, (last, tt))))))); right = refl };
 }
 
 pub so-it-opens-late : Demand ends start (entries opensLate)
