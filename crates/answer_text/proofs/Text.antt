@@ -14,7 +14,7 @@ use Rattle.hex.specs.Line.{hex}
 use Rattle.hex.proofs.Digits.{length-hex}
 use Rattle.frame.specs.Frame.{Block}
 use Rattle.call_spec.specs.declared.Status.{Status}
-use Rattle.answer_text.specs.Text.{asLine, counted, answerOctets, frameLine, textOf, longestAnswer}
+use Rattle.answer_text.specs.Text.{asLine, counted, answerOctets, answerLine, frameLine, textOf, longestAnswer}
 use Rattle.answer_text.specs.Text.{Begins}
 
 pub length-line : (s : List ℕ) → length (asLine s) ≡ 2 * length s + 1
@@ -96,21 +96,25 @@ told-room t b d h l w =
     let k = told-short t b h in
     (omega (arith, w .count), ap length (w .buffer) ∙ length-put d (answerOctets t b) 0 (omega arith) ∙ l)
 
+-- and its line has room for them
+pub line-short : (t : Status) (b : Block) → length b ≤ longestBlock → length (answerLine t b) ≤ 2 * longestAnswer + 1
+line-short t b h = omega (arith, length-line (answerOctets t b), told-short t b h)
+
 -- the answer line alone, and with the frame's line after it
-pub text-none : (t : Status) (b : Block) (sent d : List ℕ) → length sent ≡ 0 → {x : List ℕ} {m : ℕ} → Begins (asLine (answerOctets t b)) d x m
+pub text-none : (t : Status) (b : Block) (sent d : List ℕ) → length sent ≡ 0 → {x : List ℕ} {m : ℕ} → Begins (answerLine t b) d x m
     → Begins (textOf t b sent) d x m
 unfolding textOf frameLine
-text-none t b sent d h w = rw (none sent h, append-nil (asLine (answerOctets t b))) w
+text-none t b sent d h w = rw (none sent h, append-nil (answerLine t b)) w
 
-with-frame : (t : Status) (b : Block) (sent : List ℕ) → length sent ≢ 0 → textOf t b sent ≡ asLine (answerOctets t b) ++ asLine sent
+with-frame : (t : Status) (b : Block) (sent : List ℕ) → length sent ≢ 0 → textOf t b sent ≡ answerLine t b ++ asLine sent
 unfolding textOf frameLine
 with-frame t b [] h = absurd (h refl)
 with-frame t b (x ∷ sent) h = refl
 
-pub text-some : (t : Status) (b : Block) (sent d : List ℕ) → length sent ≢ 0 → {x y : List ℕ} {m k : ℕ} → Begins (asLine (answerOctets t b)) d x m
+pub text-some : (t : Status) (b : Block) (sent d : List ℕ) → length sent ≢ 0 → {x y : List ℕ} {m k : ℕ} → Begins (answerLine t b) d x m
     → m ≤ length d → Begins (asLine sent) (take (length x - m) (drop m x)) y k → Begins (textOf t b sent) d (take m x ++ (y ++ drop (length x - m) (drop m x))) (m + k)
 text-some t b sent d h {x} {y} {m} {k} w l v =
-    let p = asLine (answerOctets t b) in
+    let p = answerLine t b in
     let q = asLine sent in
     rw (with-frame t b sent h)
     (record {

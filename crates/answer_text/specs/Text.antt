@@ -31,8 +31,12 @@ unfoldable pub frameLine : List ℕ → List ℕ
 frameLine [] = []
 frameLine (b ∷ s) = asLine (b ∷ s)
 
+-- the answer line
+abbrev pub answerLine : Status → Block → List ℕ
+answerLine t block = asLine (answerOctets t block)
+
 unfoldable pub textOf : Status → Block → List ℕ → List ℕ
-textOf t block sent = asLine (answerOctets t block) ++ frameLine sent
+textOf t block sent = answerLine t block ++ frameLine sent
 
 -- The octets of an answer line: its numbers, the count and the longest block.
 abbrev pub longestAnswer : ℕ
