@@ -100,6 +100,10 @@ told-room t b d h l w =
 pub line-short : (t : Status) (b : Block) → length b ≤ longestBlock → length (answerLine t b) ≤ 2 * longestAnswer + 1
 line-short t b h = omega (arith, length-line (answerOctets t b), told-short t b h)
 
+-- without a block it has 23 characters
+pub length-told : (t : Status) → length (answerLine t []) ≡ 23
+length-told t = length-line (answerOctets t []) ∙ ap (λ (n : ℕ). 2 * n + 1) (length-numbers t)
+
 -- the answer line alone, and with the frame's line after it
 pub text-none : (t : Status) (b : Block) (sent d : List ℕ) → length sent ≡ 0 → {x : List ℕ} {m : ℕ} → Begins (answerLine t b) d x m
     → Begins (textOf t b sent) d x m

@@ -3,26 +3,45 @@ use Prim.Native.Nat.{ℕ, _≤_, _<_}
 use mathlib.Core.Path.{_≡_, refl, sym, ap, _∙_}
 use mathlib.Core.Logic.{_≢_}
 use mathlib.Core.Bool.{true}
-use mathlib.Core.List.{List}
+use mathlib.Core.List.{List, [], _∷_}
+use native.Mathlib.Omega.{arith}
 use borrow.Author.Tests.{le-leb, lt-leb, leb-true}
 use lib.ListN.{length}
 use Rattle.octets.specs.Sizes.{longestFrame}
-use Rattle.octets.specs.Test.{when, first, Outcome, refused, ok, outcome, refusing, mapped}
-use Rattle.octets.proofs.Test.{all-yes, all-before, refuses-before}
+use Rattle.octets.specs.Test.{when, inRange, first, Outcome, refused, ok, outcome, refusing, mapped}
+use Rattle.octets.proofs.Test.{all-yes, refusing-of}
 use Rattle.octets.specs.Octets.{left}
-use Rattle.hex.specs.Line.{unhex, lineQuestions, readInto, lineOf}
+use Rattle.hex.specs.Line.{unhex, lengthOk, lineQuestions, readInto, lineOf}
 use Rattle.hex.specs.declared.Line.the-variants.{Refused}
 use Rattle.hex.proofs.Asked.{turned-away}
 use Rattle.protocol.specs.Table.{Step}
 use Rattle.call_spec.specs.Calls.{performed}
 use Rattle.link.specs.Record.{format, recordQuestions}
+use Rattle.link.specs.Lent.{stands}
 use Rattle.answer_text.specs.declared.Output.{Output}
 use Rattle.answer_text.specs.declared.Output.the-variants as output
 use Rattle.answer_text.specs.Text.{outputOf, answerRoom}
 use Rattle.answer_text.proofs.Outputs.{output-fits}
-use Rattle.line_answer.specs.Line.{lineCall, lineOutcome}
+use Rattle.line_answer.specs.Line.{lineCall, lineAsks, lineOutcome}
 use Rattle.line_answer.specs.Text.{text, inRoom, recordLeft, LineAnswered}
 use Rattle.line_answer.specs.Internal.{Gives}
+
+-- what a line makes that has a character, as one has that passes 1 and 2
+makes-call : (rec line : List ℕ) → length line ≢ 0 → lineAsks rec line ≡ refusing (first (lineQuestions line)) (performed format rec (lineCall (unhex line)))
+unfolding lineAsks
+makes-call rec [] h = absurd (h refl)
+makes-call rec (c ∷ line) h = refl
+
+has-some : (line : List ℕ) → first (lineQuestions line) ≡ 0 → length line ≢ 0
+unfolding first when lengthOk inRange
+has-some [] h = absurd (omega (arith, h))
+has-some (c ∷ line) h = λ z. omega arith
+
+-- and what one makes that has none
+asks-none : (rec line : List ℕ) → length line ≡ 0 → lineAsks rec line ≡ ok (stands rec)
+unfolding lineAsks
+asks-none rec [] h = refl
+asks-none rec (c ∷ line) h = absurd (omega arith)
 
 module _ (rec line : List ℕ) where
   abbrev comes : Outcome Step
@@ -31,21 +50,27 @@ module _ (rec line : List ℕ) where
   -- 11 and 12 of the record come first
   pub unready : {n : ℕ} → n ≡ first (recordQuestions rec) → n ≢ 0 → lineOutcome rec line ≡ refused n
   unfolding lineOutcome
-  unready e h = refuses-before comes (recordQuestions rec) (lineQuestions line) e h
+  unready {n} e h = rw (sym e) (refusing-of (lineAsks rec line) n h)
 
   module _ (y : first (recordQuestions rec) ≡ 0) where
-    next : lineOutcome rec line ≡ refusing (first (lineQuestions line)) comes
-    unfolding lineOutcome
-    next = ap (λ (m : ℕ). refusing m comes) (all-before (recordQuestions rec) (lineQuestions line) (tt, (tt, tt)) y)
+    next : lineOutcome rec line ≡ lineAsks rec line
+    unfolding lineOutcome refusing
+    next = ap (λ (m : ℕ). refusing m (lineAsks rec line)) y
 
-    -- then 1 and 2 of the line
+    -- a line of no characters asks how the end stands
+    pub asks-standing : length line ≡ 0 → lineOutcome rec line ≡ ok (stands rec)
+    asks-standing z = next ∙ asks-none rec line z
+
+    -- every other is asked 1 and 2
     pub line-asks : first (lineQuestions line) ≡ 0 → lineOutcome rec line ≡ comes
     unfolding refusing
-    line-asks h = next ∙ ap (λ (m : ℕ). refusing m comes) h
+    line-asks h = next ∙ makes-call rec line (has-some line h) ∙ ap (λ (m : ℕ). refusing m comes) h
 
-    pub declined : (d : List ℕ) → length d ≡ longestFrame → {n : ℕ} → lineOf (readInto line d) ≡ Refused n → lineOutcome rec line ≡ refused n
+    pub declined : length line ≢ 0 → (d : List ℕ) → length d ≡ longestFrame → {n : ℕ} → lineOf (readInto line d) ≡ Refused n → lineOutcome rec line ≡ refused n
     unfolding refusing
-    declined d l {n} h = let q = turned-away line d l n h in next ∙ ap (λ (m : ℕ). refusing m comes) (q .1) ∙ ap refused (sym (q .2))
+    declined z d l {n} h =
+        let q = turned-away line d l n h in
+        next ∙ makes-call rec line z ∙ ap (λ (m : ℕ). refusing m comes) (q .1) ∙ ap refused (sym (q .2))
 
 -- what 11 and 12 ask of a record holds
 pub asked-of : (rec : List ℕ) → first (recordQuestions rec) ≡ 0 → (format .size ≤ length rec) × (format .sound rec ≡ true)

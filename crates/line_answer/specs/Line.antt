@@ -1,10 +1,8 @@
 -- What a line comes to at one end.
 use Prim.Native.Nat.{ℕ}
-use mathlib.Core.List.{List, _∷_}
-use lib.Dec.{leb}
-use lib.ListN.{length}
+use mathlib.Core.List.{List, [], _∷_}
 use Rattle.octets.specs.Sizes.{longestFrame, longestBlock}
-use Rattle.octets.specs.Test.{when, first, Outcome, refusing}
+use Rattle.octets.specs.Test.{when, first, Outcome, ok, refusing}
 use Rattle.hex.specs.Line.{unhex, lineQuestions}
 use Rattle.frame.specs.Layout.{isRequest}
 use Rattle.frame.specs.Read.{kindOf}
@@ -12,7 +10,8 @@ use Rattle.protocol.specs.Table.{Step}
 use Rattle.call_spec.specs.declared.Call.{Call}
 use Rattle.call_spec.specs.declared.Call.the-variants.{Request, Receive}
 use Rattle.call_spec.specs.Calls.{Arguments, given, rooms, performed}
-use Rattle.link.specs.Record.{format}
+use Rattle.link.specs.Record.{format, recordQuestions}
+use Rattle.link.specs.Lent.{stands}
 
 -- The call that a line's octets make: a request by its kind, and anything else is received.
 unfoldable pub callIn : List ℕ → Call
@@ -22,9 +21,12 @@ callIn s = when (isRequest (kindOf s)) Request Receive
 abbrev pub lineCall : List ℕ → Arguments
 lineCall s = given (callIn s) s (rooms longestFrame longestBlock)
 
--- 11 and 12 of the record, 1 and 2 of the line, then what the call asks.
+-- What a line asks of an end that may be asked. The line of no characters asks how the end stands (document 02, N5). Every other makes a call: 1 and 2 of the
+-- line, then what the call asks.
+unfoldable pub lineAsks : List ℕ → List ℕ → Outcome Step
+lineAsks rec [] = ok (stands rec)
+lineAsks rec (c ∷ line) = refusing (first (lineQuestions (c ∷ line))) (performed format rec (lineCall (unhex (c ∷ line))))
+
+-- 11 and 12 of the record come first.
 unfoldable pub lineOutcome : List ℕ → List ℕ → Outcome Step
-lineOutcome rec line =
-    refusing
-    (first ((11, leb (format .size) (length rec)) ∷ (12, format .sound rec) ∷ lineQuestions line))
-    (performed format rec (lineCall (unhex line)))
+lineOutcome rec line = refusing (first (recordQuestions rec)) (lineAsks rec line)

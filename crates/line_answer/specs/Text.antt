@@ -10,7 +10,7 @@ use Rattle.protocol.specs.Table.{Step}
 use Rattle.call_spec.specs.Calls.{wire, recordAfter}
 use Rattle.call_spec.specs.Answers.{sentIn, blockOf}
 use Rattle.link.specs.Record.{format}
-use Rattle.link.specs.Lent.{statusOf}
+use Rattle.link.specs.Lent.{statusOf, stands}
 use Rattle.answer_text.specs.declared.Output.{Output}
 use Rattle.answer_text.specs.Text.{textOf, outputOf, answerRoom}
 use Rattle.line_answer.specs.Line.{lineOutcome}
@@ -18,6 +18,10 @@ use Rattle.line_answer.specs.Line.{lineOutcome}
 -- the text of a call's outcome
 unfoldable pub text : List ℕ → Outcome Step → List ℕ
 text rec o = textOf (statusOf rec o) (blockOf o) (wire (sentIn o))
+
+-- the answer to an empty line, which says how the end stands
+abbrev pub standing : List ℕ → List ℕ
+standing rec = text rec (ok (stands rec))
 
 -- A line's answer into a buffer: without room for it, nothing is asked of the end.
 unfoldable pub inRoom : List ℕ → List ℕ → List ℕ → Outcome (Outcome Step)

@@ -10,10 +10,11 @@ ghost use lib.ListN.{length};
 ghost use Rattle.octets.specs.Sizes.{longestFrame};
 ghost use Rattle.octets.specs.Test.{first, refused};
 ghost use Rattle.call_spec.specs.Calls.{performed};
+ghost use Rattle.endpoint.specs.Record.{recordSize};
 ghost use Rattle.link.specs.Record.{format, recordQuestions};
-ghost use Rattle.answer_text.specs.Text.{answerRoom};
+ghost use Rattle.answer_text.specs.Text.{answerRoom, Begins};
 ghost use Rattle.line_answer.specs.Line.{callIn, lineCall};
-ghost use Rattle.line_answer.specs.Text.{LineAnswered};
+ghost use Rattle.line_answer.specs.Text.{standing, LineAnswered};
 ghost use Rattle.line_answer.specs.Internal.{Gives};
 
 // The call that the octets of a line make.
@@ -53,6 +54,15 @@ fn refuse(rec: &[u8], number: u8, out: &mut [u8]) -> usize
     answer_text::write_text(told, &rec[..0], &rec[..0], out)
 }
 
+// Writes the answer to an empty line to the start of out: how the end with the record rec stands, in 23 characters.
+pub fn stand(rec: &[u8], out: &mut [u8]) -> usize
+    requires { ⌜ (recordSize ≤ length (now rec)) × (length (standing (now rec)) ≤ length (now out)) ⌝ }
+    ensures { λ r. ⌜ Begins (standing (now (rec .entry))) (now (out .entry)) (now (out .exit)) r ⌝ }
+{
+    let told = link::stands(rec);
+    answer_text::write_answer(told, &rec[..0], out)
+}
+
 // Answers a line, which is given without its line feed, at the end with the record rec: the answer line and, if a frame is sent,
 // its line go to the start of out, which needs room for answer_text::ANSWER_ROOM characters.
 pub fn answer(rec: &mut [u8], line: &[u8], out: &mut [u8]) -> Output
@@ -64,6 +74,9 @@ pub fn answer(rec: &mut [u8], line: &[u8], out: &mut [u8]) -> Output
     let asked = link::ready(rec);
     if asked != 0 {
         return Output::Written(refuse(rec, asked, out));
+    }
+    if line.len() == 0 {
+        return Output::Written(stand(rec, out));
     }
     let mut s = [0u8; octets::LONGEST_FRAME];
     let read = hex::read(line, &mut s);

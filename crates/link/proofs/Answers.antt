@@ -94,16 +94,15 @@ pub received-same : {o : Outcome Step} {rec s out up rec′ out′ up′ : List 
 unfolding blockPart blockBufferAfter
 received-same c = record { answer = c .answer; end = c .end; buffer = c .buffer; block-buffer = refl; block = c .block }
 
--- what a refusal tells: of a buffer that is too short for a record nothing, else its numbers
+-- what is told of a record as it stands: of a buffer that is too short for one nothing, else its numbers
 pub tells-short : (rec : List ℕ) (n : ℕ) → length rec < recordSize
     → record { status = record { number = n; state = 0; notice = 0; local = 0; remote = 0 }; sent = 0; block = 0 } ≡ answerOf rec (refused n)
 unfolding answerOf statusOf toldOf sentOf blockOf noticeOf numberOf pack when
 tells-short rec n h = rw (lt-leb recordSize (length rec) h) refl
 
 pub tells : (rec : List ℕ) (n : ℕ) → recordSize ≤ length rec
-    → record { status = record { number = n; state = decode rec .state; notice = 0; local = decode rec .local; remote = decode rec .remote }; sent = 0; block = 0 }
-    ≡ answerOf rec (refused n)
-unfolding answerOf statusOf toldOf sentOf blockOf noticeOf numberOf when
+    → record { number = n; state = decode rec .state; notice = 0; local = decode rec .local; remote = decode rec .remote } ≡ statusOf rec (refused n)
+unfolding statusOf toldOf noticeOf numberOf when
 tells rec n h = rw (le-leb recordSize (length rec) h) refl
 
 pub too-short : (rec : List ℕ) (c : Arguments) → length rec < recordSize → performed format rec c ≡ refused 11

@@ -6,7 +6,7 @@ use lib.Dec.{leb}
 use lib.ListN.{length}
 use Rattle.octets.specs.Test.{when, first, Outcome, refused, ok, outcome, numberOf}
 use Rattle.protocol.specs.Endpoint.{fresh}
-use Rattle.protocol.specs.Table.{Step}
+use Rattle.protocol.specs.Table.{none, Step, quiet}
 use Rattle.call_spec.specs.declared.Call.{Call}
 use Rattle.call_spec.specs.Answers.{noticeOf, blockOf, blockPart, blockBufferAfter}
 use Rattle.endpoint.specs.declared.Endpoint.{Endpoint}
@@ -26,6 +26,10 @@ toldOf rec (ok x) = pack (x .endpoint)
 unfoldable pub statusOf : List ℕ → Outcome Step → Status
 statusOf rec o =
     record { number = numberOf o; state = toldOf rec o .state; notice = noticeOf o; local = toldOf rec o .local; remote = toldOf rec o .remote }
+
+-- How an end stands, which an empty line asks (document 02, N5): nothing moves, nothing is sent, there is no notice.
+abbrev pub stands : List ℕ → Step
+stands rec = quiet (format .holds rec) none
 
 -- the length of the frame sent; a refusal sends none
 unfoldable pub sentOf : Outcome Step → ℕ

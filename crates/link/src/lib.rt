@@ -14,7 +14,7 @@ ghost use mathlib.Core.Bool.{true};
 ghost use mathlib.Core.List.{[]};
 ghost use Prim.Native.Nat.{_≤_};
 ghost use lib.ListN.{length};
-ghost use Rattle.octets.specs.Test.{first, refused, numberOf};
+ghost use Rattle.octets.specs.Test.{first, refused, ok, numberOf};
 ghost use Rattle.octets.specs.Octets.{put, left};
 ghost use Rattle.call_spec.specs.declared.Call.the-variants.{Receive};
 ghost use Rattle.call_spec.specs.Calls.{given, rooms, performed};
@@ -22,7 +22,7 @@ ghost use Rattle.call_spec.specs.Answers.{blockOf};
 ghost use Rattle.endpoint.specs.Record.{recordSize, encode, decode};
 ghost use Rattle.endpoint_step.specs.Internal.{Plans, PlansAny, Fits, carried};
 ghost use Rattle.link.specs.Record.{format, recordQuestions};
-ghost use Rattle.link.specs.Lent.{answerOf, lentCall, CalledLent, answerIn, freshIn};
+ghost use Rattle.link.specs.Lent.{statusOf, stands, answerOf, lentCall, CalledLent, answerIn, freshIn};
 
 // The octets of a record.
 pub const RECORD_SIZE: usize = endpoint::RECORD_SIZE;
@@ -73,6 +73,29 @@ pub fn ready(rec: &[u8]) -> u8
     step_plan::ACCEPTED
 }
 
+// How a record stands, told with a number: its state, L and D, and no notice.
+fn tell(rec: &[u8], number: u8) -> Status
+    requires { ⌜ recordSize ≤ length (now rec) ⌝ }
+    ensures { λ r. ⌜ r ≡ statusOf (now (rec .entry)) (refused number) ⌝ }
+{
+    let n = endpoint::load_numbers(rec);
+    Status {
+        number,
+        state: n.state,
+        notice: step_plan::NONE,
+        local: n.local,
+        remote: n.remote,
+    }
+}
+
+// How an end stands, which an empty line asks.
+pub fn stands(rec: &[u8]) -> Status
+    requires { ⌜ recordSize ≤ length (now rec) ⌝ }
+    ensures { λ r. ⌜ r ≡ statusOf (now (rec .entry)) (ok (stands (now (rec .entry)))) ⌝ }
+{
+    tell(rec, step_plan::ACCEPTED)
+}
+
 // A refusal tells how the record stands; all is 0 where the buffer is too short for one.
 pub fn refuse(rec: &[u8], number: u8) -> Answer
     ensures { λ r. ⌜ r ≡ answerOf (now (rec .entry)) (refused number) ⌝ }
@@ -90,15 +113,8 @@ pub fn refuse(rec: &[u8], number: u8) -> Answer
             block: 0,
         };
     }
-    let n = endpoint::load_numbers(rec);
     Answer {
-        status: Status {
-            number,
-            state: n.state,
-            notice: step_plan::NONE,
-            local: n.local,
-            remote: n.remote,
-        },
+        status: tell(rec, number),
         sent: 0,
         block: 0,
     }

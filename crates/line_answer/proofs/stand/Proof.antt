@@ -1,0 +1,21 @@
+use mathlib.Core.Path.{sym, ap}
+use denote.Ref.{now}
+use lib.ListN.{length}
+use Rattle.line_answer.proofs.Ends.{standing-is}
+use native.Mathlib.Omega.{arith}
+use borrow.Author.Needs.{needs}
+use Rattle.line_answer.proofs.stand.Statement.{statement}
+use Rattle.line_answer.proofs.stand.Tie as tie
+
+write-answer-requires : tie.Need-write-answer-requires
+write-answer-requires c κs =
+    let s = c .before .before .before .before .before in
+    (omega arith, rw (c .before .before .stands .ensures, sym (standing-is (now (s .args .rec)))) (s .pre .1))
+
+returns : tie.Need-returns
+returns c = rw (standing-is (now (c .before .before .before .before .before .before .before .before .args .rec)), sym (c .before .before .before .before .before .stands .ensures)) (c .before .before .write-answer .ensures)
+
+pub stand-spec : {M : Type 1} → statement M
+stand-spec =
+    tie.close
+    (tie.spec (λ c κs. search needs) (λ c. search needs) write-answer-requires (λ c. search needs) returns)
