@@ -12,7 +12,7 @@ use Rattle.call_spec.specs.Calls.{performed, recordAfter}
 use Rattle.link.specs.Record.{format}
 use Rattle.link.specs.Lent.{freshRecord}
 use Rattle.answer_text.specs.Text.{answerRoom}
-use Rattle.line_answer.specs.Line.{lineCall, lineOutcome}
+use Rattle.line_answer.specs.Line.{lineCall, lineAsks, lineOutcome}
 use Rattle.line_answer.specs.Text.{text, inRoom}
 use Rattle.line_split.specs.Split.{cut}
 use Rattle.line_split.proofs.Long.{asks-cut}
@@ -24,17 +24,24 @@ use Rattle.line_io.proofs.Steps.{free, free-room}
 use Rattle.line_io.proofs.Program.{program-run}
 use Rattle.line.specs.Ends.{oneEnd}
 
+-- A line counts as what is kept of it.
+asks-alike : (rec l : List ℕ) → lineAsks rec (cut l) ≡ lineAsks rec l
+unfolding lineAsks cut
+asks-alike rec [] = refl
+asks-alike rec (c ∷ l) = asks-cut [] tt (λ (x : List ℕ). performed format rec (lineCall (unhex x))) (c ∷ l)
+
 same : (rec l : List ℕ) → lineOutcome rec (cut l) ≡ lineOutcome rec l
 unfolding lineOutcome
-same rec l = asks-cut ((11, leb (format .size) (length rec)) ∷ (12, format .sound rec) ∷ []) tt (λ (x : List ℕ). performed format rec (lineCall (unhex x))) l
+same rec l = rw (asks-alike rec l) refl
 
 pub cuts : Cuts oneEnd
 cuts = record { next = λ rec l. ap (recordAfter format rec) (same rec l); says = λ rec l. ap (text rec) (same rec l) }
 
 -- A line counts as its normal form, so an input is answered in either case with the same text.
 either-case : (rec l : List ℕ) → lineOutcome rec (normal l) ≡ lineOutcome rec l
-unfolding lineOutcome
-either-case rec l = rw (asked-alike l, unhex-normal l) refl
+unfolding lineOutcome lineAsks
+either-case rec [] = refl
+either-case rec (c ∷ l) = rw (asked-alike (c ∷ l), unhex-normal (c ∷ l)) refl
 
 pub either-case-text : (input : List ℕ) → inputText oneEnd freshRecord (normal input) ≡ inputText oneEnd freshRecord input
 either-case-text = input-normal oneEnd (λ rec l. ap (recordAfter format rec) (either-case rec l)) (λ rec l. ap (text rec) (either-case rec l)) freshRecord
