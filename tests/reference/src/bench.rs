@@ -12,7 +12,7 @@ use crate::block::LONGEST_BLOCK;
 use crate::buffer::{put, start, start_mut};
 use crate::call;
 use crate::frame::LONGEST_FRAME;
-use crate::record::{Record, RECORD};
+use crate::record::{ask_sound, Record, RECORD};
 use crate::{line, Block, Refusal};
 use book::{Place, BOOK, PLACE, PLACES};
 
@@ -129,7 +129,7 @@ impl<'r, 'a> Bench<'r, 'a> {
         let (places, _) = start::<BOOK>(book)?.as_chunks();
         let used = places.get(..count).ok_or(Refusal::Unsound)?;
         for record in records {
-            Record::read(&mut record.clone())?;
+            ask_sound(record)?;
         }
         Ok(Self { records, used })
     }

@@ -1,6 +1,6 @@
 //! The calls of one end, on buffers that the caller lends.
 
-use crate::buffer::start_mut;
+use crate::buffer::{start, start_mut};
 use crate::frame::LONGEST_FRAME;
 use crate::record::{self, Record, RECORD};
 use crate::step::{self, Outcome};
@@ -100,6 +100,13 @@ pub fn either<'a>(
         })
     });
     answer(record, made)
+}
+
+/// How an end stands, which is what an empty line asks: questions 11 and 12 of its record, then the
+/// state and the numbers. Nothing is sent, told or changed.
+pub fn standing(record: &[u8]) -> Answer<'static> {
+    let sound = start(record).and_then(record::ask_sound);
+    Answer::silent(record, refusal::number(sound))
 }
 
 /// What a call did, and the length of the frame sent.

@@ -1,7 +1,7 @@
 //! The line program: one end, asked line by line.
 
 use crate::block::LONGEST_BLOCK;
-use crate::call::{either, Answer};
+use crate::call::{either, standing, Answer};
 use crate::frame::LONGEST_FRAME;
 use crate::line;
 use crate::record::{self, RECORD};
@@ -29,10 +29,9 @@ impl LineProgram {
     pub fn record(&self) -> &[u8; RECORD] {
         &self.record
     }
-}
 
-impl Lines for LineProgram {
-    fn line(&mut self, line: &[u8], output: &mut Vec<u8>) {
+    /// A line that is not empty: questions 1 to 10, then the step of what it holds.
+    fn call(&mut self, line: &[u8], output: &mut Vec<u8>) {
         let mut frame = [0; LONGEST_FRAME];
         let mut up = [0; LONGEST_BLOCK];
         let bytes = line::read(line);
@@ -42,6 +41,20 @@ impl Lines for LineProgram {
         };
         append_answer(&answer, &frame, output);
     }
+}
+
+impl Lines for LineProgram {
+    fn line(&mut self, line: &[u8], output: &mut Vec<u8>) {
+        match line {
+            [] => append_standing(&self.record, output),
+            _ => self.call(line, output),
+        }
+    }
+}
+
+/// Appends the answer to an empty line: how the end with this record stands.
+pub fn append_standing(record: &[u8], output: &mut Vec<u8>) {
+    append_answer(&standing(record), &[], output);
 }
 
 /// Appends the answer line and, if a frame is sent, its line.
@@ -98,9 +111,52 @@ mod tests {
     #[test]
     fn no_input_is_no_line_and_a_lone_line_feed_an_empty_one() {
         assert_eq!(output(b""), "");
-        assert_eq!(output(b"\n"), "8100000000000000000000\n");
-        assert_eq!(output(b"\n\n"), "8100000000000000000000\n".repeat(2));
+        for count in [1, 2, 100_000] {
+            let answers = "8000000000000000000000\n".repeat(count);
+            assert_eq!(output(&vec![b'\n'; count]), answers);
+        }
         assert_eq!(output(b"45\n"), "8000000000000000000000\n");
+    }
+
+    /// The answer to this line.
+    fn answer(program: &mut LineProgram, line: &str) -> String {
+        let mut output = Vec::new();
+        program.line(line.as_bytes(), &mut output);
+        String::from_utf8(output).unwrap()
+    }
+
+    #[test]
+    fn an_empty_line_tells_how_the_end_stands_and_changes_nothing() {
+        let mut program = LineProgram::default();
+        for (line, standing) in [
+            ("42", "00000000000000000000"),
+            ("41", "01000000000100000000"),
+            ("010000000700000000", "03000000000100000007"),
+            ("030000000700000001", "04000000000100000007"),
+            ("44026162", "04000000000100000007"),
+            ("08000000070000000100000001026364", "04000000000100000007"),
+            ("08000000070000000100000000026162", "04000000000100000007"),
+            ("zz", "04000000000100000007"),
+            ("43", "05000000000100000007"),
+            ("070000000700000001", "00000000000100000000"),
+            ("40", "02000000000200000000"),
+            ("010000000900000000", "02000000000200000009"),
+        ] {
+            answer(&mut program, line);
+            let record = *program.record();
+            for _ in 0..2 {
+                assert_eq!(answer(&mut program, ""), format!("80{standing}\n"));
+            }
+            assert_eq!(program.record(), &record);
+        }
+    }
+
+    #[test]
+    fn only_the_line_of_no_characters_is_empty() {
+        for line in ["\r", " ", "\0", "\t", "0"] {
+            assert_eq!(number(line.as_bytes()), 1, "line {line:?}");
+        }
+        assert_eq!(number(b"\r\r"), 2);
     }
 
     /// The number that answers this line.
@@ -122,7 +178,6 @@ mod tests {
     #[test]
     fn lines_are_asked_1_to_8() {
         for (line, right) in [
-            ("", 1),
             ("4", 1),
             ("zzz", 1),
             ("41\r", 1),
@@ -181,10 +236,23 @@ mod tests {
     }
 
     #[test]
-    fn the_stored_run_of_collect() {
-        let input = include_bytes!("../../../examples/collect.in");
-        let answers = include_str!("../../../examples/collect.out");
-        assert_eq!(output(input), answers);
+    fn the_stored_runs() {
+        for (input, answers) in [
+            (
+                include_str!("../../../examples/collect.in"),
+                include_str!("../../../examples/collect.out"),
+            ),
+            (
+                include_str!("../../../examples/empty-lines.in"),
+                include_str!("../../../examples/empty-lines.out"),
+            ),
+            (
+                include_str!("../../../crates/line/stdin"),
+                include_str!("../../../crates/line/stdout"),
+            ),
+        ] {
+            assert_eq!(output(input.as_bytes()), answers);
+        }
     }
 
     #[test]

@@ -121,6 +121,11 @@ pub fn summary(record: &[u8]) -> (u8, u32, u32) {
     }
 }
 
+/// Question 12 of a record that is only read.
+pub fn ask_sound(record: &[u8; RECORD]) -> Result<(), Refusal> {
+    Record::read(&mut record.clone()).map(drop)
+}
+
 /// Makes the record that of a fresh end: closed, with both numbers 0.
 pub fn make_fresh(record: &mut [u8; RECORD]) {
     record.fill(0);

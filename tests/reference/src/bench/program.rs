@@ -94,7 +94,7 @@ mod tests {
     }
 
     #[test]
-    fn the_stored_runs_of_blocks_that_overtake_and_of_calls_that_are_hung_up() {
+    fn the_other_stored_runs() {
         for (input, answers) in [
             (
                 include_str!("../../../../examples/overtake.in"),
@@ -112,6 +112,10 @@ mod tests {
                 include_str!("../../../../examples/hang-up-full-book.in"),
                 include_str!("../../../../examples/hang-up-full-book.out"),
             ),
+            (
+                include_str!("../../../../crates/bench/stdin"),
+                include_str!("../../../../crates/bench/stdout"),
+            ),
         ] {
             assert_eq!(output(input), answers);
         }
@@ -121,6 +125,7 @@ mod tests {
     fn no_input_is_no_line_and_a_lone_line_feed_an_empty_one() {
         assert_eq!(output(""), "");
         assert_eq!(output("\n"), "508100000000000000000000\n");
+        assert_eq!(output("\n\n"), "508100000000000000000000\n".repeat(2));
     }
 
     /// The end byte and the number that answer this line after A called.
@@ -134,6 +139,7 @@ mod tests {
     fn the_end_byte_of_refused_lines() {
         for (line, right) in [
             ("\n", "5081"),
+            ("\r", "5081"),
             ("515", "5081"),
             ("51zz", "5082"),
             ("5G", "5082"),

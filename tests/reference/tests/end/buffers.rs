@@ -120,6 +120,34 @@ fn the_call_that_knows_both_asks_the_same() {
 }
 
 #[test]
+fn how_an_end_stands_is_told_after_11_and_12() {
+    let busy = holding(open(9, 2, &[b"b".as_slice(); 8]), &[(3, b"held")]);
+    let longer = [&busy[..], &[7]].concat();
+    let unsound = [0xff; RECORD];
+    let records: [(&[u8], u8); 6] = [
+        (&[], 11),
+        (&busy[1..], 11),
+        (&unsound[1..], 11),
+        (&unsound, 12),
+        (&busy, 0),
+        (&longer, 0),
+    ];
+    for (record, number) in records {
+        let (state, local, remote) = shown(record);
+        let right = Answer {
+            number,
+            state,
+            notice: 0,
+            local,
+            remote,
+            sent: 0,
+            block: None,
+        };
+        assert_eq!(call::standing(record), right);
+    }
+}
+
+#[test]
 fn a_malformed_old_frame_is_refused() {
     let calling = end(State::Calling, 5, 3);
     assert_eq!(
