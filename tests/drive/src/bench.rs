@@ -1,5 +1,6 @@
 //! What is asked of a bench program.
 
+pub mod empty_lines;
 pub mod full;
 pub mod hanging_up;
 pub mod odd;

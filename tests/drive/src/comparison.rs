@@ -5,6 +5,7 @@ use crate::hung_up::HungUp;
 use crate::program::{self, Run};
 use crate::reference_program::ReferenceProgram;
 use crate::script::Script;
+use crate::stood::Stood;
 use cases::coverage::Coverage;
 use cases::group::Group;
 use std::ffi::OsString;
@@ -20,6 +21,7 @@ pub struct Comparison<P> {
     pub coverage: Coverage,
     pub handed_up: HandedUp,
     pub hung_up: HungUp,
+    pub stood: Stood,
     reference: PhantomData<P>,
 }
 
@@ -31,6 +33,7 @@ impl<P: ReferenceProgram> Comparison<P> {
             coverage: Coverage::default(),
             handed_up: HandedUp::default(),
             hung_up: HungUp::default(),
+            stood: Stood::default(),
             reference: PhantomData,
         }
     }
@@ -56,6 +59,7 @@ impl<P: ReferenceProgram> Comparison<P> {
     fn script(&mut self, group: &mut Group, number: u32, script: &Script, run: &Run) {
         let mut reference = P::default();
         self.hung_up.start();
+        self.stood.start();
         let mut found = Answers(&run.output);
         for (place, line) in (1..).zip(script.lines()) {
             let right = self.answer(&mut reference, line);
@@ -67,6 +71,7 @@ impl<P: ReferenceProgram> Comparison<P> {
                 &Text(&right),
             );
         }
+        self.stood.end();
         if let Some(surplus) = found.next() {
             let surplus = Text(surplus);
             group.fail(&format_args!("script {number}: surplus output {surplus:?}"));
@@ -80,18 +85,20 @@ impl<P: ReferenceProgram> Comparison<P> {
     fn answer(&mut self, reference: &mut P, line: &[u8]) -> Vec<u8> {
         let meeting = reference.meeting(line);
         let answer = reference.answer(line);
+        let number = P::number(&answer);
         if let Some(meeting) = meeting {
             self.coverage.see(&meeting.record, &meeting.message);
             self.handed_up.see(&meeting.message, P::notice(&answer));
-            self.hung_up.see(&meeting, P::number(&answer));
+            self.hung_up.see(&meeting, number);
         }
+        self.stood.see(reference.first_record(), line, number);
         answer
     }
 }
 
 /// The answers in an output, each with all lines up to the next. An answer line starts with 8, or
 /// on the bench with 5; a frame's line starts with neither.
-struct Answers<'a>(&'a [u8]);
+pub struct Answers<'a>(pub &'a [u8]);
 
 impl<'a> Iterator for Answers<'a> {
     type Item = &'a [u8];
@@ -132,9 +139,9 @@ mod tests {
     use reference::bench::program::BenchProgram;
     use reference::program::LineProgram;
 
-    const INPUT: &[u8] = b"40\n040000000000000001\nzz";
-    const OUTPUT: &[u8] =
-        b"8002000000000100000000\n010000000100000000\n8000020000000100000000\n8200000000000100000000\n";
+    const INPUT: &[u8] = b"40\n\n040000000000000001\nzz";
+    const OUTPUT: &[u8] = b"8002000000000100000000\n010000000100000000\n\
+        8002000000000100000000\n8000020000000100000000\n8200000000000100000000\n";
     const BENCH_INPUT: &[u8] = b"5140\n520000\n520001\nzz";
     const BENCH_OUTPUT: &[u8] = b"518002000000000100000000\n010000000100000000\n\
         508000000000000000000000\n040000000000000001\n518000020000000100000000\n\
@@ -167,16 +174,16 @@ mod tests {
 
     #[test]
     fn every_byte_counts() {
-        assert_all_counts::<LineProgram>(INPUT, OUTPUT, 3);
+        assert_all_counts::<LineProgram>(INPUT, OUTPUT, 4);
         assert_all_counts::<BenchProgram>(BENCH_INPUT, BENCH_OUTPUT, 4);
     }
 
     #[test]
     fn surplus_output_and_a_failing_program_count() {
         let score = |output: &[u8], succeeded| score::<LineProgram>(INPUT, output, succeeded);
-        assert_eq!(score(&[OUTPUT, b"8"].concat(), true), (3, 1));
-        assert_eq!(score(&[OUTPUT, b"\n"].concat(), true), (2, 1));
-        assert_eq!(score(OUTPUT, false), (3, 1));
-        assert_eq!(score(b"", true), (0, 3));
+        assert_eq!(score(&[OUTPUT, b"8"].concat(), true), (4, 1));
+        assert_eq!(score(&[OUTPUT, b"\n"].concat(), true), (3, 1));
+        assert_eq!(score(OUTPUT, false), (4, 1));
+        assert_eq!(score(b"", true), (0, 4));
     }
 }

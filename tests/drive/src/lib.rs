@@ -4,6 +4,7 @@
 pub mod altered;
 pub mod bench;
 pub mod comparison;
+pub mod empty_lines;
 mod end;
 pub mod handed_up;
 pub mod hanging_up;
@@ -17,4 +18,5 @@ mod queue;
 pub mod reference_program;
 pub mod script;
 pub mod sessions;
+pub mod stood;
 pub mod typed;

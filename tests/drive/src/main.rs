@@ -7,7 +7,7 @@
 use cases::group::{Group, Score};
 use drive::comparison::Comparison;
 use drive::hung_up::HungUp;
-use drive::{altered, hanging_up, nearby, odd, overtaking, program, sessions, typed};
+use drive::{altered, empty_lines, hanging_up, nearby, odd, overtaking, program, sessions, typed};
 use reference::program::LineProgram;
 use std::process::ExitCode;
 
@@ -19,7 +19,9 @@ fn main() -> ExitCode {
         return ExitCode::FAILURE;
     };
     let [script, _] = sessions::session(600, TYPED);
+    let script = empty_lines::among(601, &script);
     let typed = typed::group::<LineProgram>(&program, &script);
+    let left_out = empty_lines::group(&program, empty_lines::scripts());
     let mut comparison = Comparison::<LineProgram>::new(program);
     let groups = [
         comparison.group("sessions", &[0, 8, 10], sessions::scripts()),
@@ -32,12 +34,19 @@ fn main() -> ExitCode {
             altered::scripts(),
         ),
         comparison.group("odd input", &[0, 1, 2, 3, 4, 5, 6, 7, 8], odd::scripts()),
+        comparison.group(
+            "empty lines",
+            &[0, 1, 2, 3, 4, 5, 6, 7, 8, 10],
+            empty_lines::scripts(),
+        ),
+        left_out,
         typed,
     ];
     let lines: Score = groups.iter().map(Group::report).sum();
     let steps = comparison.coverage.report();
     let blocks = comparison.handed_up.report();
     let late = comparison.hung_up.report_least(HungUp::SORTS);
-    let scores = [lines, steps, blocks, late];
+    let stood = comparison.stood.report();
+    let scores = [lines, steps, blocks, late, stood];
     scores.into_iter().sum::<Score>().conclude()
 }

@@ -11,6 +11,8 @@ use reference::request::{CLOSE, CONNECT, LISTEN, SEND, TIMER};
 pub const RUN: &[u8] = b"41\n010000000700000000\n030000000700000001\n\
     08000000070000000100000000026162\nzz\n";
 const MEGABYTE: usize = 1 << 20;
+/// So many bytes of its input a program takes at once.
+const PORTION: usize = 1 << 16;
 const RANDOM_SCRIPTS: usize = 20;
 const RANDOM_BYTES: usize = 4_000;
 
@@ -31,6 +33,8 @@ pub fn of(run: &[u8], leads: &[&[u8]]) -> Vec<Script> {
         scripts.push(counts(run, lead));
         scripts.extend(few_bytes(lead));
     }
+    scripts.extend(line_feeds());
+    scripts.extend(portions(run));
     scripts.extend(megabytes(run));
     scripts.extend(random_bytes());
     scripts
@@ -39,9 +43,15 @@ pub fn of(run: &[u8], leads: &[&[u8]]) -> Vec<Script> {
 /// Inputs of very few bytes, some with a request after this lead.
 fn few_bytes(lead: &[u8]) -> Vec<Script> {
     let request = line::write(&[lead, &[CONNECT]].concat());
-    let surroundings: [(&[u8], &[u8]); 8] = [
+    let surroundings: [(&[u8], &[u8]); 14] = [
         (b"", b""),
         (b"", b"\n"),
+        (b"", b"\n\n"),
+        (b"", b"\n\n\n"),
+        (b"", b"\n\n\r"),
+        (b"\n", b""),
+        (b"\n\n", b"\n"),
+        (b"\n\r\n", b"\n\n"),
         (b"", b"\r\n"),
         (b"\r\n", b""),
         (b"", b"\0\n"),
@@ -50,16 +60,37 @@ fn few_bytes(lead: &[u8]) -> Vec<Script> {
         (b"\xff\xfe", b"\n"),
     ];
     let requests = surroundings.map(|(before, after)| [before, &request, after].concat());
-    let inputs: [&[u8]; 6] = [
+    let inputs: [&[u8]; 8] = [
         b"",
-        b"\n",
-        b"\n\n\n",
+        b"\r",
+        b"\r\n",
+        b"\n\r\n\n\r",
         &request[..request.len() - 1],
         b"\0",
+        b"\0\n\n",
         "é\n".as_bytes(),
     ];
     let inputs = inputs.map(<[u8]>::to_vec);
     requests.into_iter().chain(inputs).map(Script).collect()
+}
+
+/// Nothing but line feeds: few, as many as a program takes at once, and one more.
+fn line_feeds() -> impl Iterator<Item = Script> {
+    let counts = [1, 2, 3, PORTION, PORTION + 1];
+    counts.into_iter().map(|count| Script(vec![b'\n'; count]))
+}
+
+/// A long line, and then this run with an empty line after each of its lines. The first portion of
+/// the input ends in every place of the run, also before each of its line feeds.
+fn portions(run: &[u8]) -> impl Iterator<Item = Script> {
+    let lines = run.split_inclusive(|&byte| byte == b'\n');
+    let spaced = lines.flat_map(|line| [line, b"\n"]).flatten();
+    let spaced: Vec<u8> = spaced.copied().collect();
+    (0..spaced.len()).map(move |place| {
+        let mut script = Script::from_iter([&vec![b'0'; PORTION - 1 - place][..]]);
+        script.0.extend(&spaced);
+        script
+    })
 }
 
 /// Lines of a megabyte: first, between others, last and unfinished, and with other characters.

@@ -23,6 +23,9 @@ pub trait ReferenceProgram: Lines + Default {
     /// So many characters of an answer line stand before its number.
     const LEAD: usize;
 
+    /// The record of its only end, or of A: what is told where a line names no end.
+    fn first_record(&self) -> &[u8; RECORD];
+
     /// What an end is about to meet with this line, if anything.
     fn meeting(&self, line: &[u8]) -> Option<Meeting>;
 
@@ -52,6 +55,10 @@ fn byte(digits: &[u8]) -> u8 {
 impl ReferenceProgram for LineProgram {
     const LEAD: usize = 0;
 
+    fn first_record(&self) -> &[u8; RECORD] {
+        self.record()
+    }
+
     fn meeting(&self, line: &[u8]) -> Option<Meeting> {
         let message = line::read(line).ok()?;
         Some(Meeting {
@@ -64,6 +71,10 @@ impl ReferenceProgram for LineProgram {
 
 impl ReferenceProgram for BenchProgram {
     const LEAD: usize = 2;
+
+    fn first_record(&self) -> &[u8; RECORD] {
+        self.record(Side::A)
+    }
 
     fn meeting(&self, line: &[u8]) -> Option<Meeting> {
         let (side, message) = cases::bench::meeting(self.used(), line)?;
@@ -105,8 +116,8 @@ mod tests {
 
     #[test]
     fn one_end_meets_what_is_on_the_line() {
-        let found = messages::<LineProgram>(&["40", "ff", "zz"]);
-        assert_eq!(found, [Some(vec![0x40]), Some(vec![0xff]), None]);
+        let found = messages::<LineProgram>(&["40", "ff", "zz", ""]);
+        assert_eq!(found, [Some(vec![0x40]), Some(vec![0xff]), None, None]);
     }
 
     #[test]

@@ -325,6 +325,7 @@ const TAKES_G: u8 = 7;
 const TAKES_THE_AT_SIGN: u8 = 8;
 const TAKES_THE_BACKQUOTE: u8 = 9;
 const READS_A_AS_11: u8 = 10;
+const TAKES_AN_EMPTY_LINE: u8 = 11;
 
 /// The line with this character in place of that one.
 fn replaced(line: &[u8], wrong: u8, right: u8) -> Vec<u8> {
@@ -353,6 +354,9 @@ impl<const FAULT: u8> Bench for Misreading<FAULT> {
             ASKS_2_BEFORE_1 if reply.end.number == 1 && !line.iter().all(u8::is_ascii_hexdigit) => {
                 reply.end.number = 2;
             }
+            TAKES_AN_EMPTY_LINE if line.is_empty() && reply.end.number == 1 => {
+                reply.end.number = 0;
+            }
             TELLS_OF_B_AS_2_REFUSES if reply.end.number == 2 && line.starts_with(b"51") => {
                 reply.side = 1;
             }
@@ -378,6 +382,7 @@ fn every_fault_of_reading_is_found() {
         failed::<Misreading<TAKES_THE_AT_SIGN>>(),
         failed::<Misreading<TAKES_THE_BACKQUOTE>>(),
         failed::<Misreading<READS_A_AS_11>>(),
+        failed::<Misreading<TAKES_AN_EMPTY_LINE>>(),
         failed::<Misreading<TAKES_158_DIGITS>>(),
         failed::<Misreading<CUTS_THE_LENGTH>>(),
     ];

@@ -19,6 +19,7 @@ pub fn scripts() -> Vec<Script> {
 fn refused() -> Script {
     let lines = [
         "",
+        "\r",
         "5",
         "50",
         "51",

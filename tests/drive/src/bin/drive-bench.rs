@@ -5,9 +5,9 @@
 //! starts fresh, its own frames are right, and no script is long enough to use up numbers.
 
 use cases::group::{Group, Score};
-use drive::bench::{full, hanging_up, odd, overtaking, replay, sessions};
+use drive::bench::{self, full, hanging_up, odd, overtaking, replay, sessions};
 use drive::comparison::Comparison;
-use drive::{altered, program, typed};
+use drive::{altered, empty_lines, program, typed};
 use reference::bench::program::BenchProgram;
 use std::process::ExitCode;
 
@@ -26,7 +26,8 @@ fn main() -> ExitCode {
     let Some(program) = program::named("drive-bench PROGRAM") else {
         return ExitCode::FAILURE;
     };
-    let typed = typed::group::<BenchProgram>(&program, &sessions::session(1_600, TYPED));
+    let script = empty_lines::among(1_601, &sessions::session(1_600, TYPED));
+    let typed = typed::group::<BenchProgram>(&program, &script);
     let mut comparison = Comparison::<BenchProgram>::new(program);
     let sources = (1_300..1_300 + ALTERED)
         .flat_map(|seed| [sessions::session(seed, LINES), full::long(seed)]);
@@ -46,12 +47,18 @@ fn main() -> ExitCode {
             &[0, 1, 2, 3, 4, 5, 6, 8, 10, 13],
             odd::scripts(),
         ),
+        comparison.group(
+            "empty lines",
+            &[0, 1, 8, 10, 13, 14],
+            bench::empty_lines::scripts(),
+        ),
         typed,
     ];
     let lines: Score = groups.iter().map(Group::report).sum();
     let steps = comparison.coverage.report_least(STEPS);
     let blocks = comparison.handed_up.report();
     let late = comparison.hung_up.report_least(LATE);
-    let scores = [lines, steps, blocks, late];
+    let stood = comparison.stood.report();
+    let scores = [lines, steps, blocks, late, stood];
     scores.into_iter().sum::<Score>().conclude()
 }
