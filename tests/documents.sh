@@ -15,18 +15,18 @@ same() {
     fi
 }
 
-# rows FILE SECTION: the rows of a section's tables that show a line: the line, what is answered, and the frame sent.
+# rows FILE SECTION: the rows of a section's tables that show a line: the line, or (empty), what is answered, and the frame sent.
 rows() {
     awk -F' *[|] *' -v section="## $2" '
         /^## / { inside = ($0 == section) }
-        inside && /^[|] `[0-9A-Za-z]+` [|].*`/ { print $2, $(NF - 2), $(NF - 1) }' "$1" | tr -d '`'
+        inside && /^[|] (`[0-9A-Za-z]+`|[(]empty[)]) [|].*`/ { print $2, $(NF - 2), $(NF - 1) }' "$1" | tr -d '`'
 }
 
 # shown PROGRAM NAME FILE SECTION: a section's lines get the answers that it shows.
 shown() {
     local rows
     rows=$(rows "$3" "$4")
-    same "$2" "$(awk '{ print $2; if (NF > 2) print $3 }' <<<"$rows")" "$(cut -d' ' -f1 <<<"$rows" | "bin/$1")"
+    same "$2" "$(awk '{ print $2; if (NF > 2) print $3 }' <<<"$rows")" "$(cut -d' ' -f1 <<<"$rows" | sed 's/^(empty)$//' | "bin/$1")"
 }
 
 shown line 'PROTOCOL.md, the line program' docs/PROTOCOL.md 'The line program'
