@@ -3,7 +3,7 @@ use Prim.Native.Nat.{ℕ, zero, suc}
 use mathlib.Core.Path.{_≡_, refl, sym, ap, subst, _∙_}
 use mathlib.Core.Bool.{true}
 use mathlib.Core.List.{List, [], _∷_, _++_, map, List·Memᴰ, List·Memᴰ·head, List·Memᴰ·tail, List·Memᴰ·not-nil, List·Memᴰ·cases-cons}
-use mathlib.Core.Logic.{⊎-elim}
+use mathlib.Core.Logic.{inl, ⊎-elim}
 use native.Mathlib.Omega.{arith}
 use lib.ListN.{length}
 use Rattle.octets.specs.Test.{Outcome, refused, ok, refusing, mapped}
@@ -22,7 +22,7 @@ use Rattle.protocol.specs.History.{History, now, sent}
 use Rattle.protocol.specs.History as protocol
 use Rattle.protocol.specs.Claim.{blockSent, NoEndAlone}
 use Rattle.protocol.specs.Limits.{Sized}
-use Rattle.protocol.proofs.World.{Simulates, no-end-alone}
+use Rattle.protocol.proofs.World.{Asks, Simulates, no-end-alone}
 use Rattle.protocol.proofs.Theorem.{Roomy, roomy, limited}
 use Rattle.call_spec.specs.declared.Call.{Call}
 use Rattle.call_spec.specs.declared.Call.the-variants as call
@@ -81,13 +81,19 @@ twice (suc m) n o = (suc m, refl)
 abbrev pub Lies : Format → List ℕ → Endpoint → Type 0
 Lies format rec e = (rest : List ℕ) × (rec ≡ format .octets e ++ rest)
 
+-- a call comes to the number of a question, or to what the call of the protocol comes to that its octets say
+pub asks : (format : Format) → Lawful format → (a b : History) → Roomy a b → (rec : List ℕ) → Lies format rec (now a) → (c : Arguments)
+    → Asks (ends format) rec c (now a)
+unfolding performed asked does
+asks format law a b i rec k c = let m = limited i in rw (k .1, law .keeps (now a) (k .0) (m .is-sound) (m .bounded)) (twice _ _ _)
+
 pub lies : (format : Format) → Lawful format → Simulates (ends format) Roomy Sized (Lies format)
-unfolding performed asked does recordAfter mapped left
+unfolding recordAfter mapped left
 lies format law =
     record {
       starts = λ r f. f;
       fair = λ a b i r k. fair a b i;
-      comes = λ a b i r k c. let m = limited i in rw (k .1, law .keeps (now a) (k .0) (m .is-sound) (m .bounded)) (twice _ _ _);
+      comes = λ a b i r k c. inl (asks format law a b i r k c);
       refuses = λ r e k c n. k;
       accepts = λ a b g i j r k c x e.
           let m = limited i in

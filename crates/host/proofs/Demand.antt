@@ -1,6 +1,7 @@
 -- A struct does as the endpoint that it holds, so demand 3 holds of lists of calls on structs.
 use Prim.Native.Nat.{ℕ}
 use mathlib.Core.Path.{_≡_, refl, sym, ap, _∙_}
+use mathlib.Core.Logic.{inl}
 use mathlib.Core.Bool.{true}
 use mathlib.Core.List.{List, _++_}
 use native.Mathlib.Omega.{arith}
@@ -48,7 +49,7 @@ packs =
     record {
       starts = λ r f. f;
       fair = λ a b i r k. fair a b i;
-      comes = λ a b i r k c. (first (ownQuestions (sound r) c), rw (k, held (now a) (limited i .is-sound)) refl);
+      comes = λ a b i r k c. inl (first (ownQuestions (sound r) c), rw (k, held (now a) (limited i .is-sound)) refl);
       refuses = λ r e k c n. k;
       accepts = λ a b g i j r k c x e. ap pack (sym e);
     }

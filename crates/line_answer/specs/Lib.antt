@@ -1,3 +1,4 @@
 pub mod Line
 pub mod Text
+pub mod Claim
 pub mod Internal

@@ -1,6 +1,7 @@
 -- Demand 3 along a list of calls, in whatever form the records are.
 use Prim.Native.Nat.{ℕ, zero, suc}
 use mathlib.Core.Path.{_≡_, refl, sym, subst}
+use mathlib.Core.Logic.{_⊎_, inl, ⊎-elim}
 use mathlib.Core.List.{List, [], _∷_, _++_}
 use Rattle.octets.specs.Test.{Outcome, refused, ok, refusing, andThen}
 use Rattle.protocol.specs.Endpoint.{Endpoint, fresh}
@@ -21,11 +22,21 @@ pub record Invariant (I : History → History → Type 0) (Fair : History → Ca
 abbrev pub asking : ℕ → Outcome Call → Endpoint → Outcome Step
 asking n q e = refusing n (andThen q (λ (x : Call). perform x e))
 
+-- What a call of E does that finds a record with the endpoint e. It comes to that: a question's number, or what the call of the protocol comes to that it says.
+abbrev pub Asks : (E : Ends) → E .Record → E .Call → Endpoint → Type 0
+Asks E r c e = (n : ℕ) × (E .comes r c ≡ asking n (E .said r c) e)
+
+-- Or it says no call of the protocol, and leaves what the record holds.
+pub record Idle (E : Ends) (Holds : E .Record → Endpoint → Type 0) (r : E .Record) (c : E .Call) (e : Endpoint) : Type 0 where
+  pub number : ℕ
+  pub none : E .said r c ≡ refused number
+  pub leaves : Holds (E .leaves r c (E .comes r c)) e
+
 -- The records of E hold endpoints, and its calls do as fair calls of the protocol do, wherever I holds of the histories.
 pub record Simulates (E : Ends) (I : History → History → Type 0) (Fair : History → Call → Type 0) (Holds : E .Record → Endpoint → Type 0) : Type 0 where
   pub starts : (r : E .Record) → E .Fresh r → Holds r fresh
   pub fair : (a b : History) → I a b → (r : E .Record) → Holds r (now a) → (c : E .Call) → E .Due a b c → (q : Call) → E .said r c ≡ ok q → Fair b q
-  pub comes : (a b : History) → I a b → (r : E .Record) → Holds r (now a) → (c : E .Call) → (n : ℕ) × (E .comes r c ≡ asking n (E .said r c) (now a))
+  pub comes : (a b : History) → I a b → (r : E .Record) → Holds r (now a) → (c : E .Call) → Asks E r c (now a) ⊎ Idle E Holds r c (now a)
   pub refuses : (r : E .Record) (e : Endpoint) → Holds r e → (c : E .Call) (n : ℕ) → Holds (E .leaves r c (refused n)) e
   pub accepts : (a b g : History) → I a b → I g b → (r : E .Record) → Holds r (now a) → (c : E .Call) (x : Step) → now g ≡ x .endpoint → Holds (E .leaves r c (ok x)) (now g)
 
@@ -62,6 +73,10 @@ module _ (E : Ends) {I : History → History → Type 0} {Fair : History → Cal
         by-answer (refused m) j = s .refuses r (now a) k e m
         by-answer (ok x) j = s .accepts a b _ i j r k e x refl
 
+    idles : Idle E Holds r e (now a) → Goes a b (recorded (E .said r e) (E .comes r e) a) (E .leaves r e (E .comes r e))
+    unfolding recorded
+    idles d = rw (d .none) (record { both = i; this = d .leaves; meets = λ o. absurd (o .0 (o .1)) })
+
   abbrev Kept : End (E .Record) → End (E .Record) → Type 0
   Kept = Held E I Holds
 
@@ -70,8 +85,10 @@ module _ (E : Ends) {I : History → History → Type 0} {Fair : History → Cal
       → Goes (x .history) (y .history) (called E c x .history) (called E c x .rec)
   unfolding called
   call-at {x} {y} k c d =
-      let o = s .comes _ _ (k .both) (x .rec) (k .this) c in
-      rw (o .1) (goes _ _ (k .both) (x .rec) (k .this) c (o .0) (E .said (x .rec) c) (s .fair _ _ (k .both) (x .rec) (k .this) c d))
+      ⊎-elim
+      (λ (o : Asks E (x .rec) c (now (x .history))). rw (o .1) (goes _ _ (k .both) (x .rec) (k .this) c (o .0) (E .said (x .rec) c) (s .fair _ _ (k .both) (x .rec) (k .this) c d)))
+      (λ (o : Idle E Holds (x .rec) c (now (x .history))). idles _ _ (k .both) (x .rec) (k .this) c o)
+      (s .comes _ _ (k .both) (x .rec) (k .this) c)
 
   held-at : {x y : End (E .Record)} → Kept x y → (c : E .Call) → E .Due (x .history) (y .history) c → Kept (called E c x) y
   held-at k c d = let g = call-at k c d in record { both = g .both; this = g .this; other = k .other }
@@ -114,7 +131,7 @@ itself I Fair =
     record {
       starts = λ r f. f;
       fair = λ a b i r k c d q e. let z : c ≡ q = cc in subst (Fair b) z d;
-      comes = λ a b i r k c. (0, rw k refl);
+      comes = λ a b i r k c. inl (0, rw k refl);
       refuses = λ r e k c n. k;
       accepts = λ a b g i j r k c x e. sym e;
     }

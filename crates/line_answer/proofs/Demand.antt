@@ -1,0 +1,79 @@
+-- No end that is asked by lines opens without its partner.
+use Prim.Native.Nat.{ℕ, zero, suc, _+_, _≤_}
+use mathlib.Core.Path.{_≡_, refl, sym, ap, _∙_}
+use mathlib.Core.Logic.{_⊎_, inl, inr}
+use mathlib.Core.Bool.{true}
+use mathlib.Core.List.{List, [], _∷_, _++_}
+use native.Mathlib.Omega.{arith}
+use borrow.Author.Tests.{le-leb}
+use lib.ListN.{length, length-append}
+use Rattle.octets.specs.Test.{when, inRange, first, Outcome, refusing, andThen}
+use Rattle.octets.proofs.Test.{passing}
+use Rattle.hex.specs.Line.{unhex, lengthOk, lineQuestions}
+use Rattle.protocol.specs.Endpoint.{Endpoint}
+use Rattle.protocol.specs.History.{Call, History, now}
+use Rattle.protocol.specs.Claim.{NoEndAlone}
+use Rattle.protocol.specs.Limits.{Sized}
+use Rattle.protocol.proofs.World.{asking, Asks, Idle, Simulates, no-end-alone}
+use Rattle.protocol.proofs.Theorem.{Roomy, roomy, limited}
+use Rattle.call_spec.specs.Calls.{said}
+use Rattle.call_spec.proofs.Lift.{fair, Lies, asks, lies}
+use Rattle.link.specs.Record.{format, recordQuestions}
+use Rattle.link.specs.Lent.{stands}
+use Rattle.link.proofs.Demand.{lawful}
+use Rattle.line_answer.specs.Line.{lineCall, lineAsks, lineOutcome}
+use Rattle.line_answer.specs.Claim.{saidIn, ends}
+use Rattle.line_answer.proofs.Lines.{asks-standing}
+
+-- questions before 1 and 2, and those of the call behind them
+through : (k l n : ℕ) (q : Outcome Call) (e : Endpoint) → (m : ℕ) × (refusing k (refusing l (asking n q e)) ≡ asking m (refusing l q) e)
+unfolding refusing andThen
+through (suc k) l n q e = (suc k, refl)
+through zero zero n q e = (n, refl)
+through zero (suc l) n q e = (zero, refl)
+
+module _ (a b : History) (i : Roomy a b) (rec : List ℕ) (k : Lies format rec (now a)) where
+  -- 11 and 12 pass all along a list
+  ready : first (recordQuestions rec) ≡ 0
+  unfolding first when
+  ready =
+      let m = limited i in
+      let l = length-append (format .octets (now a)) (k .0) in
+      rw (k .1, lawful .passes (now a) (k .0) (m .is-sound) (m .bounded), le-leb (format .size) (length (format .octets (now a) ++ k .0)) (omega (arith, l, lawful .long (now a) (m .is-sound) (m .bounded)))) refl
+
+  holds : format .holds rec ≡ now a
+  holds = let m = limited i in ap (format .holds) (k .1) ∙ lawful .keeps (now a) (k .0) (m .is-sound) (m .bounded)
+
+  -- an empty line says no call, and the end stands as it stood
+  idle : Idle ends (Lies format) rec [] (now a)
+  unfolding saidIn first when lengthOk inRange refusing
+  idle =
+      record {
+        number = 1;
+        none = refl;
+        leaves = rw (asks-standing rec [] ready refl) (lies format lawful .accepts a b a i i rec k (lineCall []) (stands rec) (sym holds));
+      }
+
+  does : (line : List ℕ) → Asks ends rec line (now a) ⊎ Idle ends (Lies format) rec line (now a)
+  unfolding lineOutcome lineAsks saidIn
+  does [] = inr idle
+  does (c ∷ line) =
+      let x = lineCall (unhex (c ∷ line)) in
+      let s = asks format lawful a b i rec k x in
+      inl (rw (s .1) (through (first (recordQuestions rec)) (first (lineQuestions (c ∷ line))) (s .0) (said x) (now a)))
+
+lines : Simulates ends Roomy Sized (Lies format)
+unfolding saidIn
+lines =
+    let l = lies format lawful in
+    record {
+      starts = l .starts;
+      fair = λ a b i r k line d q e. let z = passing (first (lineQuestions line)) e in fair a b i (lineCall (unhex line)) (d (z .0)) q (z .1);
+      comes = does;
+      refuses = λ r e k line. l .refuses r e k (lineCall line);
+      accepts = λ a b g i j r k line. l .accepts a b g i j r k (lineCall line);
+    }
+
+-- whatever lines come at two fresh ends, in whatever order
+pub no-line-alone : NoEndAlone ends
+no-line-alone = no-end-alone ends roomy lines
