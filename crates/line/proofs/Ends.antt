@@ -1,11 +1,10 @@
 -- What answers a line at one end, and the program's theorem.
 use Prim.Native.Nat.{ℕ, _+_, _≤_}
 use mathlib.Core.Path.{_≡_, refl, ap}
-use mathlib.Core.List.{List, [], _∷_}
-use borrow.Author.Tests.{le-leb}
-use lib.Dec.{leb}
+use mathlib.Core.List.{List, [], _∷_, _++_}
 use lib.ListN.{length}
-use Rattle.octets.specs.Test.{when, first, ok, outcome}
+use Rattle.octets.specs.Test.{ok}
+use Rattle.octets.specs.Octets.{Octets}
 use Rattle.hex.specs.Line.{unhex, normal}
 use Rattle.hex.proofs.Normal.{asked-alike, unhex-normal}
 use Rattle.call_spec.specs.Calls.{performed, recordAfter}
@@ -14,10 +13,12 @@ use Rattle.link.specs.Lent.{freshRecord}
 use Rattle.answer_text.specs.Text.{answerRoom}
 use Rattle.line_answer.specs.Line.{lineCall, lineAsks, lineOutcome}
 use Rattle.line_answer.specs.Text.{text, inRoom}
+use Rattle.line_answer.proofs.Lines.{in-room}
+use Rattle.line_answer.proofs.Standing.{undisturbed}
 use Rattle.line_split.specs.Split.{cut}
 use Rattle.line_split.proofs.Long.{asks-cut}
 use Rattle.line_io.specs.declared.Place.{Place}
-use Rattle.line_io.specs.Answering.{Cuts, inputText}
+use Rattle.line_io.specs.Answering.{answers, Cuts, inputText}
 use Rattle.line_io.specs.Program.{Ran, Over, concat}
 use Rattle.line_io.proofs.Answers.{input-normal}
 use Rattle.line_io.proofs.Steps.{free, free-room}
@@ -46,10 +47,14 @@ either-case rec (c ∷ l) = rw (asked-alike (c ∷ l), unhex-normal (c ∷ l)) r
 pub either-case-text : (input : List ℕ) → inputText oneEnd freshRecord (normal input) ≡ inputText oneEnd freshRecord input
 either-case-text = input-normal oneEnd (λ rec l. ap (recordAfter format rec) (either-case rec l)) (λ rec l. ap (text rec) (either-case rec l)) freshRecord
 
+-- An empty line disturbs nothing: all lines after it are answered as if it were not there (document 02, N5).
+pub left-out : (rec : List ℕ) → Octets rec → (ls : List (List ℕ)) → answers oneEnd rec ([] ∷ ls) ≡ oneEnd .says rec [] ++ answers oneEnd rec ls
+unfolding answers
+left-out rec o ls = ap (λ (x : List ℕ). oneEnd .says rec [] ++ answers oneEnd x ls) (undisturbed rec o)
+
 -- where there is room for an answer, the line is asked
 pub asks : (rec line out : List ℕ) (filled : ℕ) → filled + answerRoom ≤ length out → inRoom rec line (free out filled) ≡ ok (lineOutcome rec line)
-unfolding inRoom first when outcome
-asks rec line out filled h = rw (le-leb answerRoom (length (free out filled)) (free-room out filled answerRoom h)) refl
+asks rec line out filled h = in-room rec line (free out filled) (free-room out filled answerRoom h)
 
 -- THE theorem, of the program: from a fresh record to its end after the end of the input, however the input came in pieces, all that was handed to be
 -- written is the text of the input.

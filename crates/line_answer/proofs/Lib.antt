@@ -1,3 +1,4 @@
 pub mod Ends
 pub mod Lines
+pub mod Standing
 pub mod Demand

@@ -88,11 +88,15 @@ module _ (rec line out : List ℕ) where
   unfolding inRoom first when outcome mapped outputOf left recordLeft
   no-room h = gives-answer (refused 11) (rw (lt-leb answerRoom (length out) h) refl) refl refl refl
 
+  pub in-room : answerRoom ≤ length out → inRoom rec line out ≡ ok (lineOutcome rec line)
+  unfolding inRoom first when outcome
+  in-room h = rw (le-leb answerRoom (length out) h) refl
+
   pub with-text : answerRoom ≤ length out → {rec′ out′ : List ℕ} {r : ℕ} → Gives (lineOutcome rec line) rec out rec′ out′ r
       → LineAnswered rec line out rec′ out′ (output.Written r)
-  unfolding inRoom first when outcome mapped outputOf left recordLeft
+  unfolding mapped outputOf left recordLeft
   with-text h g =
-      gives-answer (ok (lineOutcome rec line)) (rw (le-leb answerRoom (length out) h) refl) (ap output.Written (g .begins .count)) (g .begins .buffer) (g .end)
+      gives-answer (ok (lineOutcome rec line)) (in-room h) (ap output.Written (g .begins .count)) (g .begins .buffer) (g .end)
 
 -- an answer has room in its buffer
 pub written-fits : {rec line out rec′ out′ : List ℕ} {n : ℕ} → LineAnswered rec line out rec′ out′ (output.Written n) → length out′ ≡ length out → n ≤ length out

@@ -5,13 +5,14 @@ use mathlib.Core.List.{List, [], _∷_}
 use lib.Dec.{leb}
 use lib.ListN.{length}
 use Rattle.octets.specs.Test.{first, Outcome, refused, ok, outcome, mapped}
-use Rattle.octets.specs.Octets.{left}
+use Rattle.octets.specs.Octets.{put, left}
 use Rattle.protocol.specs.Table.{Step}
 use Rattle.call_spec.specs.Calls.{wire, recordAfter}
 use Rattle.call_spec.specs.Answers.{sentIn, blockOf}
 use Rattle.link.specs.Record.{format}
 use Rattle.link.specs.Lent.{statusOf, stands}
 use Rattle.answer_text.specs.declared.Output.{Output}
+use Rattle.answer_text.specs.declared.Output.the-variants.{Written}
 use Rattle.answer_text.specs.Text.{textOf, outputOf, answerRoom}
 use Rattle.line_answer.specs.Line.{lineOutcome}
 
@@ -36,3 +37,9 @@ pub record LineAnswered (rec line out rec′ out′ : List ℕ) (r : Output) : T
   pub answer : r ≡ outputOf (mapped (text rec) (inRoom rec line out))
   pub buffer : out′ ≡ left (mapped (text rec) (inRoom rec line out)) out
   pub end : rec′ ≡ recordLeft rec (inRoom rec line out)
+
+-- What an empty line leaves of all that is lent, where 11 and 12 are passed (document 02, N5): 23 characters, and nothing else moves.
+pub record Stood (rec out rec′ out′ : List ℕ) (r : Output) : Type 0 where
+  pub answer : r ≡ Written 23
+  pub buffer : out′ ≡ put out 0 (standing rec)
+  pub end : rec′ ≡ rec

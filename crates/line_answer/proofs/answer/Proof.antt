@@ -10,7 +10,7 @@ use Rattle.octets.specs.Octets.{Octets}
 use Rattle.hex.proofs.Asked.{Passed, passed, fits, reads}
 use Rattle.link.specs.Record.{recordQuestions}
 use Rattle.line_answer.proofs.Lines.{asked-of, unready, asks-standing, line-asks, declined, no-room, with-text}
-use Rattle.line_answer.proofs.Ends.{standing-long, stands-there}
+use Rattle.line_answer.proofs.Standing.{standing-long, stands-there}
 use native.Mathlib.Omega.{arith}
 use borrow.Author.Needs.{needs}
 use Rattle.line_answer.proofs.answer.Statement.{statement}

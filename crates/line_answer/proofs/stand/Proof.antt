@@ -1,7 +1,7 @@
 use mathlib.Core.Path.{sym, ap}
 use denote.Ref.{now}
 use lib.ListN.{length}
-use Rattle.line_answer.proofs.Ends.{standing-is}
+use Rattle.line_answer.proofs.Standing.{standing-is}
 use native.Mathlib.Omega.{arith}
 use borrow.Author.Needs.{needs}
 use Rattle.line_answer.proofs.stand.Statement.{statement}
