@@ -2,7 +2,7 @@
 use Prim.Native.Nat.{ℕ, suc, _*_, _/_, _%_, _≤_}
 use mathlib.Core.Path.{_≡_, ap, _∙_}
 use mathlib.Core.Logic.{_≢_}
-use mathlib.Core.List.{List}
+use mathlib.Core.List.{List, []}
 use native.Mathlib.Omega.{arith}
 use lib.ListN.{length}
 use borrow.Author.Tests.{eqb-true}
@@ -10,6 +10,7 @@ use Rattle.octets.specs.Sizes.{longestFrame}
 use Rattle.octets.specs.Test.{first, Outcome, refused, refusing}
 use Rattle.octets.proofs.Test.{both, within, all-yes, all-before, refuses-before}
 use Rattle.hex.specs.Line.{unhex, lengthOk, lineQuestions}
+use Rattle.hex.proofs.Asked as reading
 use Rattle.hex.proofs.Digits.{length-unhex}
 use Rattle.call_spec.specs.Calls.{Rooms}
 use Rattle.bench_spec.specs.Bench.{Bench, benchOf, At, octetsAsk, lineAsks}
@@ -40,6 +41,11 @@ module _ (a b log : List ℕ) (count : ℕ) (line : List ℕ) (room : Rooms) whe
     pub turned-away : (k : ℕ) → first (lineQuestions line) ≡ suc k → lineAsks v line room ≡ refused (suc k)
     unfolding refusing
     turned-away k h = next ∙ ap (λ (m : ℕ). refusing m order) h
+
+-- an empty line keeps 1: it asks how an end stands where there is one end (document 02, N5)
+none-refused : (a b log : List ℕ) (count : ℕ) (room : Rooms) → first (readyQuestions (benchOf a b log count) room) ≡ 0
+    → lineAsks (benchOf a b log count) [] room ≡ refused 1
+none-refused a b log count room y = turned-away a b log count [] room y 0 reading.none-refused
 
 -- a line has at least one octet
 pub some-octet : (line : List ℕ) → first (lineQuestions line) ≡ 0 → 1 ≤ length (unhex line)

@@ -7,9 +7,10 @@ use mathlib.Core.List.{List, [], _∷_, _++_}
 use native.Mathlib.Omega.{arith}
 use borrow.Author.Tests.{le-leb}
 use lib.ListN.{length, length-append}
-use Rattle.octets.specs.Test.{when, inRange, first, Outcome, refusing, andThen}
+use Rattle.octets.specs.Test.{when, first, Outcome, refusing, andThen}
 use Rattle.octets.proofs.Test.{passing}
-use Rattle.hex.specs.Line.{unhex, lengthOk, lineQuestions}
+use Rattle.hex.specs.Line.{unhex, lineQuestions}
+use Rattle.hex.proofs.Asked.{none-refused}
 use Rattle.protocol.specs.Endpoint.{Endpoint}
 use Rattle.protocol.specs.History.{Call, History, now}
 use Rattle.protocol.specs.Claim.{NoEndAlone}
@@ -46,11 +47,11 @@ module _ (a b : History) (i : Roomy a b) (rec : List ℕ) (k : Lies format rec (
 
   -- an empty line says no call, and the end stands as it stood
   idle : Idle ends (Lies format) rec [] (now a)
-  unfolding saidIn first when lengthOk inRange refusing
+  unfolding saidIn refusing
   idle =
       record {
         number = 1;
-        none = refl;
+        none = ap (λ (n : ℕ). refusing n (said (lineCall []))) none-refused;
         leaves = rw (asks-standing rec [] ready refl) (lies format lawful .accepts a b a i i rec k (lineCall []) (stands rec) (sym holds));
       }
 

@@ -8,12 +8,12 @@ use native.Mathlib.Omega.{arith}
 use borrow.Author.Tests.{le-leb, lt-leb, leb-true}
 use lib.ListN.{length}
 use Rattle.octets.specs.Sizes.{longestFrame}
-use Rattle.octets.specs.Test.{when, inRange, first, Outcome, refused, ok, outcome, refusing, mapped}
+use Rattle.octets.specs.Test.{when, first, Outcome, refused, ok, outcome, refusing, mapped}
 use Rattle.octets.proofs.Test.{all-yes, refusing-of}
 use Rattle.octets.specs.Octets.{left}
-use Rattle.hex.specs.Line.{unhex, lengthOk, lineQuestions, readInto, lineOf}
+use Rattle.hex.specs.Line.{unhex, lineQuestions, readInto, lineOf}
 use Rattle.hex.specs.declared.Line.the-variants.{Refused}
-use Rattle.hex.proofs.Asked.{turned-away}
+use Rattle.hex.proofs.Asked.{none-refused, turned-away}
 use Rattle.protocol.specs.Table.{Step}
 use Rattle.call_spec.specs.Calls.{performed}
 use Rattle.link.specs.Record.{format, recordQuestions}
@@ -33,8 +33,7 @@ makes-call rec [] h = absurd (h refl)
 makes-call rec (c ∷ line) h = refl
 
 has-some : (line : List ℕ) → first (lineQuestions line) ≡ 0 → length line ≢ 0
-unfolding first when lengthOk inRange
-has-some [] h = absurd (omega (arith, h))
+has-some [] h = absurd (omega (arith, h, none-refused))
 has-some (c ∷ line) h = λ z. omega arith
 
 -- and what one makes that has none
