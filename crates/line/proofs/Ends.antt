@@ -11,7 +11,7 @@ use Rattle.call_spec.specs.Calls.{performed, recordAfter}
 use Rattle.link.specs.Record.{format}
 use Rattle.link.specs.Lent.{freshRecord}
 use Rattle.answer_text.specs.Text.{answerRoom}
-use Rattle.line_answer.specs.Line.{lineCall, lineAsks, lineOutcome}
+use Rattle.line_answer.specs.Line.{lineCall, readyOutcome, lineOutcome}
 use Rattle.line_answer.specs.Text.{text, inRoom}
 use Rattle.line_answer.proofs.Lines.{in-room}
 use Rattle.line_answer.proofs.Standing.{undisturbed}
@@ -26,8 +26,8 @@ use Rattle.line_io.proofs.Program.{program-run}
 use Rattle.line.specs.Ends.{oneEnd}
 
 -- A line counts as what is kept of it.
-asks-alike : (rec l : List ℕ) → lineAsks rec (cut l) ≡ lineAsks rec l
-unfolding lineAsks cut
+asks-alike : (rec l : List ℕ) → readyOutcome rec (cut l) ≡ readyOutcome rec l
+unfolding readyOutcome cut
 asks-alike rec [] = refl
 asks-alike rec (c ∷ l) = asks-cut [] tt (λ (x : List ℕ). performed format rec (lineCall (unhex x))) (c ∷ l)
 
@@ -40,7 +40,7 @@ cuts = record { next = λ rec l. ap (recordAfter format rec) (same rec l); says 
 
 -- A line counts as its normal form, so an input is answered in either case with the same text.
 either-case : (rec l : List ℕ) → lineOutcome rec (normal l) ≡ lineOutcome rec l
-unfolding lineOutcome lineAsks
+unfolding lineOutcome readyOutcome
 either-case rec [] = refl
 either-case rec (c ∷ l) = rw (asked-alike (c ∷ l), unhex-normal (c ∷ l)) refl
 

@@ -12,7 +12,8 @@ use Rattle.octets.proofs.Test.{passing}
 use Rattle.hex.specs.Line.{unhex, lineQuestions}
 use Rattle.hex.proofs.Asked.{none-refused}
 use Rattle.protocol.specs.Endpoint.{Endpoint}
-use Rattle.protocol.specs.History.{Call, History, now}
+use Rattle.protocol.specs.History.{Call, History, now, recorded}
+use Rattle.protocol.specs.World.{End, called}
 use Rattle.protocol.specs.Claim.{NoEndAlone}
 use Rattle.protocol.specs.Limits.{Sized}
 use Rattle.protocol.proofs.World.{asking, Asks, Idle, Simulates, no-end-alone}
@@ -22,9 +23,14 @@ use Rattle.call_spec.proofs.Lift.{fair, Lies, asks, lies}
 use Rattle.link.specs.Record.{format, recordQuestions}
 use Rattle.link.specs.Lent.{stands}
 use Rattle.link.proofs.Demand.{lawful}
-use Rattle.line_answer.specs.Line.{lineCall, lineAsks, lineOutcome}
+use Rattle.line_answer.specs.Line.{lineCall, readyOutcome, lineOutcome}
 use Rattle.line_answer.specs.Claim.{saidIn, ends}
 use Rattle.line_answer.proofs.Lines.{asks-standing}
+
+-- how an end stands leaves no trace in the history
+pub no-trace : (x : End (List ℕ)) → called ends [] x .history ≡ x .history
+unfolding called saidIn recorded refusing
+no-trace x = rw none-refused refl
 
 -- questions before 1 and 2, and those of the call behind them
 through : (k l n : ℕ) (q : Outcome Call) (e : Endpoint) → (m : ℕ) × (refusing k (refusing l (asking n q e)) ≡ asking m (refusing l q) e)
@@ -51,12 +57,12 @@ module _ (a b : History) (i : Roomy a b) (rec : List ℕ) (k : Lies format rec (
   idle =
       record {
         number = 1;
-        none = ap (λ (n : ℕ). refusing n (said (lineCall []))) none-refused;
+        none = rw none-refused refl;
         leaves = rw (asks-standing rec [] ready refl) (lies format lawful .accepts a b a i i rec k (lineCall []) (stands rec) (sym holds));
       }
 
   does : (line : List ℕ) → Asks ends rec line (now a) ⊎ Idle ends (Lies format) rec line (now a)
-  unfolding lineOutcome lineAsks saidIn
+  unfolding lineOutcome readyOutcome saidIn
   does [] = inr idle
   does (c ∷ line) =
       let x = lineCall (unhex (c ∷ line)) in

@@ -22,13 +22,13 @@ use Rattle.answer_text.specs.declared.Output.{Output}
 use Rattle.answer_text.specs.declared.Output.the-variants as output
 use Rattle.answer_text.specs.Text.{outputOf, answerRoom}
 use Rattle.answer_text.proofs.Outputs.{output-fits}
-use Rattle.line_answer.specs.Line.{lineCall, lineAsks, lineOutcome}
+use Rattle.line_answer.specs.Line.{lineCall, readyOutcome, lineOutcome}
 use Rattle.line_answer.specs.Text.{text, inRoom, recordLeft, LineAnswered}
 use Rattle.line_answer.specs.Internal.{Gives}
 
 -- what a line makes that has a character, as one has that passes 1 and 2
-makes-call : (rec line : List ℕ) → length line ≢ 0 → lineAsks rec line ≡ refusing (first (lineQuestions line)) (performed format rec (lineCall (unhex line)))
-unfolding lineAsks
+makes-call : (rec line : List ℕ) → length line ≢ 0 → readyOutcome rec line ≡ refusing (first (lineQuestions line)) (performed format rec (lineCall (unhex line)))
+unfolding readyOutcome
 makes-call rec [] h = absurd (h refl)
 makes-call rec (c ∷ line) h = refl
 
@@ -37,8 +37,8 @@ has-some [] h = absurd (omega (arith, h, none-refused))
 has-some (c ∷ line) h = λ z. omega arith
 
 -- and what one makes that has none
-asks-none : (rec line : List ℕ) → length line ≡ 0 → lineAsks rec line ≡ ok (stands rec)
-unfolding lineAsks
+asks-none : (rec line : List ℕ) → length line ≡ 0 → readyOutcome rec line ≡ ok (stands rec)
+unfolding readyOutcome
 asks-none rec [] h = refl
 asks-none rec (c ∷ line) h = absurd (omega arith)
 
@@ -49,12 +49,12 @@ module _ (rec line : List ℕ) where
   -- 11 and 12 of the record come first
   pub unready : {n : ℕ} → n ≡ first (recordQuestions rec) → n ≢ 0 → lineOutcome rec line ≡ refused n
   unfolding lineOutcome
-  unready {n} e h = rw (sym e) (refusing-of (lineAsks rec line) n h)
+  unready {n} e h = rw (sym e) (refusing-of (readyOutcome rec line) n h)
 
   module _ (y : first (recordQuestions rec) ≡ 0) where
-    next : lineOutcome rec line ≡ lineAsks rec line
+    next : lineOutcome rec line ≡ readyOutcome rec line
     unfolding lineOutcome refusing
-    next = ap (λ (m : ℕ). refusing m (lineAsks rec line)) y
+    next = ap (λ (m : ℕ). refusing m (readyOutcome rec line)) y
 
     -- a line of no characters asks how the end stands
     pub asks-standing : length line ≡ 0 → lineOutcome rec line ≡ ok (stands rec)

@@ -16,7 +16,7 @@ use Rattle.link.proofs.Standing.{stands-still}
 use Rattle.answer_text.specs.declared.Output.{Output}
 use Rattle.answer_text.specs.Text.{asLine, counted, answerOctets, answerLine, frameLine, textOf, outputOf, answerRoom, Begins}
 use Rattle.answer_text.proofs.Text.{length-told}
-use Rattle.line_answer.specs.Line.{lineAsks, lineOutcome}
+use Rattle.line_answer.specs.Line.{readyOutcome, lineOutcome}
 use Rattle.line_answer.specs.Text.{text, standing, recordLeft, LineAnswered, Stood}
 use Rattle.line_answer.specs.Internal.{Gives}
 use Rattle.line_answer.proofs.Lines.{asked-of, asks-standing, in-room}
@@ -36,8 +36,8 @@ module _ (rec : List ℕ) where
   standing-says = standing-is ∙ ap asLine (append-nil _)
 
   -- the record stays as it is, whether it may be asked or not
-  leaves : Octets rec → (n : ℕ) → n ≡ first (recordQuestions rec) → recordAfter format rec (refusing n (lineAsks rec [])) ≡ rec
-  unfolding lineAsks refusing recordAfter mapped left
+  leaves : Octets rec → (n : ℕ) → n ≡ first (recordQuestions rec) → recordAfter format rec (refusing n (readyOutcome rec [])) ≡ rec
+  unfolding readyOutcome refusing recordAfter mapped left
   leaves o zero h = let a = asked-of rec (sym h) in stands-still rec (a .0) o (a .1)
   leaves o (suc n) h = refl
 

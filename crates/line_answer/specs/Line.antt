@@ -23,10 +23,10 @@ lineCall s = given (callIn s) s (rooms longestFrame longestBlock)
 
 -- What a line asks of an end that may be asked. The line of no characters asks how the end stands (document 02, N5). Every other makes a call: 1 and 2 of the
 -- line, then what the call asks.
-unfoldable pub lineAsks : List ℕ → List ℕ → Outcome Step
-lineAsks rec [] = ok (stands rec)
-lineAsks rec (c ∷ line) = refusing (first (lineQuestions (c ∷ line))) (performed format rec (lineCall (unhex (c ∷ line))))
+unfoldable pub readyOutcome : List ℕ → List ℕ → Outcome Step
+readyOutcome rec [] = ok (stands rec)
+readyOutcome rec (c ∷ line) = refusing (first (lineQuestions (c ∷ line))) (performed format rec (lineCall (unhex (c ∷ line))))
 
 -- 11 and 12 of the record come first.
 unfoldable pub lineOutcome : List ℕ → List ℕ → Outcome Step
-lineOutcome rec line = refusing (first (recordQuestions rec)) (lineAsks rec line)
+lineOutcome rec line = refusing (first (recordQuestions rec)) (readyOutcome rec line)

@@ -105,7 +105,7 @@ pub fn refuse(rec: &[u8], number: u8) -> Answer
             status: Status {
                 number,
                 state: 0,
-                notice: step_plan::NONE,
+                notice: 0,
                 local: 0,
                 remote: 0,
             },
