@@ -51,7 +51,7 @@ fn refuse(rec: &[u8], number: u8, out: &mut [u8]) -> usize
 {
     let a = link::refuse(rec, number);
     let told = a.status;
-    answer_text::write_text(told, &rec[..0], &rec[..0], out)
+    answer_text::write_answer(told, &rec[..0], out)
 }
 
 // Writes the answer to an empty line to the start of out: how the end with the record rec stands, in 23 characters.

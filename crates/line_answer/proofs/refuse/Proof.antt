@@ -1,16 +1,22 @@
 use mathlib.Core.Path.{refl}
+use mathlib.Core.List.{[]}
 use denote.Ref.{now}
+use Rattle.answer_text.proofs.Text.{length-told, text-none}
 use Rattle.line_answer.proofs.Ends.{refuses}
+use native.Mathlib.Omega.{arith}
 use borrow.Author.Needs.{needs}
 use Rattle.line_answer.proofs.refuse.Statement.{statement}
 use Rattle.line_answer.proofs.refuse.Tie as tie
 
+write-answer-requires : tie.Need-write-answer-requires
+write-answer-requires c κs = (omega arith, omega (arith, length-told (c .before .before .before .refuse .result .status), c .before .before .before .before .before .before .pre))
+
 returns : tie.Need-returns
 returns c =
-    let a = c .before .before .before .before .before .before .before .before .before .before .args in
-    refuses refl (now (a .rec)) (now (a .out)) (c .before .before .before .before .before .before .before .refuse .ensures) (c .before .before .write-text .ensures)
+    let a = c .before .before .before .before .before .before .before .before .before .args in
+    refuses refl (now (a .rec)) (now (a .out)) (c .before .before .before .before .before .before .refuse .ensures) (text-none _ [] [] (now (a .out)) refl (c .before .before .write-answer .ensures))
 
 pub refuse-spec : {M : Type 1} → statement M
 refuse-spec =
     tie.close
-    (tie.spec (λ c κs. search needs) (λ c. search needs) (λ c. search needs) (λ c κs. search needs) (λ c. search needs) returns)
+    (tie.spec (λ c κs. search needs) (λ c. search needs) write-answer-requires (λ c. search needs) returns)
