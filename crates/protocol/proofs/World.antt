@@ -22,11 +22,11 @@ pub record Invariant (I : History → History → Type 0) (Fair : History → Ca
 abbrev pub asking : ℕ → Outcome Call → Endpoint → Outcome Step
 asking n q e = refusing n (andThen q (λ (x : Call). perform x e))
 
--- What a call of E does that finds a record with the endpoint e. It comes to that: a question's number, or what the call of the protocol comes to that it says.
+-- A call that finds a record with the endpoint e comes to a question's number, or to what the call of the protocol comes to that it says.
 abbrev pub Asks : (E : Ends) → E .Record → E .Call → Endpoint → Type 0
 Asks E r c e = (n : ℕ) × (E .comes r c ≡ asking n (E .said r c) e)
 
--- Or it says no call of the protocol, and leaves what the record holds.
+-- Or it says no call of the protocol, and whatever it comes to, the record goes on holding e.
 pub record Idle (E : Ends) (Holds : E .Record → Endpoint → Type 0) (r : E .Record) (c : E .Call) (e : Endpoint) : Type 0 where
   pub number : ℕ
   pub none : E .said r c ≡ refused number
