@@ -4,9 +4,8 @@ use mathlib.Core.Path.{_≡_, refl, sym, ap, _∙_}
 use mathlib.Core.Logic.{_≢_}
 use mathlib.Core.List.{List, [], _∷_, _++_, append-nil}
 use native.Mathlib.Omega.{arith}
-use lib.Seq.{take-length, drop-drop}
-use lib.ListN.{length, take, drop, length-append, length-drop, drop-of-length-le}
-use Rattle.octets.proofs.Buffers.{whole, length-rest, rest-put}
+use lib.ListN.{length, take, drop, length-append}
+use Rattle.octets.proofs.Buffers.{rest-put}
 use Rattle.octets.specs.Sizes.{longestBlock}
 use Rattle.octets.specs.Octets.{put, octetsOf, lay}
 use Rattle.octets.proofs.Octets.{length-put, then-put}

@@ -4,7 +4,7 @@ use mathlib.Core.Path.{_≡_, refl, sym, ap, _∙_}
 use mathlib.Core.List.{List, [], _∷_, append-nil}
 use lib.ListN.{length}
 use Rattle.octets.specs.Test.{first, ok, refusing, mapped, numberOf}
-use Rattle.octets.specs.Octets.{put, left, lay, Octets}
+use Rattle.octets.specs.Octets.{left, lay, Octets}
 use Rattle.protocol.specs.Table.{noticeNumber}
 use Rattle.call_spec.specs.Calls.{wire, recordAfter}
 use Rattle.call_spec.specs.Answers.{noticeOf, sentIn, blockIn, blockOf}

@@ -1,6 +1,5 @@
-use mathlib.Core.Path.{sym, ap}
+use mathlib.Core.Path.{sym}
 use denote.Ref.{now}
-use lib.ListN.{length}
 use Rattle.line_answer.proofs.Standing.{standing-is}
 use native.Mathlib.Omega.{arith}
 use borrow.Author.Needs.{needs}

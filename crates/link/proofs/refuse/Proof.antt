@@ -1,6 +1,5 @@
 use mathlib.Core.Path.{ap}
 use denote.Ref.{now}
-use Rattle.octets.specs.Test.{refused}
 use Rattle.call_spec.specs.declared.Status.{Status}
 use Rattle.call_spec.specs.Answers.{blockOf}
 use Rattle.link.specs.Lent.{sentOf, answerOf}
