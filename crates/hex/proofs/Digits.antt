@@ -7,7 +7,7 @@ use mathlib.Core.List.{List, [], _∷_, _++_}
 use native.Mathlib.Nat.{div-add-mod'}
 use native.Mathlib.Omega.{arith}
 use native.Mathlib.Numerals.{add-one}
-use lib.Dec.{eqb}
+use lib.Dec.{eqb, lit<}
 use borrow.Author.Tests.{eqb-true}
 use lib.Arith.{digits-div, digits-mod}
 use lib.ListN.{length, take, getD}
@@ -177,6 +177,17 @@ length-unhex zero (x ∷ l) h = absurd (omega arith)
 length-unhex (suc n) [] h = absurd (omega arith)
 length-unhex (suc n) (x ∷ []) h = absurd (omega arith)
 length-unhex (suc n) (x ∷ y ∷ l) h = ap suc (length-unhex n l (omega arith))
+
+-- what digits stand for is octets
+pub unhex-octets : (l : List ℕ) → all isDigit l ≡ true → Octets (unhex l)
+unfolding unhex all Octets
+unhex-octets [] t i = lit< tt
+unhex-octets (x ∷ []) t i = lit< tt
+unhex-octets (x ∷ y ∷ l) t zero =
+    let tx = both (isDigit x) (isDigit y && all isDigit l) t in
+    let ty = both (isDigit y) (all isDigit l) (tx .1) in
+    omega (arith, known x (tx .0) .below, known y (ty .0) .below)
+unhex-octets (x ∷ y ∷ l) t (suc i) = unhex-octets l (both (isDigit y) (all isDigit l) (both (isDigit x) (isDigit y && all isDigit l) t .1) .1) i
 
 -- one octet more
 pub hex-more : (s : List ℕ) (i : ℕ) → i < length s

@@ -1,29 +1,29 @@
 -- What answers a line at one end, and the program's theorem.
 use Prim.Native.Nat.{ℕ, _+_, _≤_}
 use mathlib.Core.Path.{_≡_, refl, ap}
-use mathlib.Core.List.{List, [], _∷_, _++_}
+use mathlib.Core.List.{List, [], _∷_}
 use lib.ListN.{length}
 use Rattle.octets.specs.Test.{ok}
-use Rattle.octets.specs.Octets.{Octets}
 use Rattle.hex.specs.Line.{unhex, normal}
 use Rattle.hex.proofs.Normal.{asked-alike, unhex-normal}
 use Rattle.call_spec.specs.Calls.{performed, recordAfter}
 use Rattle.link.specs.Record.{format}
 use Rattle.link.specs.Lent.{freshRecord}
+use Rattle.link.proofs.Stays.{Holding, fresh-holds}
 use Rattle.answer_text.specs.Text.{answerRoom}
 use Rattle.line_answer.specs.Line.{lineCall, readyOutcome, lineOutcome}
 use Rattle.line_answer.specs.Text.{text, inRoom}
 use Rattle.line_answer.proofs.Lines.{in-room}
-use Rattle.line_answer.proofs.Standing.{undisturbed}
+use Rattle.line_answer.proofs.Runs.{stays-put, line-leaves}
 use Rattle.line_split.specs.Split.{cut}
 use Rattle.line_split.proofs.Long.{asks-cut}
 use Rattle.line_io.specs.declared.Place.{Place}
-use Rattle.line_io.specs.Answering.{answers, Cuts, inputText}
+use Rattle.line_io.specs.Answering.{stateAfter, Cuts, inputText}
 use Rattle.line_io.specs.Program.{Ran, Over, concat}
 use Rattle.line_io.proofs.Answers.{input-normal}
 use Rattle.line_io.proofs.Steps.{free, free-room}
 use Rattle.line_io.proofs.Program.{program-run}
-use Rattle.line.specs.Ends.{oneEnd}
+use Rattle.line.specs.Ends.{oneEnd, others}
 
 -- A line counts as what is kept of it.
 asks-alike : (rec l : List ℕ) → readyOutcome rec (cut l) ≡ readyOutcome rec l
@@ -47,10 +47,16 @@ either-case rec (c ∷ l) = rw (asked-alike (c ∷ l), unhex-normal (c ∷ l)) r
 pub either-case-text : (input : List ℕ) → inputText oneEnd freshRecord (normal input) ≡ inputText oneEnd freshRecord input
 either-case-text = input-normal oneEnd (λ rec l. ap (recordAfter format rec) (either-case rec l)) (λ rec l. ap (text rec) (either-case rec l)) freshRecord
 
--- An empty line disturbs nothing: all lines after it are answered as if it were not there (document 02, N5).
-pub left-out : (rec : List ℕ) → Octets rec → (ls : List (List ℕ)) → answers oneEnd rec ([] ∷ ls) ≡ oneEnd .says rec [] ++ answers oneEnd rec ls
-unfolding answers
-left-out rec o ls = ap (λ (x : List ℕ). oneEnd .says rec [] ++ answers oneEnd x ls) (undisturbed rec o)
+-- The record after lines is that after them without the empty ones,
+after-others : {rec : List ℕ} → Holding rec → (ls : List (List ℕ)) → stateAfter oneEnd rec ls ≡ stateAfter oneEnd rec (others ls)
+unfolding stateAfter others
+after-others k [] = refl
+after-others k ([] ∷ ls) = rw (stays-put k) (after-others k ls)
+after-others k ((c ∷ l) ∷ ls) = after-others (line-leaves k (c ∷ l)) ls
+
+-- so each line of an input is answered as if the empty ones before it were left out (document 02, N5).
+pub left-out : (ls : List (List ℕ)) (l : List ℕ) → oneEnd .says (stateAfter oneEnd freshRecord ls) l ≡ oneEnd .says (stateAfter oneEnd freshRecord (others ls)) l
+left-out ls l = ap (λ (rec : List ℕ). oneEnd .says rec l) (after-others fresh-holds ls)
 
 -- where there is room for an answer, the line is asked
 pub asks : (rec line out : List ℕ) (filled : ℕ) → filled + answerRoom ≤ length out → inRoom rec line (free out filled) ≡ ok (lineOutcome rec line)

@@ -1,6 +1,6 @@
 -- What answers the lines of the line program: one end.
 use Prim.Native.Nat.{ℕ}
-use mathlib.Core.List.{List}
+use mathlib.Core.List.{List, [], _∷_}
 use Rattle.call_spec.specs.Calls.{recordAfter}
 use Rattle.link.specs.Record.{format}
 use Rattle.line_answer.specs.Line.{lineOutcome}
@@ -15,3 +15,9 @@ oneEnd =
       next = λ rec line. recordAfter format rec (lineOutcome rec line);
       says = λ rec line. text rec (lineOutcome rec line);
     }
+
+-- the lines that have a character, which are all but those that ask how the end stands (document 02, N5)
+unfoldable pub others : List (List ℕ) → List (List ℕ)
+others [] = []
+others ([] ∷ ls) = others ls
+others ((c ∷ l) ∷ ls) = (c ∷ l) ∷ others ls

@@ -1,12 +1,9 @@
 -- No end that is asked by lines opens without its partner.
 use Prim.Native.Nat.{ℕ, zero, suc}
-use mathlib.Core.Path.{_≡_, refl, sym, ap, _∙_}
+use mathlib.Core.Path.{_≡_, refl}
 use mathlib.Core.Logic.{_⊎_, inl, inr}
-use mathlib.Core.List.{List, [], _∷_, _++_}
-use native.Mathlib.Omega.{arith}
-use borrow.Author.Tests.{le-leb}
-use lib.ListN.{length, length-append}
-use Rattle.octets.specs.Test.{when, first, Outcome, refusing, andThen}
+use mathlib.Core.List.{List, [], _∷_}
+use Rattle.octets.specs.Test.{first, Outcome, refusing, andThen}
 use Rattle.octets.proofs.Test.{passing}
 use Rattle.hex.specs.Line.{unhex, lineQuestions}
 use Rattle.hex.proofs.Asked.{none-refused}
@@ -20,11 +17,11 @@ use Rattle.protocol.proofs.Theorem.{Roomy, roomy, limited}
 use Rattle.call_spec.specs.Calls.{said}
 use Rattle.call_spec.proofs.Lift.{fair, Lies, asks, lies}
 use Rattle.link.specs.Record.{format, recordQuestions}
-use Rattle.link.specs.Lent.{stands}
 use Rattle.link.proofs.Demand.{lawful}
+use Rattle.link.proofs.Stays.{Holding}
 use Rattle.line_answer.specs.Line.{lineCall, readyOutcome, lineOutcome}
 use Rattle.line_answer.specs.Claim.{saidIn, ends}
-use Rattle.line_answer.proofs.Lines.{asks-standing}
+use Rattle.line_answer.proofs.Runs.{stays-put}
 
 -- how an end stands leaves no trace in the history
 pub no-trace : (x : End (List ℕ)) → called ends [] x .history ≡ x .history
@@ -39,26 +36,13 @@ through zero zero n q e = (n, refl)
 through zero (suc l) n q e = (zero, refl)
 
 module _ (a b : History) (i : Roomy a b) (rec : List ℕ) (k : Lies format rec (now a)) where
-  -- 11 and 12 pass all along a list
-  ready : first (recordQuestions rec) ≡ 0
-  unfolding first when
-  ready =
-      let m = limited i in
-      let l = length-append (format .octets (now a)) (k .0) in
-      rw (k .1, lawful .passes (now a) (k .0) (m .is-sound) (m .bounded), le-leb (format .size) (length (format .octets (now a) ++ k .0)) (omega (arith, l, lawful .long (now a) (m .is-sound) (m .bounded)))) refl
-
-  holds : format .holds rec ≡ now a
-  holds = let m = limited i in ap (format .holds) (k .1) ∙ lawful .keeps (now a) (k .0) (m .is-sound) (m .bounded)
+  holding : Holding rec
+  holding = let m = limited i in record { endpoint = now a; is-sound = m .is-sound; is-bounded = m .bounded; lies = k }
 
   -- an empty line says no call, and the end stands as it stood
   idle : Idle ends (Lies format) rec [] (now a)
   unfolding saidIn refusing
-  idle =
-      record {
-        number = 1;
-        none = rw none-refused refl;
-        leaves = rw (asks-standing rec [] ready refl) (lies format lawful .accepts a b a i i rec k (lineCall []) (stands rec) (sym holds));
-      }
+  idle = record { number = 1; none = rw none-refused refl; leaves = rw (stays-put holding) k }
 
   does : (line : List ℕ) → Asks ends rec line (now a) ⊎ Idle ends (Lies format) rec line (now a)
   unfolding lineOutcome readyOutcome saidIn

@@ -20,7 +20,7 @@ octets : (c : tie.After-slice-known) → Octets (now (c .before .args .rec))
 unfolding Octets
 octets c i = omega (arith, c .slice-known .given i)
 
--- 11 and 12 of the record are passed, and the line has a character
+-- 11 and 12 of the record are passed
 is-ready : (c : tie.After-ready) → c .ready .result ≡ 0 → first (recordQuestions (now (c .before .before .before .before .before .before .args .rec))) ≡ 0
 is-ready c h = sym (c .ready .ensures) ∙ h
 
