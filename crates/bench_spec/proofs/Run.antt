@@ -21,7 +21,8 @@ use Rattle.protocol.proofs.World.{Simulates, turned, entry-at, new-held, run-ap
 use Rattle.protocol.proofs.World as law
 use Rattle.protocol.proofs.Theorem.{Roomy, roomy, limited}
 use Rattle.call_spec.specs.Calls.{Arguments, performed, recordAfter}
-use Rattle.call_spec.proofs.Lift.{Lies, lies}
+use Rattle.call_spec.proofs.Holding.{Lies}
+use Rattle.call_spec.proofs.Lift.{lies}
 use Rattle.link.specs.Record.{format, ends}
 use Rattle.link.proofs.Demand.{lawful, no-end-alone}
 use Rattle.bench_log.specs.Log.{places, logSize}

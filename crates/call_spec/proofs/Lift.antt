@@ -2,21 +2,20 @@
 use Prim.Native.Nat.{ℕ, zero, suc}
 use mathlib.Core.Path.{_≡_, refl, sym, ap, subst, _∙_}
 use mathlib.Core.Bool.{true}
-use mathlib.Core.List.{List, [], _∷_, _++_, map, List·Memᴰ, List·Memᴰ·head, List·Memᴰ·tail, List·Memᴰ·not-nil, List·Memᴰ·cases-cons}
+use mathlib.Core.List.{List, [], _∷_, map, List·Memᴰ, List·Memᴰ·head, List·Memᴰ·tail, List·Memᴰ·not-nil, List·Memᴰ·cases-cons}
 use mathlib.Core.Logic.{inl, ⊎-elim}
 use native.Mathlib.Omega.{arith}
 use lib.ListN.{length}
 use Rattle.octets.specs.Test.{Outcome, refused, ok, refusing, mapped}
 use Rattle.octets.specs.Octets.{left}
 use Rattle.octets.proofs.Test.{in-range, joined}
-use Rattle.octets.proofs.Octets.{put-front}
 use Rattle.frame.specs.Frame.{Frame, Request, connect, listen, endListening, close, timer, collect, send}
 use Rattle.frame.specs.Fits.{Fits}
 use Rattle.frame.specs.Layout.{encode}
 use Rattle.frame.specs.Read.{readFrame, readRequest}
 use Rattle.frame.proofs.RoundTrip.{written-reads}
 use Rattle.frame.proofs.Blocks.{send-sized}
-use Rattle.protocol.specs.Endpoint.{Endpoint, sized}
+use Rattle.protocol.specs.Endpoint.{sized}
 use Rattle.protocol.specs.Table.{Step}
 use Rattle.protocol.specs.History.{History, now, sent}
 use Rattle.protocol.specs.History as protocol
@@ -28,6 +27,7 @@ use Rattle.call_spec.specs.declared.Call.{Call}
 use Rattle.call_spec.specs.declared.Call.the-variants as call
 use Rattle.call_spec.specs.Calls.{Arguments, reads, said, does, asked, Format, performed, recordAfter}
 use Rattle.call_spec.specs.Claim.{DueOctets, Due, ends, Lawful}
+use Rattle.call_spec.proofs.Holding.{Lies, Holding, keeps, written}
 
 -- a frame whose octets are among those sent
 among : (s : List ℕ) (fs : List Frame) → List·Memᴰ s (map encode fs) → (f : Frame) × List·Memᴰ f fs × (s ≡ encode f)
@@ -77,15 +77,15 @@ unfolding refusing
 twice zero n o = (n, refl)
 twice (suc m) n o = (suc m, refl)
 
--- a record that holds an endpoint, and octets after it
-abbrev pub Lies : Format → List ℕ → Endpoint → Type 0
-Lies format rec e = (rest : List ℕ) × (rec ≡ format .octets e ++ rest)
+-- all along a list
+abbrev pub holding : {format : Format} {a b : History} → Roomy a b → {rec : List ℕ} → Lies format rec (now a) → Holding format rec (now a)
+holding i k = let m = limited i in record { is-sound = m .is-sound; bounded = m .bounded; lies = k }
 
 -- a call comes to the number of a question, or to what the call of the protocol comes to that its octets say
 pub asks : (format : Format) → Lawful format → (a b : History) → Roomy a b → (rec : List ℕ) → Lies format rec (now a) → (c : Arguments)
     → Asks (ends format) rec c (now a)
 unfolding performed asked does
-asks format law a b i rec k c = let m = limited i in rw (k .1, law .keeps (now a) (k .0) (m .is-sound) (m .bounded)) (twice _ _ _)
+asks format law a b i rec k c = rw (keeps format law (holding i k)) (twice _ _ _)
 
 pub lies : (format : Format) → Lawful format → Simulates (ends format) Roomy Sized (Lies format)
 unfolding recordAfter mapped left
@@ -95,13 +95,7 @@ lies format law =
       fair = λ a b i r k. fair a b i;
       comes = λ a b i r k c. inl (asks format law a b i r k c);
       refuses = λ r e k c n. k;
-      accepts = λ a b g i j r k c x e.
-          let m = limited i in
-          let n = limited j in (
-            k .0,
-            rw (k .1, sym e) (put-front (format .octets (now a)) (k .0) (format .octets (now g))
-                (law .long (now g) (n .is-sound) (n .bounded) ∙ sym (law .long (now a) (m .is-sound) (m .bounded)))),
-          );
+      accepts = λ a b g i j r k c x e. let n = limited j in (k .0, rw (sym e) (written format law (holding i k) (now g) (n .is-sound) (n .bounded)));
     }
 
 -- no end opens without its partner

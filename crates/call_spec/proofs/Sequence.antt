@@ -1,16 +1,15 @@
 -- Calls in octets on the record of a sound endpoint do what the protocol's calls do that they say, one after the other; so the eight come
 -- up in sequence.
 use Prim.Native.Nat.{ℕ, zero, suc, _+_, _≤_, _<_}
-use mathlib.Core.Path.{_≡_, refl, sym, ap, _∙_}
+use mathlib.Core.Path.{_≡_, refl, ap, _∙_}
 use mathlib.Core.Bool.{true}
 use mathlib.Core.List.{List, [], _∷_, _++_, List·Memᴰ, List·Memᴰ·head, List·Memᴰ·tail}
 use native.Mathlib.Omega.{arith}
 use borrow.Author.Tests.{le-leb}
-use lib.ListN.{length, getD, replicate, length-append}
+use lib.ListN.{length, getD, replicate}
 use Rattle.octets.specs.Sizes.{longestFrame, longestBlock, heldSize, lastNumber}
-use Rattle.octets.specs.Test.{when, ifEq, inRange, first, Outcome, refused, ok, outcome, refusing, mapped, andThen}
-use Rattle.octets.specs.Octets.{size, left}
-use Rattle.octets.proofs.Octets.{put-front}
+use Rattle.octets.specs.Test.{when, ifEq, inRange, first, Outcome, ok, outcome, refusing, mapped, andThen}
+use Rattle.octets.specs.Octets.{size}
 use Rattle.frame.specs.Frame.{Block, COLLECT, dataFrame, collect}
 use Rattle.frame.specs.Fits.{Fits, data-fits}
 use Rattle.frame.specs.Layout.{isFrame, isRequest, hasBlock, layout, numbersSize}
@@ -20,8 +19,7 @@ use Rattle.protocol.specs.Endpoint.{established, Endpoint, noneHeld, sized, sou
 use Rattle.protocol.specs.Table.{Step}
 use Rattle.protocol.specs.History.{ask, deliver}
 use Rattle.protocol.specs.History as protocol
-use Rattle.protocol.specs.World.{endpointLeft}
-use Rattle.protocol.specs.Limits.{Bounded, Readable, LeavesSound, LeavesBounded}
+use Rattle.protocol.specs.Limits.{Bounded, Readable}
 use Rattle.protocol.specs.Sequence.{upOf}
 use Rattle.protocol.specs.Sequence as protocol-sequence
 use Rattle.protocol.proofs.Limits.{call-sound, call-bounded}
@@ -31,6 +29,7 @@ use Rattle.call_spec.specs.declared.Call.{Call}
 use Rattle.call_spec.specs.declared.Call.the-variants as call
 use Rattle.call_spec.specs.Calls.{Arguments, Rooms, given, reads, said, does, blockRoomOk, asked, Format, performed, recordAfter}
 use Rattle.call_spec.specs.Claim.{Lawful}
+use Rattle.call_spec.proofs.Holding.{Holding, long, passes, keeps, leaves}
 use Rattle.call_spec.specs.Sequence.{comesUp, arrival, overtaking, InSequence}
 
 pub has-room : (c : Call) (n : ℕ) → longestBlock ≤ n → blockRoomOk c n ≡ true
@@ -41,29 +40,11 @@ has-room call.Receive n h = refl
 module _ (format : Format) (law : Lawful format) where
   -- A call on the record of a sound endpoint does what the protocol's call does that its octets say: so what holds of the one, the cases
   -- at the edges among it, holds of the other.
-  pub performs : (e : Endpoint) (rest : List ℕ) → sound e ≡ true → Bounded e → (c : Arguments) {x : protocol.Call}
-      → said c ≡ ok x → longestFrame ≤ c .room → longestBlock ≤ c .blockRoom → performed format (format .octets e ++ rest) c ≡ protocol.perform x e
+  pub performs : {rec : List ℕ} {e : Endpoint} → Holding format rec e → (c : Arguments) {x : protocol.Call}
+      → said c ≡ ok x → longestFrame ≤ c .room → longestBlock ≤ c .blockRoom → performed format rec c ≡ protocol.perform x e
   unfolding performed asked does refusing andThen first when
-  performs e rest s b c h room blockRoom =
-      let l = length-append (format .octets e) rest in
-      let n = law .long e s b in
-      rw (le-leb (format .size) (length (format .octets e ++ rest)) (omega (arith, l, n)), le-leb longestFrame (c .room) room, has-room (c .call) (c .blockRoom) blockRoom, law .passes e rest s b, law .keeps e rest s b, h) refl
-
-  -- what such a call leaves is such a record again
-  record Left (e : Endpoint) (rest : List ℕ) (o : Outcome Step) : Type 0 where
-    lies : recordAfter format (format .octets e ++ rest) o ≡ format .octets (endpointLeft e o) ++ rest
-    is-sound : sound (endpointLeft e o) ≡ true
-    bounded : Bounded (endpointLeft e o)
-
-  leaves : (e : Endpoint) (rest : List ℕ) → sound e ≡ true → Bounded e → (o : Outcome Step) → LeavesSound o → LeavesBounded o → Left e rest o
-  unfolding recordAfter mapped left
-  leaves e rest s b (refused n) x y = record { lies = refl; is-sound = s; bounded = b }
-  leaves e rest s b (ok x) s′ b′ =
-      record {
-        lies = put-front (format .octets e) rest (format .octets (x .endpoint)) (law .long (x .endpoint) s′ b′ ∙ sym (law .long e s b));
-        is-sound = s′;
-        bounded = b′;
-      }
+  performs {rec} k c h room blockRoom =
+      rw (le-leb (format .size) (length rec) (long format law k), le-leb longestFrame (c .room) room, has-room (c .call) (c .blockRoom) blockRoom, passes format law k, keeps format law k, h) refl
 
   -- the calls of one list say those of the other
   abbrev Says : List Arguments → List protocol.Call → Type 0
@@ -72,19 +53,18 @@ module _ (format : Format) (law : Lawful format) where
   Says (c ∷ cs) [] = ⊥
   Says (c ∷ cs) (q ∷ qs) = ((said c ≡ ok q) × Readable q × (longestFrame ≤ c .room) × (longestBlock ≤ c .blockRoom)) × Says cs qs
 
-  same-up : (cs : List Arguments) (qs : List protocol.Call) → Says cs qs → (e : Endpoint) (rest : List ℕ) → sound e ≡ true → Bounded e
-      → comesUp format cs (format .octets e ++ rest) ≡ protocol-sequence.comesUp qs e
+  same-up : (cs : List Arguments) (qs : List protocol.Call) → Says cs qs → {rec : List ℕ} {e : Endpoint} → Holding format rec e
+      → comesUp format cs rec ≡ protocol-sequence.comesUp qs e
   unfolding comesUp protocol-sequence.comesUp
-  same-up [] [] y e rest s b = refl
-  same-up [] (q ∷ qs) y e rest s b = absurd y
-  same-up (c ∷ cs) [] y e rest s b = absurd y
-  same-up (c ∷ cs) (q ∷ qs) y e rest s b =
-      let p = performs e rest s b c (y .0 .0) (y .0 .2) (y .0 .3) in
+  same-up [] [] y k = refl
+  same-up [] (q ∷ qs) y k = absurd y
+  same-up (c ∷ cs) [] y k = absurd y
+  same-up (c ∷ cs) (q ∷ qs) y {rec} {e} k =
+      let p = performs k c (y .0 .0) (y .0 .2) (y .0 .3) in
       let o = protocol.perform q e in
-      let l = leaves e rest s b o (call-sound q e s (y .0 .1)) (call-bounded q e s b (y .0 .1)) in
-      ap (λ (x : Outcome Step). upOf x ++ comesUp format cs (recordAfter format (format .octets e ++ rest) x)) p
-      ∙ ap (λ (x : List ℕ). upOf o ++ comesUp format cs x) (l .lies)
-      ∙ ap (λ (x : List Block). upOf o ++ x) (same-up cs qs (y .1) (endpointLeft e o) rest (l .is-sound) (l .bounded))
+      let l = leaves format law k o (call-sound q e (k .is-sound) (y .0 .1)) (call-bounded q e (k .is-sound) (k .bounded) (y .0 .1)) in
+      ap (λ (x : Outcome Step). upOf x ++ comesUp format cs (recordAfter format rec x)) p
+      ∙ ap (λ (x : List Block). upOf o ++ x) (same-up cs qs (y .1) l)
 
   -- the octets of collect
   collects : reads call.Request (COLLECT ∷ []) ≡ ok (ask collect)
@@ -119,6 +99,7 @@ module _ (format : Format) (law : Lawful format) where
   pub in-sequence : (e : Endpoint) → sound e ≡ true → Bounded e → e .state ≡ established → e .held ≡ noneHeld → e .delivered + 7 < lastNumber → InSequence format e
   in-sequence e s b open-is none numbers = record {
     comes = λ r frames blocks rest bs order l8 sz o.
-        same-up (overtaking r e bs order) (protocol-sequence.overtaking e bs order) (says-all r frames blocks e s b open-is numbers bs l8 sz order (o .only)) e rest s b
+        same-up (overtaking r e bs order) (protocol-sequence.overtaking e bs order) (says-all r frames blocks e s b open-is numbers bs l8 sz order (o .only))
+        (record { is-sound = s; bounded = b; lies = (rest, refl) })
         ∙ proved.in-sequence e open-is none .comes bs order l8 sz o;
   }

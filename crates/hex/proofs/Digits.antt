@@ -178,16 +178,21 @@ length-unhex (suc n) [] h = absurd (omega arith)
 length-unhex (suc n) (x ∷ []) h = absurd (omega arith)
 length-unhex (suc n) (x ∷ y ∷ l) h = ap suc (length-unhex n l (omega arith))
 
--- what digits stand for is octets
-pub unhex-octets : (l : List ℕ) → all isDigit l ≡ true → Octets (unhex l)
-unfolding unhex all Octets
-unhex-octets [] t i = lit< tt
-unhex-octets (x ∷ []) t i = lit< tt
-unhex-octets (x ∷ y ∷ l) t zero =
+-- the two digits of an octet, and the others
+pair : (x y : ℕ) (l : List ℕ) → all isDigit (x ∷ y ∷ l) ≡ true → Known x (value x) × Known y (value y) × (all isDigit l ≡ true)
+unfolding all
+pair x y l t =
     let tx = both (isDigit x) (isDigit y && all isDigit l) t in
     let ty = both (isDigit y) (all isDigit l) (tx .1) in
-    omega (arith, known x (tx .0) .below, known y (ty .0) .below)
-unhex-octets (x ∷ y ∷ l) t (suc i) = unhex-octets l (both (isDigit y) (all isDigit l) (both (isDigit x) (isDigit y && all isDigit l) t .1) .1) i
+    (known x (tx .0), known y (ty .0), ty .1)
+
+-- what digits stand for is octets
+pub unhex-octets : (l : List ℕ) → all isDigit l ≡ true → Octets (unhex l)
+unfolding unhex Octets
+unhex-octets [] t i = lit< tt
+unhex-octets (x ∷ []) t i = lit< tt
+unhex-octets (x ∷ y ∷ l) t zero = let k = pair x y l t in omega (arith, k .0 .below, k .1 .below)
+unhex-octets (x ∷ y ∷ l) t (suc i) = unhex-octets l (pair x y l t .2) i
 
 -- one octet more
 pub hex-more : (s : List ℕ) (i : ℕ) → i < length s
@@ -233,18 +238,15 @@ hex-digits (b ∷ s) o = rw (shown (b / 16) (omega (arith, o 0)) .is, shown (b %
 
 -- writing what was read
 pub hex-unhex : (n : ℕ) (l : List ℕ) → length l ≡ 2 * n → all isDigit l ≡ true → hex (unhex l) ≡ normal l
-unfolding hex unhex all
+unfolding hex unhex
 hex-unhex zero [] h t = refl
 hex-unhex zero (x ∷ l) h t = absurd (omega arith)
 hex-unhex (suc n) [] h t = absurd (omega arith)
 hex-unhex (suc n) (x ∷ []) h t = absurd (omega arith)
 hex-unhex (suc n) (x ∷ y ∷ l) h t =
-    let tx = both (isDigit x) (isDigit y && all isDigit l) t in
-    let ty = both (isDigit y) (all isDigit l) (tx .1) in
-    let kx = known x (tx .0) in
-    let ky = known y (ty .0) in
-    rw (digits-div (value x) (ky .below), digits-mod (value x) (ky .below), kx .back, ky .back)
-    (ap (λ (r : List ℕ). small x ∷ small y ∷ r) (hex-unhex n l (omega arith) (ty .1)))
+    let k = pair x y l t in
+    rw (digits-div (value x) (k .1 .below), digits-mod (value x) (k .1 .below), k .0 .back, k .1 .back)
+    (ap (λ (r : List ℕ). small x ∷ small y ∷ r) (hex-unhex n l (omega arith) (k .2)))
 
 -- what question 1 asks
 pub record Even (n : ℕ) : Type 0 where

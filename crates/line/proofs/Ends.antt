@@ -9,12 +9,11 @@ use Rattle.hex.proofs.Normal.{asked-alike, unhex-normal}
 use Rattle.call_spec.specs.Calls.{performed, recordAfter}
 use Rattle.link.specs.Record.{format}
 use Rattle.link.specs.Lent.{freshRecord}
-use Rattle.link.proofs.Stays.{Holding, fresh-holds}
 use Rattle.answer_text.specs.Text.{answerRoom}
 use Rattle.line_answer.specs.Line.{lineCall, readyOutcome, lineOutcome}
 use Rattle.line_answer.specs.Text.{text, inRoom}
 use Rattle.line_answer.proofs.Lines.{in-room}
-use Rattle.line_answer.proofs.Runs.{stays-put, line-leaves}
+use Rattle.line_answer.proofs.Runs.{Holds, fresh-holds, stays-put, line-leaves}
 use Rattle.line_split.specs.Split.{cut}
 use Rattle.line_split.proofs.Long.{asks-cut}
 use Rattle.line_io.specs.declared.Place.{Place}
@@ -48,7 +47,7 @@ pub either-case-text : (input : List ℕ) → inputText oneEnd freshRecord (norm
 either-case-text = input-normal oneEnd (λ rec l. ap (recordAfter format rec) (either-case rec l)) (λ rec l. ap (text rec) (either-case rec l)) freshRecord
 
 -- The record after lines is that after them without the empty ones,
-after-others : {rec : List ℕ} → Holding rec → (ls : List (List ℕ)) → stateAfter oneEnd rec ls ≡ stateAfter oneEnd rec (others ls)
+after-others : {rec : List ℕ} → Holds rec → (ls : List (List ℕ)) → stateAfter oneEnd rec ls ≡ stateAfter oneEnd rec (others ls)
 unfolding stateAfter others
 after-others k [] = refl
 after-others k ([] ∷ ls) = rw (stays-put k) (after-others k ls)

@@ -13,12 +13,12 @@ use Rattle.protocol.specs.World.{End, called}
 use Rattle.protocol.specs.Claim.{NoEndAlone}
 use Rattle.protocol.specs.Limits.{Sized}
 use Rattle.protocol.proofs.World.{asking, Asks, Idle, Simulates, no-end-alone}
-use Rattle.protocol.proofs.Theorem.{Roomy, roomy, limited}
+use Rattle.protocol.proofs.Theorem.{Roomy, roomy}
 use Rattle.call_spec.specs.Calls.{said}
-use Rattle.call_spec.proofs.Lift.{fair, Lies, asks, lies}
+use Rattle.call_spec.proofs.Holding.{Lies}
+use Rattle.call_spec.proofs.Lift.{fair, holding, asks, lies}
 use Rattle.link.specs.Record.{format, recordQuestions}
 use Rattle.link.proofs.Demand.{lawful}
-use Rattle.link.proofs.Stays.{Holding}
 use Rattle.line_answer.specs.Line.{lineCall, readyOutcome, lineOutcome}
 use Rattle.line_answer.specs.Claim.{saidIn, ends}
 use Rattle.line_answer.proofs.Runs.{stays-put}
@@ -36,13 +36,10 @@ through zero zero n q e = (n, refl)
 through zero (suc l) n q e = (zero, refl)
 
 module _ (a b : History) (i : Roomy a b) (rec : List ℕ) (k : Lies format rec (now a)) where
-  holding : Holding rec
-  holding = let m = limited i in record { endpoint = now a; is-sound = m .is-sound; is-bounded = m .bounded; lies = k }
-
   -- an empty line says no call, and the end stands as it stood
   idle : Idle ends (Lies format) rec [] (now a)
   unfolding saidIn refusing
-  idle = record { number = 1; none = rw none-refused refl; leaves = rw (stays-put holding) k }
+  idle = record { number = 1; none = rw none-refused refl; leaves = rw (stays-put (now a, holding i k)) k }
 
   does : (line : List ℕ) → Asks ends rec line (now a) ⊎ Idle ends (Lies format) rec line (now a)
   unfolding lineOutcome readyOutcome saidIn

@@ -12,6 +12,7 @@ use Rattle.endpoint.specs.View.{pack, view}
 use Rattle.endpoint.specs.Record.{decode}
 use Rattle.link.specs.Record.{format, recordQuestions}
 use Rattle.link.specs.Lent.{toldOf, statusOf, stands}
+use Rattle.link.proofs.Stays.{holding}
 use Rattle.link.proofs.Standing.{stands-still}
 use Rattle.answer_text.specs.declared.Output.{Output}
 use Rattle.answer_text.specs.Text.{asLine, counted, answerOctets, answerLine, frameLine, textOf, outputOf, answerRoom, Begins}
@@ -35,10 +36,13 @@ module _ (rec : List ℕ) where
   unfolding statusOf toldOf numberOf noticeOf noticeNumber pack view answerOctets counted
   standing-says = standing-is ∙ ap asLine (append-nil _)
 
+  still : Octets rec → first (recordQuestions rec) ≡ 0 → recordAfter format rec (ok (stands rec)) ≡ rec
+  still o h = let a = asked-of rec h in stands-still (holding rec (a .0) o (a .1))
+
   -- the record stays as it is, whether it may be asked or not
   leaves : Octets rec → (n : ℕ) → n ≡ first (recordQuestions rec) → recordAfter format rec (refusing n (readyOutcome rec [])) ≡ rec
   unfolding readyOutcome refusing recordAfter mapped left
-  leaves o zero h = let a = asked-of rec (sym h) in stands-still rec (a .0) o (a .1)
+  leaves o zero h = still o (sym h)
   leaves o (suc n) h = refl
 
   pub undisturbed : Octets rec → recordAfter format rec (lineOutcome rec []) ≡ rec
@@ -47,7 +51,7 @@ module _ (rec : List ℕ) where
 
   module _ (out : List ℕ) {out′ : List ℕ} (o : Octets rec) (h : first (recordQuestions rec) ≡ 0) where
     pub stands-there : {r : ℕ} → Begins (standing rec) out out′ r → Gives (ok (stands rec)) rec out rec out′ r
-    stands-there w = let a = asked-of rec h in record { begins = w; end = sym (stands-still rec (a .0) o (a .1)) }
+    stands-there w = record { begins = w; end = sym (still o h) }
 
     -- N5 of the call: every octet of what is lent
     pub stood : answerRoom ≤ length out → {rec′ : List ℕ} {r : Output} → LineAnswered rec [] out rec′ out′ r → Stood rec out rec′ out′ r

@@ -1,6 +1,6 @@
 -- The record's format is lawful, so demand 3 holds of the calls in octets, and each does what the protocol says.
 use Prim.Native.Nat.{ℕ, _+_, _≤_, _<_}
-use mathlib.Core.Path.{_≡_, ap, _∙_}
+use mathlib.Core.Path.{_≡_, refl, ap, _∙_}
 use mathlib.Core.Bool.{true}
 use mathlib.Core.List.{List, _++_}
 use native.Mathlib.Omega.{arith}
@@ -71,7 +71,7 @@ no-end-alone = demand-3 format lawful
 -- a call on the record of a sound endpoint does what the protocol's call does that its octets say
 pub performs : (e : abstract.Endpoint) (rest : List ℕ) → abstract.sound e ≡ true → Bounded e → (c : Arguments) {x : protocol.Call}
     → said c ≡ ok x → longestFrame ≤ c .room → longestBlock ≤ c .blockRoom → performed format (format .octets e ++ rest) c ≡ protocol.perform x e
-performs = sequence.performs format lawful
+performs e rest s b = sequence.performs format lawful (record { is-sound = s; bounded = b; lies = (rest, refl) })
 
 -- the eight come up in sequence
 pub in-sequence : (e : abstract.Endpoint) → abstract.sound e ≡ true → Bounded e → e .state ≡ abstract.established → e .held ≡ abstract.noneHeld
