@@ -4,13 +4,13 @@ use mathlib.Core.Path.{_≡_}
 use mathlib.Core.List.{List, [], _∷_, _++_}
 use Rattle.line_split.specs.Split.{linesOf, cut}
 
--- What answers lines: a state, the text that it says to a line, and the state stateAfter that.
+-- What answers lines: a state, the text that it says to a line, and the state after that.
 pub record Answering : Type 1 where
   pub State : Type 0
   pub next : State → List ℕ → State
   pub says : State → List ℕ → List ℕ
 
--- the state stateAfter lines
+-- the state after lines
 unfoldable pub stateAfter : (a : Answering) → a .State → List (List ℕ) → a .State
 stateAfter a s [] = s
 stateAfter a s (l ∷ ls) = stateAfter a (a .next s l) ls

@@ -21,7 +21,7 @@ pub record Ends : Type 1 where
   -- whether a call may stand in the list beside the answers of the other end: a delivery is of a frame that an earlier call there sent
   pub Due : History → History → Call → Type 0
 
--- An end at a moment: its record as the last call endpointLeft it, and what its accepted calls have answered, the latest first.
+-- An end at a moment: its record as the last call left it, and what its accepted calls have answered, the latest first.
 pub record End (Record : Type 0) : Type 0 where
   pub rec : Record
   pub history : History
