@@ -40,3 +40,6 @@ pub const NO_SUCH_FRAME: u8 = 13;
 
 // 14: the log has no place left.
 pub const LOG_FULL: u8 = 14;
+
+// 15: the page is not the one that goes with the record.
+pub const WRONG_PAGE: u8 = 15;
