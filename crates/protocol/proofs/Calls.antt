@@ -14,7 +14,7 @@ use Rattle.octets.proofs.Test.{split, if-eq, either}
 use Rattle.frame.specs.Frame.{Block, Frame, control, dataFrame, Request, connect, listen, endListening, close, timer, collect, send}
 use Rattle.protocol.specs.Endpoint.{Endpoint, waiting}
 use Rattle.protocol.specs.Table.{Sent, nothing, frame, Step}
-use Rattle.octets.specs.Sizes.{lastNumber, queueSize}
+use Rattle.octets.specs.Sizes.{lastNumber, lastIncarnation, queueSize}
 use Rattle.protocol.specs.Requests.{questions, refusal, queueing, oldest, resent, hungUp, collected, accept, request}
 use Rattle.protocol.specs.History.{Call, ask, deliver, perform, Event, History, now, also, sent, recorded, after, Due}
 use Rattle.protocol.specs.Claim.{blockSent}
@@ -50,8 +50,8 @@ within (send b) = true
 
 -- when a request is allowed
 abbrev pub Allowed : Request → Endpoint → Type 0
-Allowed connect e = (e .state ≡ 0) × (e .local < lastNumber)
-Allowed listen e = (e .state ≡ 0) × (e .local < lastNumber)
+Allowed connect e = (e .state ≡ 0) × (e .local < lastIncarnation)
+Allowed listen e = (e .state ≡ 0) × (e .local < lastIncarnation)
 Allowed endListening e = e .state ≡ 1
 Allowed close e = (e .state ≡ 2) ⊎ (e .state ≡ 4)
 Allowed (send b) e = (e .state ≡ 4) × (e .accepted < lastNumber) × (length (e .queue) < queueSize)
@@ -135,8 +135,8 @@ event c h x = record { call = c; before = now h; answer = x }
 -- What a call does at the end a, beside the end b.
 pub data Deed (a b : History) (c : Call) : History → Type 0 where
   refuses : Deed a b c a
-  connects : now a .state ≡ 0 → now a .local < lastNumber → c ≡ ask connect → Deed a b c (event c a (accept connect (now a)) ∷ a)
-  listens : now a .state ≡ 0 → now a .local < lastNumber → blockSent c ≡ [] → Deed a b c (event c a (accept listen (now a)) ∷ a)
+  connects : now a .state ≡ 0 → now a .local < lastIncarnation → c ≡ ask connect → Deed a b c (event c a (accept connect (now a)) ∷ a)
+  listens : now a .state ≡ 0 → now a .local < lastIncarnation → blockSent c ≡ [] → Deed a b c (event c a (accept listen (now a)) ∷ a)
   goes : {f : Frame} {x : Step} → Heard b f → Fires (now a) f (blockSent c) x → Deed a b c (event c a x ∷ a)
 
 module _ {a b : History} (s : Sane (now a)) (l : Laden (now a)) where

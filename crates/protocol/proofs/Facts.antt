@@ -11,11 +11,11 @@ use lib.ListN.{length, drop, getD, replicate, length-append, length-drop, length
 use lib.Seq.{getD-drop, getD-set-same, getD-set-other}
 use Rattle.octets.specs.Test.{ifEq, ifLt, zeros}
 use Rattle.octets.proofs.Test.{if-eq, if-lt, by-eq}
-use Rattle.frame.specs.Frame.{Block, CRAO, CRPO, CRACK, REJ, RESET, DR, DRACK, DATA, Frame, control, dataFrame, ackFrame}
+use Rattle.frame.specs.Frame.{Block, CRAO, CRPO, CRACK, REJ, RESET, DR, DRACK, DATA, ACK, Frame, control, dataFrame, ackFrame}
 use Rattle.protocol.specs.declared.Rule.{Rule}
 use Rattle.protocol.specs.declared.Rule.the-variants.{Ignore, Refuse, AcceptDisconnect, Answer, Reset, OpenAndConfirm}
 use Rattle.protocol.specs.declared.Rule.the-variants.{CallAgain, Open, Rejected, RejectedByDisconnect, ListenAgain}
-use Rattle.protocol.specs.declared.Rule.the-variants.{ClosedByPartner, Confirm, HandUp, Hold, Acknowledge, Release}
+use Rattle.protocol.specs.declared.Rule.the-variants.{ClosedByPartner, ClosedByRejection, Confirm, HandUp, Hold, Acknowledge, Release}
 use Rattle.protocol.specs.declared.Rule.the-variants.{FinishedByDisconnect, Finished}
 use Rattle.protocol.specs.Endpoint.{Endpoint, waiting, noneHeld, lengthsOf}
 use Rattle.protocol.specs.Table.{whenClosed, whenListening, whenActive, whenPassive, dataRow, ackRow, openRows}
@@ -110,6 +110,9 @@ pub data Found (e : Endpoint) (f : Frame) : Rule → Type 0 where
   ignore : Found e f Ignore
   refuse-crao : e .state ≡ 0 → f .kind ≡ CRAO → Found e f Refuse
   refuse-crpo : e .state ≡ 0 → f .kind ≡ CRPO → Found e f Refuse
+  refuse-crack : e .state ≡ 0 → f .kind ≡ CRACK → Found e f Refuse
+  refuse-data : e .state ≡ 0 → f .kind ≡ DATA → Found e f Refuse
+  refuse-ack : e .state ≡ 0 → f .kind ≡ ACK → Found e f Refuse
   accept-dr : e .state ≤ 1 → f .kind ≡ DR → Found e f AcceptDisconnect
   accept-other : 2 ≤ e .state → e .state ≤ 3 → f .kind ≡ DR → f .quoted ≢ e .local → Found e f AcceptDisconnect
   answer : 1 ≤ e .state → e .state ≤ 3 → e .state ≢ 2 → f .kind ≡ CRAO → e .remote ≤ f .sender → Found e f Answer
@@ -124,6 +127,7 @@ pub data Found (e : Endpoint) (f : Frame) : Rule → Type 0 where
   listen-rej : e .state ≡ 3 → f .kind ≡ REJ → f .quoted ≡ e .local → e .remote ≤ f .sender → Found e f ListenAgain
   listen-reset : e .state ≡ 3 → f .kind ≡ RESET → f .quoted ≡ e .local → e .remote ≤ f .sender → Found e f ListenAgain
   partner : 1 ≤ e .state → f .kind ≡ DR → e .remote ≤ f .sender → Found e f ClosedByPartner
+  rejection : 1 ≤ e .state → f .kind ≡ REJ → f .quoted ≡ e .local → e .remote ≤ f .sender → Found e f ClosedByRejection
   confirm : e .state ≡ 4 → Found e f Confirm
   hand-up : e .state ≡ 4 → f .kind ≡ DATA → f .sender ≡ e .remote → f .quoted ≡ e .local → f .number ≡ e .delivered → Found e f HandUp
   hold : e .state ≡ 4 → f .kind ≡ DATA → f .sender ≡ e .remote → f .quoted ≡ e .local → e .delivered ≤ f .number → f .number < e .delivered + heldSize
@@ -139,9 +143,9 @@ eq-found {e} {f} = if-eq (Found e f)
 lt-found : {e : Endpoint} {f : Frame} (a b : ℕ) {x y : Rule} → (a < b → Found e f x) → (b ≤ a → Found e f y) → Found e f (ifLt a b x y)
 lt-found {e} {f} = if-lt (Found e f)
 
-ruleset opening = (refuse-crao, refuse-crpo, accept-dr, accept-other, answer, reset, open-crao, open-crpo, call, open-active, open-passive)
+ruleset opening = (refuse-crao, refuse-crpo, refuse-crack, refuse-data, refuse-ack, accept-dr, accept-other, answer, reset, open-crao, open-crpo, call, open-active, open-passive)
 
-ruleset ending = (reject, reject-dr, listen-rej, listen-reset, partner, finish-dr, finish, newer, rejects, ended)
+ruleset ending = (reject, reject-dr, listen-rej, listen-reset, partner, rejection, finish-dr, finish, newer, rejects, ended)
 
 ruleset talking = (confirm, hand-up, hold, acknowledge, release)
 
@@ -203,6 +207,9 @@ unfolding apply
 does ignore = fires (stays refl refl refl) (keeps tt) silence
 does (refuse-crao h k) = fires (stays refl refl refl) (keeps tt) (rej h (omega arith) (omega arith) (omega arith))
 does (refuse-crpo h k) = fires (stays refl refl refl) (keeps tt) (rej h (omega arith) (omega arith) (omega arith))
+does (refuse-crack h k) = fires (stays refl refl refl) (keeps tt) (rej h (omega arith) (omega arith) (omega arith))
+does (refuse-data h k) = fires (stays refl refl refl) (keeps tt) (rej h (omega arith) (omega arith) (omega arith))
+does (refuse-ack h k) = fires (stays refl refl refl) (keeps tt) (rej h (omega arith) (omega arith) (omega arith))
 does (accept-dr h k) = fires (stays refl refl refl) (keeps tt) (drack k h)
 does (accept-other h i k r) = fires (stays refl refl refl) (keeps tt) (drack-to-other k h i r)
 does (answer h i j k d) = fires (answers k d h i j) (clears tt tt) (crpo refl)
@@ -217,6 +224,7 @@ does (reject-dr h k d) = fires (drops h (hung-up k d)) (clears tt tt) (drack k (
 does (listen-rej h k r d) = fires (relistens k r d h) (clears tt tt) silence
 does (listen-reset h k r d) = fires (resets k r d h) (clears tt tt) silence
 does (partner h k d) = fires (drops h (hung-up k d)) (clears tt tt) (drack k (omega arith))
+does (rejection h k r d) = fires (drops h (rejects k r d)) (clears tt tt) silence
 does (confirm h) = fires (stays refl refl refl) (keeps tt) (crack h)
 does (hand-up h k m r n) = fires (stays refl refl refl) (takes h (arrives k r m n)) (ack _ h refl)
 does (hold h k m r a b) = fires (stays refl refl refl) (overtakes k r m h a b) (ack _ h refl)

@@ -10,7 +10,7 @@ use Rattle.frame.specs.Frame.{Block, CRAO, CRPO, CRACK, REJ, RESET, DR, DRACK, 
 use Rattle.frame.specs.Frame.{Request, connect, listen, endListening, close, timer, collect, send}
 use Rattle.protocol.specs.Endpoint.{Endpoint, waiting, sized, sound}
 use Rattle.protocol.specs.Table.{Notice, Sent, frame, Step}
-use Rattle.octets.specs.Sizes.{lastNumber}
+use Rattle.octets.specs.Sizes.{lastNumber, lastIncarnation}
 use Rattle.protocol.specs.Requests.{begun, accept}
 use Rattle.protocol.specs.History.{Call, ask, deliver, perform, History, now, sent}
 use Rattle.protocol.specs.Claim.{blockSent}
@@ -153,11 +153,11 @@ begun-sound st e a b = sounds (begun st e) (record {
   fitting = λ i n. none-held i n;
 })
 
-begun-bounded : (st : ℕ) {e : Endpoint} → Bounded e → e .local < lastNumber → Bounded (begun st e)
+begun-bounded : (st : ℕ) {e : Endpoint} → Bounded e → e .local < lastIncarnation → Bounded (begun st e)
 begun-bounded st v p = omega arith
 
 -- What an accepted call leaves, of which it is known what holds where an incarnation begins and where the end goes on.
-module _ (P : Endpoint → Type 0) (e : Endpoint) (s : Sound e) (begins : (st : ℕ) → 1 ≤ st → st ≤ 2 → e .local < lastNumber → P (begun st e))
+module _ (P : Endpoint → Type 0) (e : Endpoint) (s : Sound e) (begins : (st : ℕ) → 1 ≤ st → st ≤ 2 → e .local < lastIncarnation → P (begun st e))
     (on : (f : Frame) (bs : List Block) (x : Step) → Small f → sized bs ≡ true → Fires e f bs x → P (x .endpoint)) where
   after-request : (q : Request) → sized (blockSent (ask q)) ≡ true → Allowed q e → P (accept q e .endpoint)
   unfolding accept

@@ -46,6 +46,7 @@ data-rule x n b p =
     ∙ eq-no _ _ _ _ (λ z. omega arith)
     ∙ eq-no _ _ _ _ (λ z. omega arith)
     ∙ eq-yes _ _ _ _ p
+    ∙ eq-no _ _ _ _ (λ z. omega arith)
     ∙ eq-yes _ _ _ _ refl
     ∙ eq-yes _ _ _ _ refl
     ∙ eq-no _ _ _ _ (λ z. omega arith)

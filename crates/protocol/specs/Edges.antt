@@ -1,8 +1,8 @@
--- The eleven cases that document 01 marks P, "at the edges", as one table: what each call answers, whole; then those of N2 and N4.
+-- The eleven cases that document 01 marks P, "at the edges", as one table: what each call answers, whole; then those of N2, N4 and N6.
 use Prim.Native.Nat.{ℕ}
 use mathlib.Core.List.{List, [], _∷_, map}
 use Rattle.octets.specs.Test.{Outcome, refused, ok}
-use Rattle.frame.specs.Frame.{Block, CRAO, REJ, RESET, DR, DRACK, control, dataFrame, ackFrame, connect, close, collect, send}
+use Rattle.frame.specs.Frame.{Block, CRAO, CRACK, REJ, RESET, DR, DRACK, control, dataFrame, ackFrame, connect, listen, close, collect, send}
 use Rattle.protocol.specs.Endpoint.{closed, listening, activeOpening, passiveOpening, established, closing, Endpoint, noneHeld}
 use Rattle.protocol.specs.Table.{none, rejected, closedByPartner, closeFinished, handedUp, Step, quiet, says}
 use Rattle.protocol.specs.History.{Call, ask, deliver, perform}
@@ -47,8 +47,8 @@ edges =
     ∷ edge (at passiveOpening 2 6) (deliver (control RESET 7 2)) (ok (quiet (at listening 2 0) none))
     ∷ edge (at passiveOpening 2 6) (deliver (control RESET 5 2)) (ok (quiet (at passiveOpening 2 6) none))
     ∷ edge (holding 0 []) (deliver (dataFrame 2 1 1 block)) (ok (says (having 0 (early block)) none (ackFrame 1 2 0)))
-    ∷ edge (at closed 4294967294 0) (ask connect) (ok (says (at activeOpening 4294967295 0) none (control CRAO 4294967295 0)))
-    ∷ edge (at closed 4294967295 0) (ask connect) (refused 9)
+    ∷ edge (at closed 65535 0) (ask connect) (ok (says (at activeOpening 65536 0) none (control CRAO 65536 0)))
+    ∷ edge (at closed 65536 0) (ask connect) (refused 9)
     ∷ edge (holding 7 seven) (ask (send block)) (ok (says (holding 8 (block ∷ seven)) none (dataFrame 1 2 7 block)))
     ∷ edge (holding 8 (block ∷ seven)) (ask (send block)) (refused 10)
     ∷ []
@@ -100,6 +100,22 @@ hangUps =
     ∷ edge (at listening 5 0) (ask close) (refused 8)
     ∷ edge (at passiveOpening 5 3) (ask close) (refused 8)
     ∷ edge (at closing 5 3) (ask close) (refused 8)
+    ∷ []
+
+-- N6's: what a closed end answers to what an open one sends; REJ to an open end; and 9, of incarnations and of blocks.
+unfoldable pub rejections : List Edge
+rejections =
+    edge (at closed 5 0) (deliver (control CRACK 3 4)) (ok (says (at closed 5 0) none (control REJ 5 3)))
+    ∷ edge (at closed 5 0) (deliver (dataFrame 3 4 0 block)) (ok (says (at closed 5 0) none (control REJ 5 3)))
+    ∷ edge (at closed 5 0) (deliver (ackFrame 3 4 1)) (ok (says (at closed 5 0) none (control REJ 5 3)))
+    ∷ edge (at closed 5 0) (deliver (control REJ 3 4)) (ok (quiet (at closed 5 0) none))
+    ∷ edge (having 1 (early block)) (deliver (control REJ 2 1)) (ok (quiet (at closed 1 0) closedByPartner))
+    ∷ edge (having 1 (early block)) (deliver (control REJ 16 1)) (ok (quiet (at closed 1 0) closedByPartner))
+    ∷ edge (having 1 (early block)) (deliver (control REJ 1 1)) (ok (quiet (having 1 (early block)) none))
+    ∷ edge (having 1 (early block)) (deliver (control REJ 2 2)) (ok (quiet (having 1 (early block)) none))
+    ∷ edge (at closed 65535 0) (ask listen) (ok (quiet (at listening 65536 0) none))
+    ∷ edge (at closed 65536 0) (ask listen) (refused 9)
+    ∷ edge (holding 4294967295 []) (ask (send block)) (refused 9)
     ∷ []
 
 -- what the table says, and what the calls answer

@@ -4,7 +4,7 @@ use mathlib.Core.Bool.{_||_}
 use mathlib.Core.List.{List, [], _∷_, _++_}
 use lib.ListN.{getD}
 use lib.Dec.{ltb, eqb}
-use Rattle.octets.specs.Sizes.{lastNumber, queueSize}
+use Rattle.octets.specs.Sizes.{lastNumber, lastIncarnation, queueSize}
 use Rattle.octets.specs.Test.{ifEq, Question, first, Outcome, outcome}
 use Rattle.frame.specs.Frame.{Block, CRAO, CRPO, DR, control, dataFrame, ackFrame}
 use Rattle.frame.specs.Frame.{Request, connect, listen, endListening, close, timer, collect, send}
@@ -18,9 +18,12 @@ stateIs n e = (8, eqb (e .state) n)
 abbrev pub stateIsEither : ℕ → ℕ → Endpoint → Question
 stateIsEither m n e = (8, eqb (e .state) m || eqb (e .state) n)
 
--- 9: is a number left?
-abbrev pub numberLeft : ℕ → Question
-numberLeft n = (9, ltb n lastNumber)
+-- 9: is a number left? Of incarnations as many as a page reserves (N6), of blocks 32 bits.
+abbrev pub incarnationLeft : Endpoint → Question
+incarnationLeft e = (9, ltb (e .local) lastIncarnation)
+
+abbrev pub blockNumberLeft : Endpoint → Question
+blockNumberLeft e = (9, ltb (e .accepted) lastNumber)
 
 -- 10: send: is w below 8?
 abbrev pub placeLeft : Endpoint → Question
@@ -28,11 +31,11 @@ placeLeft e = (10, ltb (waiting e) queueSize)
 
 -- the questions of each request, in document 01's order
 unfoldable pub questions : Request → Endpoint → List Question
-questions connect e = stateIs closed e ∷ numberLeft (e .local) ∷ []
-questions listen e = stateIs closed e ∷ numberLeft (e .local) ∷ []
+questions connect e = stateIs closed e ∷ incarnationLeft e ∷ []
+questions listen e = stateIs closed e ∷ incarnationLeft e ∷ []
 questions endListening e = stateIs listening e ∷ []
 questions close e = stateIsEither activeOpening established e ∷ []
-questions (send b) e = stateIs established e ∷ numberLeft (e .accepted) ∷ placeLeft e ∷ []
+questions (send b) e = stateIs established e ∷ blockNumberLeft e ∷ placeLeft e ∷ []
 questions timer e = []
 questions collect e = stateIs established e ∷ []
 

@@ -8,7 +8,7 @@ use Rattle.frame.specs.Frame.{Block, CRAO, CRPO, CRACK, REJ, RESET, DR, DRACK, 
 use Rattle.protocol.specs.declared.Rule.{Rule}
 use Rattle.protocol.specs.declared.Rule.the-variants.{Ignore, Refuse, AcceptDisconnect, Answer, Reset, OpenAndConfirm}
 use Rattle.protocol.specs.declared.Rule.the-variants.{CallAgain, Open, Rejected, RejectedByDisconnect, ListenAgain}
-use Rattle.protocol.specs.declared.Rule.the-variants.{ClosedByPartner, Confirm, HandUp, Hold, Acknowledge, Release}
+use Rattle.protocol.specs.declared.Rule.the-variants.{ClosedByPartner, ClosedByRejection, Confirm, HandUp, Hold, Acknowledge, Release}
 use Rattle.protocol.specs.declared.Rule.the-variants.{FinishedByDisconnect, Finished}
 use Rattle.protocol.specs.Endpoint.{closed, listening, activeOpening, passiveOpening, established, closing, Endpoint, waiting, noneHeld}
 
@@ -40,6 +40,9 @@ unfoldable pub whenClosed : Endpoint → Frame → Rule
 whenClosed e f =
     f is CRAO ⇒ Refuse
     ∥ f is CRPO ⇒ Refuse
+    ∥ f is CRACK ⇒ Refuse
+    ∥ f is DATA ⇒ Refuse
+    ∥ f is ACK ⇒ Refuse
     ∥ f is DR ⇒ AcceptDisconnect
     ∥ Ignore
 
@@ -93,9 +96,12 @@ openRows e f =
     ∥ f is ACK ⇒ ackRow e f
     ∥ Ignore
 
--- only with s = D and r = L
+-- only with s = D and r = L; but REJ (N6) with any s ≥ D, since the partner may have restarted with a later number
 unfoldable pub whenEstablished : Endpoint → Frame → Rule
-whenEstablished e f = f matches e ⇒ (f quotes e ⇒ openRows e f ∥ Ignore) ∥ Ignore
+whenEstablished e f =
+    f is REJ ⇒ (f quotes e ⇒ ClosedByRejection ∥ Ignore)
+    ∥ f matches e ⇒ (f quotes e ⇒ openRows e f ∥ Ignore)
+    ∥ Ignore
 
 unfoldable pub whenClosing : Endpoint → Frame → Rule
 whenClosing e f =
@@ -228,6 +234,7 @@ apply Rejected e f = quiet (turned closed 0 e) rejected
 apply RejectedByDisconnect e f = says (turned closed 0 e) rejected (reply DRACK e f)
 apply ListenAgain e f = quiet (turned listening 0 e) none
 apply ClosedByPartner e f = says (turned closed 0 e) closedByPartner (reply DRACK e f)
+apply ClosedByRejection e f = quiet (turned closed 0 e) closedByPartner
 apply Confirm e f = says e none (control CRACK (e .local) (e .remote))
 apply HandUp e f = says (delivering e) (handedUp (f .block)) (ackFrame (e .local) (e .remote) (e .delivered + 1))
 apply Hold e f = says (holdingEarly (f .number) (f .block) e) none (ackFrame (e .local) (e .remote) (e .delivered))

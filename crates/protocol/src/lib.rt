@@ -12,6 +12,7 @@ pub enum Rule {
     RejectedByDisconnect,
     ListenAgain,
     ClosedByPartner,
+    ClosedByRejection,
     Confirm,
     HandUp,
     Hold,
