@@ -18,7 +18,7 @@ use Rattle.frame.proofs.Writing.{head-length, encode-control}
 use Rattle.frame.specs.Read.{readFrame, readRequest}
 use Rattle.protocol.specs.declared.Rule.{Rule}
 use Rattle.protocol.specs.declared.Rule.the-variants.{Ignore, Refuse, AcceptDisconnect, Answer, Reset, OpenAndConfirm, CallAgain, Open, Rejected}
-use Rattle.protocol.specs.declared.Rule.the-variants.{RejectedByDisconnect, ListenAgain, ClosedByPartner, Confirm, HandUp, Hold, Acknowledge, Release}
+use Rattle.protocol.specs.declared.Rule.the-variants.{RejectedByDisconnect, ListenAgain, ClosedByPartner, ClosedByRejection, Confirm, HandUp, Hold, Acknowledge, Release}
 use Rattle.protocol.specs.declared.Rule.the-variants.{FinishedByDisconnect, Finished}
 use Rattle.protocol.specs.Endpoint.{Endpoint, sized, sound}
 use Rattle.protocol.specs.Table.{Sent, frame, Step, rule, apply, step}
@@ -56,6 +56,7 @@ step-short Rejected e f = omega arith
 step-short RejectedByDisconnect e f = omega arith
 step-short ListenAgain e f = omega arith
 step-short ClosedByPartner e f = omega arith
+step-short ClosedByRejection e f = omega arith
 step-short Confirm e f = omega arith
 step-short HandUp e f = omega arith
 step-short Hold e f = omega arith

@@ -15,7 +15,7 @@ use Rattle.frame.specs.Read.{readFrame, readRequest}
 use Rattle.frame.proofs.Blocks.{data-block}
 use Rattle.protocol.specs.declared.Rule.{Rule}
 use Rattle.protocol.specs.declared.Rule.the-variants.{Ignore, Refuse, AcceptDisconnect, Answer, Reset, OpenAndConfirm, CallAgain, Open, Rejected}
-use Rattle.protocol.specs.declared.Rule.the-variants.{RejectedByDisconnect, ListenAgain, ClosedByPartner, Confirm, HandUp, Hold, Acknowledge, Release}
+use Rattle.protocol.specs.declared.Rule.the-variants.{RejectedByDisconnect, ListenAgain, ClosedByPartner, ClosedByRejection, Confirm, HandUp, Hold, Acknowledge, Release}
 use Rattle.protocol.specs.declared.Rule.the-variants.{FinishedByDisconnect, Finished}
 use Rattle.protocol.specs.Endpoint.{Endpoint}
 use Rattle.protocol.specs.Table.{noticeNumber, rule, Step, apply, step}
@@ -72,6 +72,7 @@ module _ (b : Block) (Q : Type 0) (e : Endpoint) (f : Frame) (d : f .kind ≡ 8 
   by-rule RejectedByDisconnect h = none b Q 2 (λ z. omega arith)
   by-rule ListenAgain h = none b Q 0 (λ z. omega arith)
   by-rule ClosedByPartner h = none b Q 3 (λ z. omega arith)
+  by-rule ClosedByRejection h = none b Q 3 (λ z. omega arith)
   by-rule Confirm h = none b Q 0 (λ z. omega arith)
   by-rule HandUp h = record { some = λ _. d (h refl); nothing = λ z. absurd (z refl) }
   by-rule Hold h = none b Q 0 (λ z. omega arith)

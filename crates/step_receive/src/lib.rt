@@ -114,6 +114,9 @@ fn apply(row: Rule, n: Numbers, held: &[u8], f: Values) -> Plan
         Rule::RejectedByDisconnect => step_plan::turn(n, held, CLOSED, 0, REJECTED, drack),
         Rule::ListenAgain => step_plan::turn(n, held, LISTENING, 0, NONE, Reply::Nothing),
         Rule::ClosedByPartner => step_plan::turn(n, held, CLOSED, 0, CLOSED_BY_PARTNER, drack),
+        Rule::ClosedByRejection => {
+            step_plan::turn(n, held, CLOSED, 0, CLOSED_BY_PARTNER, Reply::Nothing)
+        }
         Rule::Confirm => step_plan::keep(n, NONE, confirm),
         Rule::HandUp => step_plan::hand_up(n, held),
         Rule::Hold => hold(n, held, (f.number - n.delivered) as usize),

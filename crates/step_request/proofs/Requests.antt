@@ -18,8 +18,8 @@ use Rattle.protocol.specs.Requests.{placeLeft, questions, refusal, hungUp, coll
 use Rattle.step_plan.specs.Internal.{Oldest}
 
 -- where a number is left
-pub left : (b : Bool) (n : ℕ) → first ((8, b) ∷ (9, ltb n lastNumber) ∷ []) ≡ 0 → n < lastNumber
-left b n h = ltb-true n lastNumber (all-yes 9 _ _ (all-yes 8 _ _ h tt .1) tt .0)
+pub left : (b : Bool) (n last : ℕ) → first ((8, b) ∷ (9, ltb n last) ∷ []) ≡ 0 → n < last
+left b n last h = ltb-true n last (all-yes 9 _ _ (all-yes 8 _ _ h tt .1) tt .0)
 
 -- the states in which close is allowed
 abbrev closable : Endpoint → Bool

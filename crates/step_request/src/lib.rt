@@ -2,6 +2,7 @@
 use frame::Header;
 use frame::RequestKind;
 use frame::RequestRead;
+use octets::LAST_INCARNATION;
 use octets::LAST_NUMBER;
 use octets::refusal;
 use step_plan::ACCEPTED;
@@ -22,7 +23,7 @@ ghost use Prim.Native.Nat.{ℕ, _≤_, _<_};
 ghost use mathlib.Core.List.{List, [], _∷_};
 ghost use lib.Dec.{ltb, eqb};
 ghost use lib.ListN.{length, drop, getD};
-ghost use Rattle.octets.specs.Sizes.{longestBlock, heldSize, lastNumber};
+ghost use Rattle.octets.specs.Sizes.{longestBlock, heldSize, lastNumber, lastIncarnation};
 ghost use Rattle.octets.specs.Test.{first};
 ghost use Rattle.frame.specs.Frame.{Block, connect, listen, endListening, close, timer, collect, send};
 ghost use Rattle.frame.specs.Layout.{sendBlockAt};
@@ -38,14 +39,14 @@ ghost use Rattle.step_plan.specs.Internal.{beginning};
 // The most blocks that wait.
 const QUEUE_SIZE: u8 = octets::QUEUE_SIZE as u8;
 
-// Questions 8 and 9 of a request that one state allows and that takes the next of some numbers; 0 where both are answered yes.
-fn refusal_of(n: Numbers, allowed: u8, number: u32) -> u8
-    ensures { λ r. ⌜ r ≡ first ((8, eqb (n .state) allowed) ∷ (9, ltb number lastNumber) ∷ []) ⌝ }
+// Questions 8 and 9 of a request that one state allows and that takes the next of some numbers up to last; 0 where both are answered yes.
+fn refusal_of(n: Numbers, allowed: u8, number: u32, last: u32) -> u8
+    ensures { λ r. ⌜ r ≡ first ((8, eqb (n .state) allowed) ∷ (9, ltb number last) ∷ []) ⌝ }
 {
     if n.state != allowed {
         return refusal::WRONG_STATE;
     }
-    if number >= LAST_NUMBER {
+    if number >= last {
         return refusal::NO_NUMBER_LEFT;
     }
     0
@@ -53,7 +54,7 @@ fn refusal_of(n: Numbers, allowed: u8, number: u32) -> u8
 
 // The next incarnation in this state, with no partner known.
 fn begin(n: Numbers, held: &[u8], state: u8, reply: Reply) -> Plan
-    requires { ⌜ n .local < lastNumber ⌝ }
+    requires { ⌜ n .local < lastIncarnation ⌝ }
     ensures { λ r. ⌜ r ≡ beginning n (now (held .entry)) state reply ⌝ }
 {
     Plan {
@@ -77,7 +78,7 @@ fn connect(n: Numbers, held: &[u8]) -> Plan
     requires { ⌜ length (now held) ≡ heldSize ⌝ }
     ensures { λ r. ⌜ ((b x : Block) → Planned n (now (held .entry)) b x (request connect) r) ⌝ }
 {
-    let refusal = refusal_of(n, CLOSED, n.local);
+    let refusal = refusal_of(n, CLOSED, n.local, LAST_INCARNATION);
     if refusal != 0 {
         return step_plan::refuse(n, refusal);
     }
@@ -96,7 +97,7 @@ fn listen(n: Numbers, held: &[u8]) -> Plan
     requires { ⌜ length (now held) ≡ heldSize ⌝ }
     ensures { λ r. ⌜ ((b x : Block) → Planned n (now (held .entry)) b x (request listen) r) ⌝ }
 {
-    let refusal = refusal_of(n, CLOSED, n.local);
+    let refusal = refusal_of(n, CLOSED, n.local, LAST_INCARNATION);
     if refusal != 0 {
         return step_plan::refuse(n, refusal);
     }
@@ -136,7 +137,7 @@ fn close(n: Numbers, held: &[u8]) -> Plan
 fn send(n: Numbers) -> Plan
     ensures { λ r. ⌜ ((z : List ℕ) (b x : Block) → 1 ≤ length b → length b ≤ longestBlock → Planned n z b x (request (send b)) r) ⌝ }
 {
-    let refusal = refusal_of(n, ESTABLISHED, n.accepted);
+    let refusal = refusal_of(n, ESTABLISHED, n.accepted, LAST_NUMBER);
     if refusal != 0 {
         return step_plan::refuse(n, refusal);
     }

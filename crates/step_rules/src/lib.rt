@@ -79,6 +79,9 @@ fn when_closed(e: Numbers, f: Values) -> Rule
     match kind {
         CRAO => Rule::Refuse,
         CRPO => Rule::Refuse,
+        CRACK => Rule::Refuse,
+        DATA => Rule::Refuse,
+        ACK => Rule::Refuse,
         DR => Rule::AcceptDisconnect,
         _ => Rule::Ignore,
     }
@@ -173,11 +176,14 @@ fn open_rows(e: Numbers, f: Values) -> Rule
     }
 }
 
-// Only with s = D and r = L.
+// Only with s = D and r = L, but for REJ.
 fn when_established(e: Numbers, f: Values) -> Rule
     requires { ⌜ e .waiting ≤ e .accepted ⌝ }
     ensures { λ r. ⌜ Chosen whenEstablished e f r ⌝ }
 {
+    if f.kind == REJ {
+        return quotes(e, f, Rule::ClosedByRejection, Rule::Ignore);
+    }
     let rows = open_rows(e, f);
     matches(e, f, quotes(e, f, rows, Rule::Ignore), Rule::Ignore)
 }

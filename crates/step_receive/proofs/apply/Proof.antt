@@ -57,15 +57,15 @@ module _ (c : tie.Start) where
 hold-requires : tie.Need-hold-requires
 hold-requires c κs =
     let s = c .before .before .before .before .before in
-    (s .pre .0, omega (arith, found-hold s (c .before .before .enum-told15 .given .1)))
+    (s .pre .0, omega (arith, found-hold s (c .before .before .enum-told16 .given .1)))
 
-returns-15 : tie.Need-returns-15
+returns-16 : tie.Need-returns-16
 unfolding apply noticeNumber sentBy frameOf
-returns-15 c = λ x y b d q h old w _ lz.
+returns-16 c = λ x y b d q h old w _ lz.
     let s = c .before .before .before .before .before .before in
     let n = s .args .n in
     let i : ℕ = s .args .f .number - n .delivered in
-    let told = c .before .before .before .enum-told15 .given .1 in
+    let told = c .before .before .before .enum-told16 .given .1 in
     let f = found-hold s told in
     let v = d (f .0) in
     let l = sym (length-at h i) ∙ ap (λ (z : List ℕ). getD z i 0) lz in
@@ -84,14 +84,14 @@ pub apply-spec : {M : Type 1} → statement M
 unfolding apply noticeNumber sentBy frameOf
 apply-spec =
     tie.close
-    (tie.spec (λ c. search needs) (λ c κs. search needs) (λ c. search needs) (λ c κs. search needs) (λ c. search needs) (λ c κs. search needs)
+    (tie.spec (λ c. search needs) (λ c κs. search needs) (λ c. search needs) (λ c κs. search needs) (λ c. search needs) (λ c κs. search needs) (λ c. search needs) (λ c κs. search needs)
     (λ c. search needs) (λ c κs. search needs) (λ c. search needs) (λ c κs. search needs) (λ c. search needs) (λ c κs. search needs) (λ c. search needs)
     (λ c κs. search needs) (λ c. search needs) (λ c κs. search needs) (λ c. search needs) (λ c κs. search needs) (λ c. search needs) (λ c κs. search needs)
     (λ c. search needs) (λ c κs. search needs) (λ c. search needs) (λ c κs. search needs) (λ c. search needs) (λ c κs. search needs) (λ c. search needs)
-    (λ c κs. found-hand-up (c .before .before .before) (c .enum-told14 .given .1)) (λ c. search needs)
-    (λ c. omega (arith, found-hold (c .before .before .before .before .before) (c .before .before .enum-told15 .given .1))) (λ c. search needs) hold-requires
+    (λ c κs. found-hand-up (c .before .before .before) (c .enum-told15 .given .1)) (λ c. search needs)
+    (λ c. omega (arith, found-hold (c .before .before .before .before .before) (c .before .before .enum-told16 .given .1))) (λ c. search needs) hold-requires
     (λ c. search needs) (λ c κs. search needs) (λ c κs. search needs) (λ c. search needs)
-    (λ c κs. let s = c .before .before .before in (s .pre .1 .0, found-release s (c .enum-told17 .given .1))) (λ c. search needs) (λ c κs. search needs)
+    (λ c κs. let s = c .before .before .before in (s .pre .1 .0, found-release s (c .enum-told18 .given .1))) (λ c. search needs) (λ c κs. search needs)
     (λ c. search needs) (λ c κs. search needs)
     (λ c x y b d q h old w _ lz. let s = c .before .before .before .before in let n = s .args .n in keeps n q h b y old w none Nothing (does s q h x (c .before .enum-told .given .1)) (c .keep .ensures))
     (λ c x y b d q h old w _ lz. let s = c .before .before .before .before in let n = s .args .n in keeps n q h b y old w none (Frame (Rej (n .local) (s .args .f .sender))) (does s q h x (c .before .enum-told2 .given .1)) (c .keep2 .ensures))
@@ -105,10 +105,11 @@ apply-spec =
     (λ c x y b d q h old w _ lz. let s = c .before .before .before .before in let n = s .args .n in turns n q h b y old w _ lz (s .pre .0) closed 0 rejected (Frame (Drack (n .local) (s .args .f .sender))) (does s q h x (c .before .enum-told10 .given .1)) (c .turn6 .ensures))
     (λ c x y b d q h old w _ lz. let s = c .before .before .before .before in let n = s .args .n in turns n q h b y old w _ lz (s .pre .0) listening 0 none Nothing (does s q h x (c .before .enum-told11 .given .1)) (c .turn7 .ensures))
     (λ c x y b d q h old w _ lz. let s = c .before .before .before .before in let n = s .args .n in turns n q h b y old w _ lz (s .pre .0) closed 0 closedByPartner (Frame (Drack (n .local) (s .args .f .sender))) (does s q h x (c .before .enum-told12 .given .1)) (c .turn8 .ensures))
-    (λ c x y b d q h old w _ lz. let s = c .before .before .before .before in let n = s .args .n in keeps n q h b y old w none (Frame (Crack (n .local) (n .remote))) (does s q h x (c .before .enum-told13 .given .1)) (c .keep5 .ensures))
-    (λ c x y b d q h old w _ lz. let s = c .before .before .before .before in let n = s .args .n in hands n q h b y old w _ lz (s .pre .0) x (does s q h x (c .before .enum-told14 .given .1)) (c .hand-up .ensures))
-    returns-15
-    (λ c x y b d q h old w _ lz. let s = c .before .before .before .before .before in let n = s .args .n in keeps n q h b y old w none (Frame (Ack (n .local) (n .remote) (n .delivered))) (does s q h x (c .before .before .enum-told16 .given .1)) (rw (c .before .acknowledge .ensures) at (c .keep6 .ensures)))
-    (λ c x y b d q h old w _ lz. let s = c .before .before .before .before in let n = s .args .n in let t = c .before .enum-told17 .given .1 in releases n q h b y old w (s .args .f .number) (s .pre .1 .0) (found-release s t .1) (does s q h x t) (c .release .ensures))
-    (λ c x y b d q h old w _ lz. let s = c .before .before .before .before in let n = s .args .n in turns n q h b y old w _ lz (s .pre .0) closed 0 closeFinished (Frame (Drack (n .local) (s .args .f .sender))) (does s q h x (c .before .enum-told18 .given .1)) (c .turn9 .ensures))
-    (λ c x y b d q h old w _ lz. let s = c .before .before .before .before in let n = s .args .n in turns n q h b y old w _ lz (s .pre .0) closed 0 closeFinished Nothing (does s q h x (c .before .enum-told19 .given .1)) (c .turn10 .ensures)))
+    (λ c x y b d q h old w _ lz. let s = c .before .before .before .before in let n = s .args .n in turns n q h b y old w _ lz (s .pre .0) closed 0 closedByPartner Nothing (does s q h x (c .before .enum-told13 .given .1)) (c .turn9 .ensures))
+    (λ c x y b d q h old w _ lz. let s = c .before .before .before .before in let n = s .args .n in keeps n q h b y old w none (Frame (Crack (n .local) (n .remote))) (does s q h x (c .before .enum-told14 .given .1)) (c .keep5 .ensures))
+    (λ c x y b d q h old w _ lz. let s = c .before .before .before .before in let n = s .args .n in hands n q h b y old w _ lz (s .pre .0) x (does s q h x (c .before .enum-told15 .given .1)) (c .hand-up .ensures))
+    returns-16
+    (λ c x y b d q h old w _ lz. let s = c .before .before .before .before .before in let n = s .args .n in keeps n q h b y old w none (Frame (Ack (n .local) (n .remote) (n .delivered))) (does s q h x (c .before .before .enum-told17 .given .1)) (rw (c .before .acknowledge .ensures) at (c .keep6 .ensures)))
+    (λ c x y b d q h old w _ lz. let s = c .before .before .before .before in let n = s .args .n in let t = c .before .enum-told18 .given .1 in releases n q h b y old w (s .args .f .number) (s .pre .1 .0) (found-release s t .1) (does s q h x t) (c .release .ensures))
+    (λ c x y b d q h old w _ lz. let s = c .before .before .before .before in let n = s .args .n in turns n q h b y old w _ lz (s .pre .0) closed 0 closeFinished (Frame (Drack (n .local) (s .args .f .sender))) (does s q h x (c .before .enum-told19 .given .1)) (c .turn10 .ensures))
+    (λ c x y b d q h old w _ lz. let s = c .before .before .before .before in let n = s .args .n in turns n q h b y old w _ lz (s .pre .0) closed 0 closeFinished Nothing (does s q h x (c .before .enum-told20 .given .1)) (c .turn11 .ensures)))

@@ -1,6 +1,6 @@
 use Prim.Native.Nat.{_+_, _<_}
 use mathlib.Core.Path.{sym, _∙_}
-use Rattle.octets.specs.Sizes.{lastNumber}
+use Rattle.octets.specs.Sizes.{lastIncarnation}
 use Rattle.frame.specs.Frame.{connect}
 use Rattle.frame.specs.declared.Header.the-variants.{Crao}
 use Rattle.frame.specs.Answer.{frameOf}
@@ -16,8 +16,8 @@ use borrow.Author.Needs.{needs}
 use Rattle.step_request.proofs.connect.Statement.{statement}
 use Rattle.step_request.proofs.connect.Tie as tie
 
-room : (c : tie.Else1) → c .before .before .before .args .n .local < lastNumber
-room c = left _ (c .before .before .before .args .n .local) (sym (c .before .refusal-of .ensures) ∙ c .if1 .left)
+room : (c : tie.Else1) → c .before .before .before .args .n .local < lastIncarnation
+room c = left _ (c .before .before .before .args .n .local) lastIncarnation (sym (c .before .refusal-of .ensures) ∙ c .if1 .left)
 
 pub connect-spec : {M : Type 1} → statement M
 unfolding refusal questions accept sentBy frameOf

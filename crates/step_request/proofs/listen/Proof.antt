@@ -1,6 +1,6 @@
 use Prim.Native.Nat.{_<_}
 use mathlib.Core.Path.{sym, _∙_}
-use Rattle.octets.specs.Sizes.{lastNumber}
+use Rattle.octets.specs.Sizes.{lastIncarnation}
 use Rattle.frame.specs.Frame.{listen}
 use Rattle.protocol.specs.Endpoint.{listening}
 use Rattle.protocol.specs.Requests.{questions, refusal, accept}
@@ -13,8 +13,8 @@ use borrow.Author.Needs.{needs}
 use Rattle.step_request.proofs.listen.Statement.{statement}
 use Rattle.step_request.proofs.listen.Tie as tie
 
-room : (c : tie.Else1) → c .before .before .before .args .n .local < lastNumber
-room c = left _ (c .before .before .before .args .n .local) (sym (c .before .refusal-of .ensures) ∙ c .if1 .left)
+room : (c : tie.Else1) → c .before .before .before .args .n .local < lastIncarnation
+room c = left _ (c .before .before .before .args .n .local) lastIncarnation (sym (c .before .refusal-of .ensures) ∙ c .if1 .left)
 
 pub listen-spec : {M : Type 1} → statement M
 unfolding refusal questions accept sentBy

@@ -38,5 +38,5 @@ send-spec =
     (λ c z b x _ _ q h old w _ _. let n = c .before .before .before .args .n in refuses n q h b x old w _ (send-refused (holding n q h) b (c .before .before .refusal-of .ensures) (c .before .if1 .taken)) (c .refuse .ensures))
     (λ c κs. search needs)
     (λ c z b x _ _ q h old w _ _. let n = c .before .before .before .before .before .args .n in refuses n q h b x old w _ (send-10 (holding n q h) b (passed (c .before .before .before)) (omega arith)) (c .refuse2 .ensures))
-    (λ c. omega (arith, left _ (c .before .before .before .before .before .args .n .accepted) (passed (c .before .before .before)))) (λ c. search needs) (λ c. search needs)
+    (λ c. omega (arith, left _ (c .before .before .before .before .before .args .n .accepted) lastNumber (passed (c .before .before .before)))) (λ c. search needs) (λ c. search needs)
     returns-3)
