@@ -1,22 +1,24 @@
--- An end's calls on lent buffers, in octets: the record, a request or a frame, the buffer for a frame out, and a request's buffer for a
--- block that it collects.
+-- An end's calls on lent buffers, in octets: the record, the page, a request or a frame, the buffer for a frame out, and a request's buffer
+-- for a block that it collects.
 use Prim.Native.Nat.{ℕ}
 use mathlib.Core.Bool.{Bool, true}
 use mathlib.Core.List.{List, [], _∷_}
 use lib.ListN.{length}
 use lib.Dec.{leb}
-use Rattle.octets.specs.Sizes.{longestFrame, longestBlock}
-use Rattle.octets.specs.Test.{Question, first, Outcome, refusing, mapped, andThen}
+use Rattle.octets.specs.Sizes.{longestFrame, longestBlock, pageSize}
+use Rattle.octets.specs.Test.{Question, first, Outcome, refused, ok, refusing, mapped, andThen}
 use Rattle.octets.specs.Octets.{left}
 use Rattle.frame.specs.Layout.{encode}
 use Rattle.frame.specs.Read.{readFrame, readRequest}
 use Rattle.protocol.specs.Endpoint.{Endpoint}
-use Rattle.protocol.specs.Table.{Sent, nothing, frame, Step}
+use Rattle.page.specs.Page.{runs, count, goesWith, reserving}
+use Rattle.protocol.specs.Restart.{restarted}
+use Rattle.protocol.specs.Table.{none, Sent, nothing, frame, Step, quiet}
 use Rattle.protocol.specs.History as protocol
 use Rattle.call_spec.specs.declared.Call.{Call}
 use Rattle.call_spec.specs.declared.Call.the-variants.{Request, Receive}
 
--- A call with its arguments besides the record: which call it is, the octets of a request or of a frame received, and the lengths of the
+-- A call with its arguments besides the record and the page: which call it is, the octets of a request or of a frame received, and the lengths of the
 -- buffers for a frame out and for a block.
 pub record Arguments : Type 0 where
   pub call : Call
@@ -52,12 +54,24 @@ unfoldable pub blockRoomOk : Call → ℕ → Bool
 blockRoomOk Request n = leb longestBlock n
 blockRoomOk Receive n = true
 
--- What a call of an endpoint comes to, whose record is sound or not: 11 of the buffers for a frame and for a block, and 12, come first.
-abbrev pub ownQuestions : Bool → Arguments → List Question
-ownQuestions sound c = (11, leb longestFrame (c .room)) ∷ (11, blockRoomOk (c .call) (c .blockRoom)) ∷ (12, sound) ∷ []
+-- What a call of an endpoint comes to, whose record is sound or not, and which has this page: 11 of the buffers for a frame and for a block
+-- and of the page, 12, and 15 (N6) come first.
+abbrev pub ownQuestions : Bool → ℕ → List ℕ → Arguments → List Question
+ownQuestions sound l page c =
+    (11, leb longestFrame (c .room))
+    ∷ (11, blockRoomOk (c .call) (c .blockRoom))
+    ∷ (11, leb pageSize (length page))
+    ∷ (12, sound)
+    ∷ (15, goesWith l page)
+    ∷ []
 
-unfoldable pub asked : Bool → Endpoint → Arguments → Outcome Step
-asked sound e c = refusing (first (ownQuestions sound c)) (does (c .call) (c .octets) e)
+unfoldable pub asked : Bool → List ℕ → Endpoint → Arguments → Outcome Step
+asked sound page e c = refusing (first (ownQuestions sound (e .local) page c)) (does (c .call) (c .octets) e)
+
+-- What a restart comes to: 11 of the page, and 15, of which only the run of 00 and FF is asked; then the end is closed, with L = 16 times the
+-- count of 00. It looks at the page alone.
+unfoldable pub restarting : List ℕ → Outcome Step
+restarting page = refusing (first ((11, leb pageSize (length page)) ∷ (15, runs page) ∷ [])) (ok (quiet (restarted (count page)) none))
 
 -- the octets of what is sent
 unfoldable pub wire : Sent → List ℕ
@@ -72,9 +86,15 @@ pub record Format : Type 0 where
   pub holds : List ℕ → Endpoint
   pub octets : Endpoint → List ℕ
 
--- What a call of a lent record comes to: 11 of the record first.
-unfoldable pub performed : Format → List ℕ → Arguments → Outcome Step
-performed format rec c = refusing (first ((11, leb (format .size) (length rec)) ∷ [])) (asked (format .sound rec) (format .holds rec) c)
+-- What a call, or a restart, of a lent record comes to: 11 of the record first.
+abbrev pub fitting : Format → List ℕ → Outcome Step → Outcome Step
+fitting format rec o = refusing (first ((11, leb (format .size) (length rec)) ∷ [])) o
+
+unfoldable pub performed : Format → List ℕ → List ℕ → Arguments → Outcome Step
+performed format rec page c = fitting format rec (asked (format .sound rec) page (format .holds rec) c)
+
+unfoldable pub restartedIn : Format → List ℕ → List ℕ → Outcome Step
+restartedIn format rec page = fitting format rec (restarting page)
 
 -- what a call leaves in the record and in the buffer for a frame out: a success writes at their start, a refusal nothing
 unfoldable pub recordAfter : Format → List ℕ → Outcome Step → List ℕ
@@ -82,3 +102,8 @@ recordAfter format rec o = left (mapped (λ (x : Step). format .octets (x .endpo
 
 unfoldable pub bufferAfter : List ℕ → Outcome Step → List ℕ
 bufferAfter out o = left (mapped (λ (x : Step). wire (x .sent)) o) out
+
+-- what a call leaves of the page (N6): the number that a success leaves is reserved, by one octet at most
+unfoldable pub pageAfter : List ℕ → Outcome Step → List ℕ
+pageAfter page (refused n) = page
+pageAfter page (ok x) = reserving (x .endpoint .local) page

@@ -5,11 +5,12 @@ use Rattle.octets.specs.Test.{when, ifEq, ifLt, first, outcome}
 use Rattle.frame.specs.Frame.{Frame}
 use Rattle.protocol.specs.Table.{whenClosed, whenListening, whenActive, whenPassive, dataRow, openRows, whenEstablished, whenClosing, rule, movedDown, apply, step}
 use Rattle.protocol.specs.Requests.{questions, refusal, resent, hungUp, accept, request}
-use Rattle.protocol.specs.History.{perform, now, sent, recorded}
+use Rattle.protocol.specs.History.{perform, does, now, sent, recorded}
 use Rattle.protocol.specs.World.{called, ends}
 use Rattle.protocol.specs.Claim.{handedUpIn, Demand}
 use Rattle.protocol.specs.Examples.{start, callOne, callBoth, ping, pong, talk, BothOpen, HandsUp}
 use Rattle.protocol.specs.Examples.{entries, answersOf, unheard, calledByBoth, answeredTooLate, answeredAnew, opensLate, HungUp}
+use Rattle.protocol.specs.Examples.{staysClosed, callsAtOnce, opensTooLate, cutShort, LostPower}
 use Rattle.protocol.proofs.Theorem.{demand-3}
 
 -- the frame delivered is the last one sent
@@ -17,17 +18,17 @@ last : {f : Frame} {l : List Frame} → List·Memᴰ f (f ∷ l)
 last = List·Memᴰ·head refl
 
 pub one-calls : BothOpen callOne
-unfolding called recorded perform now sent step rule apply whenListening whenActive whenPassive
+unfolding called recorded does perform now sent step rule apply whenListening whenActive whenPassive
     request refusal questions accept first outcome ifEq ifLt when
 one-calls = record { due = (tt, (tt, (last, (last, (last, tt))))); a-open = refl; b-open = refl }
 
 pub both-call : BothOpen callBoth
-unfolding called recorded perform now sent step rule apply whenActive
+unfolding called recorded does perform now sent step rule apply whenActive
     request refusal questions accept first outcome ifEq ifLt when
 both-call = record { due = (tt, (tt, (last, (last, (last, tt))))); a-open = refl; b-open = refl }
 
 pub they-talk : BothOpen talk
-unfolding called recorded perform now sent step rule apply whenListening whenActive whenPassive whenEstablished openRows dataRow movedDown
+unfolding called recorded does perform now sent step rule apply whenListening whenActive whenPassive whenEstablished openRows dataRow movedDown
     request refusal questions accept first outcome ifEq ifLt when
 they-talk = record {
   due = (tt, (tt, (last, (last, (last, (tt, (tt, (last, (tt, (last, (List·Memᴰ·tail last, (tt, (last, tt)))))))))))));
@@ -36,7 +37,7 @@ they-talk = record {
 }
 
 pub they-hear : HandsUp talk (pong ∷ []) (ping ∷ pong ∷ [])
-unfolding handedUpIn called recorded perform now sent step rule apply whenListening whenActive whenPassive whenEstablished openRows dataRow movedDown
+unfolding handedUpIn called recorded does perform now sent step rule apply whenListening whenActive whenPassive whenEstablished openRows dataRow movedDown
     request refusal questions accept first outcome ifEq ifLt when
 they-hear = record { by-a = refl; by-b = refl }
 
@@ -45,7 +46,7 @@ so-they-talk = demand-3 start ((refl, refl), (refl, refl)) talk (they-talk .due)
 
 pub hung-up : HungUp
 unfolding entries answersOf unheard calledByBoth answeredTooLate answeredAnew opensLate
-    called recorded perform now sent step rule apply whenClosed whenListening whenActive whenPassive whenEstablished openRows whenClosing
+    called recorded does perform now sent step rule apply whenClosed whenListening whenActive whenPassive whenEstablished openRows whenClosing
     request refusal questions resent hungUp accept first outcome ifEq ifLt when
 hung-up = record {
   before-anything = record { due = (tt, (tt, tt)); right = refl };
@@ -57,3 +58,17 @@ hung-up = record {
 
 pub so-it-opens-late : Demand ends start (entries opensLate)
 so-it-opens-late = demand-3 start ((refl, refl), (refl, refl)) (entries opensLate) (hung-up .before-the-other-opens .due)
+
+pub lost-power : LostPower
+unfolding entries answersOf staysClosed callsAtOnce opensTooLate cutShort
+    called recorded does perform now sent step rule apply whenClosed whenListening whenActive whenPassive whenEstablished whenClosing
+    request refusal questions hungUp accept first outcome ifEq ifLt when
+lost-power = record {
+  and-stays-closed = record { due = (tt, (tt, (last, (last, (last, (tt, (last, (last, tt)))))))); right = refl };
+  and-calls-at-once = record { due = (tt, (tt, (last, (last, (last, (tt, (tt, (last, (last, (tt, (last, tt))))))))))); right = refl };
+  as-the-other-opens = record { due = (tt, (tt, (last, (tt, (last, (last, (last, tt))))))); right = refl };
+  inside-a-call = record { due = (tt, (tt, (tt, (tt, (tt, tt))))); right = refl };
+}
+
+pub so-it-opens-too-late : Demand ends start (entries opensTooLate)
+so-it-opens-too-late = demand-3 start ((refl, refl), (refl, refl)) (entries opensTooLate) (lost-power .as-the-other-opens .due)

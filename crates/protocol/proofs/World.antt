@@ -6,36 +6,36 @@ use mathlib.Core.List.{List, [], _∷_, _++_}
 use Rattle.octets.specs.Test.{Outcome, refused, ok, refusing, andThen}
 use Rattle.protocol.specs.Endpoint.{Endpoint, fresh}
 use Rattle.protocol.specs.Table.{Step}
-use Rattle.protocol.specs.History.{Call, perform, History, now, recorded, after}
+use Rattle.protocol.specs.History.{Act, does, History, now, recorded, after}
 use Rattle.protocol.specs.World.{Ends, End, Entry, atA, atB, Two, called, made, run, DueAt, AllDue, BothNew, endsWhere}
 use Rattle.protocol.specs.Claim.{Opens, Met, Meets, EachMeets, InOrder, NoEndAlone}
 
--- What holds of two ends' histories wherever fair calls of the protocol have come, and why demand 3 follows from it.
-pub record Invariant (I : History → History → Type 0) (Fair : History → Call → Type 0) : Type 0 where
+-- What holds of two ends' histories wherever fair acts of the protocol have come, and why demand 3 follows from it.
+pub record Invariant (I : History → History → Type 0) (Fair : History → Act → Type 0) : Type 0 where
   pub starts : I [] []
   pub turns : (a b : History) → I a b → I b a
-  pub goes-on : (a b : History) → I a b → (c : Call) → Fair b c → I (after c a) b
-  pub meets : (a b : History) → I a b → (c : Call) → Fair b c → Opens (now a) (now (after c a)) → Met (after c a) b
+  pub goes-on : (a b : History) → I a b → (c : Act) → Fair b c → I (after c a) b
+  pub meets : (a b : History) → I a b → (c : Act) → Fair b c → Opens (now a) (now (after c a)) → Met (after c a) b
   pub in-order : (a b : History) → I a b → InOrder a b
 
--- what a call comes to at an endpoint: the number of a question, or what the call of the protocol comes to that it says
-abbrev pub asking : ℕ → Outcome Call → Endpoint → Outcome Step
-asking n q e = refusing n (andThen q (λ (x : Call). perform x e))
+-- what a call comes to at an endpoint: the number of a question, or what the act of the protocol comes to that it says
+abbrev pub asking : ℕ → Outcome Act → Endpoint → Outcome Step
+asking n q e = refusing n (andThen q (λ (x : Act). does x e))
 
--- A call that finds a record with the endpoint e comes to a question's number, or to what the call of the protocol comes to that it says.
+-- A call that finds a record with the endpoint e comes to a question's number, or to what the act of the protocol comes to that it says.
 abbrev pub Asks : (E : Ends) → E .Record → E .Call → Endpoint → Type 0
 Asks E r c e = (n : ℕ) × (E .comes r c ≡ asking n (E .said r c) e)
 
--- Or it says no call of the protocol, and whatever it comes to, the record goes on holding e.
+-- Or it says no act of the protocol, and whatever it comes to, the record goes on holding e.
 pub record Idle (E : Ends) (Holds : E .Record → Endpoint → Type 0) (r : E .Record) (c : E .Call) (e : Endpoint) : Type 0 where
   pub number : ℕ
   pub none : E .said r c ≡ refused number
   pub leaves : Holds (E .leaves r c (E .comes r c)) e
 
--- The records of E hold endpoints, and its calls do as fair calls of the protocol do, wherever I holds of the histories.
-pub record Simulates (E : Ends) (I : History → History → Type 0) (Fair : History → Call → Type 0) (Holds : E .Record → Endpoint → Type 0) : Type 0 where
+-- The records of E hold endpoints, and its calls do as fair acts of the protocol do, wherever I holds of the histories.
+pub record Simulates (E : Ends) (I : History → History → Type 0) (Fair : History → Act → Type 0) (Holds : E .Record → Endpoint → Type 0) : Type 0 where
   pub starts : (r : E .Record) → E .Fresh r → Holds r fresh
-  pub fair : (a b : History) → I a b → (r : E .Record) → Holds r (now a) → (c : E .Call) → E .Due a b c → (q : Call) → E .said r c ≡ ok q → Fair b q
+  pub fair : (a b : History) → I a b → (r : E .Record) → Holds r (now a) → (c : E .Call) → E .Due a b c → (q : Act) → E .said r c ≡ ok q → Fair b q
   pub comes : (a b : History) → I a b → (r : E .Record) → Holds r (now a) → (c : E .Call) → Asks E r c (now a) ⊎ Idle E Holds r c (now a)
   pub refuses : (r : E .Record) (e : Endpoint) → Holds r e → (c : E .Call) (n : ℕ) → Holds (E .leaves r c (refused n)) e
   pub accepts : (a b g : History) → I a b → I g b → (r : E .Record) → Holds r (now a) → (c : E .Call) (x : Step) → now g ≡ x .endpoint → Holds (E .leaves r c (ok x)) (now g)
@@ -46,7 +46,7 @@ pub record Held (E : Ends) (I : History → History → Type 0) (Holds : E .Reco
   pub this : Holds (x .rec) (now (x .history))
   pub other : Holds (y .rec) (now (y .history))
 
-module _ (E : Ends) {I : History → History → Type 0} {Fair : History → Call → Type 0} {Holds : E .Record → Endpoint → Type 0}
+module _ (E : Ends) {I : History → History → Type 0} {Fair : History → Act → Type 0} {Holds : E .Record → Endpoint → Type 0}
     (h : Invariant I Fair) (s : Simulates E I Fair Holds) where
   -- what a call leaves of an end: the history g and the record r
   record Goes (a b g : History) (r : E .Record) : Type 0 where
@@ -54,12 +54,12 @@ module _ (E : Ends) {I : History → History → Type 0} {Fair : History → Cal
     pub this : Holds r (now g)
     pub meets : Opens (now a) (now g) → Met g b
 
-  -- one call does nothing, or what a call of the protocol does
+  -- one call does nothing, or what an act of the protocol does
   module _ (a b : History) (i : I a b) (r : E .Record) (k : Holds r (now a)) (e : E .Call) where
     stays : (n : ℕ) → Goes a b a (E .leaves r e (refused n))
     stays n = record { both = i; this = s .refuses r (now a) k e n; meets = λ o. absurd (o .0 (o .1)) }
 
-    goes : (n : ℕ) (q : Outcome Call) → ((c : Call) → q ≡ ok c → Fair b c)
+    goes : (n : ℕ) (q : Outcome Act) → ((c : Act) → q ≡ ok c → Fair b c)
         → Goes a b (recorded q (asking n q (now a)) a) (E .leaves r e (asking n q (now a)))
     unfolding recorded refusing andThen after now
     goes (suc n) (refused m) fair = stays (suc n)
@@ -67,7 +67,7 @@ module _ (E : Ends) {I : History → History → Type 0} {Fair : History → Cal
     goes zero (refused m) fair = stays m
     goes zero (ok c) fair =
         let j = h .goes-on a b i c (fair c refl) in
-        record { both = j; this = by-answer (perform c (now a)) j; meets = h .meets a b i c (fair c refl) }
+        record { both = j; this = by-answer (does c (now a)) j; meets = h .meets a b i c (fair c refl) }
       where
         by-answer : (o : Outcome Step) → I (recorded (ok c) o a) b → Holds (E .leaves r e o) (now (recorded (ok c) o a))
         by-answer (refused m) j = s .refuses r (now a) k e m
@@ -125,7 +125,7 @@ module _ (E : Ends) {I : History → History → Type 0} {Fair : History → Cal
       record { meets = along w (new-held w f) cs d .0; to-a = h .in-order _ _ i; to-b = h .in-order _ _ (h .turns _ _ i) }
 
 -- the ends of the protocol are such ends
-pub itself : (I : History → History → Type 0) (Fair : History → Call → Type 0) → Simulates (endsWhere Fair) I Fair (λ r e. r ≡ e)
+pub itself : (I : History → History → Type 0) (Fair : History → Act → Type 0) → Simulates (endsWhere Fair) I Fair (λ r e. r ≡ e)
 unfolding refusing andThen
 itself I Fair =
     record {

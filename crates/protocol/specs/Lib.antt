@@ -1,6 +1,7 @@
 pub mod Endpoint
 pub mod Table
 pub mod Requests
+pub mod Restart
 pub mod History
 pub mod World
 pub mod Claim

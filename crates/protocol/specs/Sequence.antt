@@ -10,8 +10,7 @@ use Rattle.octets.specs.Test.{Outcome, refused, ok}
 use Rattle.frame.specs.Frame.{Block, dataFrame, collect}
 use Rattle.protocol.specs.Endpoint.{Endpoint, sized}
 use Rattle.protocol.specs.Table.{Step}
-use Rattle.protocol.specs.History.{Call, ask, deliver, perform, History, now, after}
-use Rattle.protocol.specs.World.{endpointLeft}
+use Rattle.protocol.specs.History.{Call, ask, deliver, perform, call, endpointLeft, History, now, after}
 use Rattle.protocol.specs.Claim.{blockUp, handedUpIn}
 
 -- the block that a call hands up
@@ -44,7 +43,7 @@ pub record InSequence (e : Endpoint) : Type 0 where
 -- a list of calls at one end
 unfoldable pub afterAll : List Call → History → History
 afterAll [] h = h
-afterAll (c ∷ cs) h = afterAll cs (after c h)
+afterAll (c ∷ cs) h = afterAll cs (after (call c) h)
 
 -- and in the words of demand 3, of an end with the accepted calls h: what is handed up in its incarnation grows by the eight, in sequence
 pub record HandsUpInSequence (h : History) : Type 0 where

@@ -4,17 +4,16 @@ use mathlib.Core.List.{List, [], _∷_}
 use Rattle.octets.specs.Test.{Outcome, refused, ok}
 use Rattle.protocol.specs.Endpoint.{Endpoint, fresh}
 use Rattle.protocol.specs.Table.{Step}
-use Rattle.protocol.specs.History.{perform, History, recorded, Due}
-use Rattle.protocol.specs.History as protocol
+use Rattle.protocol.specs.History.{endpointLeft, Act, does, History, recorded, Due}
 
 -- What an end is.
 pub record Ends : Type 1 where
   -- its record, in whatever form, and which records are fresh
   pub Record : Type 0
   pub Fresh : Record → Type 0
-  -- its own calls, with any arguments besides the record, and the call of the protocol that one says
+  -- its own calls, with any arguments besides the record, its restarts among them (N6), and the act of the protocol that one says
   pub Call : Type 0
-  pub said : Record → Call → Outcome protocol.Call
+  pub said : Record → Call → Outcome Act
   -- what a call comes to that finds a record, and the record that this leaves
   pub comes : Record → Call → Outcome Step
   pub leaves : Record → Call → Outcome Step → Record
@@ -71,18 +70,14 @@ module _ (E : Ends) where
   BothNew w = New (w .a) × New (w .b)
 
 -- The ends of the protocol: the record is the endpoint itself.
-abbrev pub endpointLeft : Endpoint → Outcome Step → Endpoint
-endpointLeft e (refused n) = e
-endpointLeft e (ok x) = x .endpoint
-
-abbrev pub endsWhere : (History → protocol.Call → Type 0) → Ends
+abbrev pub endsWhere : (History → Act → Type 0) → Ends
 endsWhere Fair =
     record {
       Record = Endpoint;
       Fresh = λ e. e ≡ fresh;
-      Call = protocol.Call;
+      Call = Act;
       said = λ e. ok;
-      comes = λ e c. perform c e;
+      comes = λ e c. does c e;
       leaves = λ e c. endpointLeft e;
       Due = λ this other c. Fair other c;
     }
