@@ -1,0 +1,121 @@
+-- The page that goes with a number, and what the one store of a call leaves of a page.
+use Prim.Native.Nat.{ℕ, zero, suc, _+_, _*_, _-_, _≤_, _<_}
+use mathlib.Core.Path.{_≡_, refl, ap, _∙_}
+use mathlib.Core.Logic.{_≢_}
+use mathlib.Core.Bool.{true}
+use mathlib.Core.List.{List, [], _∷_, _++_}
+use native.Mathlib.Omega.{arith}
+use lib.ListN.{length, take, set, getD, replicate, length-append, length-replicate, length-set}
+use lib.Seq.{take-at, length-take-le, getD-set-other}
+use borrow.Author.Tests.{eqb-true, eq-eqb}
+use Rattle.octets.specs.Sizes.{pageSize, numbersEach, lastIncarnation}
+use Rattle.octets.specs.Test.{when, ifEq}
+use Rattle.octets.proofs.Test.{if-eq, if-lt, lt-no, both, joined}
+use Rattle.page.specs.Page.{used, unused, usedFor, only, isRun, leading, runs, count, goesWith, reserving, pageOf}
+
+-- p octets of 00 and n of FF
+only-unused : (n : ℕ) → only unused (replicate n unused) ≡ true
+unfolding only
+only-unused zero = refl
+only-unused (suc n) = only-unused n
+
+run-of : (p n : ℕ) → isRun (replicate p used ++ replicate n unused) ≡ true
+unfolding isRun only when
+run-of zero zero = refl
+run-of zero (suc n) = cc (only-unused n)
+run-of (suc p) n = run-of p n
+
+leading-of : (p n : ℕ) → leading (replicate p used ++ replicate n unused) ≡ p
+unfolding leading ifEq when
+leading-of zero zero = refl
+leading-of zero (suc n) = refl
+leading-of (suc p) n = omega (arith, leading-of p n)
+
+next-of : (p n : ℕ) (more : List ℕ)
+    → set ((replicate p used ++ replicate (suc n) unused) ++ more) p used ≡ (replicate (suc p) used ++ replicate n unused) ++ more
+next-of zero n more = refl
+next-of (suc p) n more = ap (λ (s : List ℕ). used ∷ s) (next-of p n more)
+
+-- the page with the count p
+module _ (p : ℕ) (fits : p ≤ pageSize) where
+  pub page-long : length (pageOf p) ≡ pageSize
+  unfolding pageOf
+  page-long = simp (length-append, length-replicate) (omega arith)
+
+  module _ (more : List ℕ) where
+    front : take pageSize (pageOf p ++ more) ≡ pageOf p
+    front = take-at (pageOf p) more pageSize page-long
+
+    pub page-runs : runs (pageOf p ++ more) ≡ true
+    unfolding runs pageOf
+    page-runs = ap isRun front ∙ run-of p (pageSize - p)
+
+    pub page-count : count (pageOf p ++ more) ≡ p
+    unfolding count pageOf
+    page-count = ap leading front ∙ leading-of p (pageSize - p)
+
+    next : p < pageSize → set (pageOf p ++ more) p used ≡ pageOf (suc p) ++ more
+    unfolding pageOf
+    next h =
+        let e : pageSize - p ≡ suc (pageSize - suc p) = omega arith in
+        ap (λ (n : ℕ). set ((replicate p used ++ replicate n unused) ++ more) p used) e ∙ next-of p (pageSize - suc p) more
+
+-- question 15 is answered yes of the page that goes with l
+pub page-goes : (l : ℕ) → l ≤ lastIncarnation → (more : List ℕ) → goesWith l (pageOf (usedFor l) ++ more) ≡ true
+unfolding goesWith
+page-goes l h more =
+    let f : usedFor l ≤ pageSize = omega arith in
+    joined (page-runs (usedFor l) f more) (eq-eqb _ _ (page-count (usedFor l) f more))
+
+-- the one store keeps the page that of the new number
+pub page-reserves : (l k : ℕ) → k ≤ lastIncarnation → l ≤ k → k ≤ l + 1 → (more : List ℕ)
+    → reserving k (pageOf (usedFor l) ++ more) ≡ pageOf (usedFor k) ++ more
+unfolding reserving
+page-reserves l k h a b more =
+    let f : usedFor l ≤ pageSize = omega arith in
+    let c : count (pageOf (usedFor l) ++ more) ≡ usedFor l = page-count (usedFor l) f more in
+    if-lt (λ (s : List ℕ). s ≡ pageOf (usedFor k) ++ more) _ _
+    (λ t.
+    let e : suc (usedFor l) ≡ usedFor k = omega arith in
+    ap (λ (n : ℕ). set (pageOf (usedFor l) ++ more) n used) c
+    ∙ next (usedFor l) f more (omega arith)
+    ∙ ap (λ (n : ℕ). pageOf n ++ more) e)
+    (λ t.
+    let e : usedFor l ≡ usedFor k = omega arith in
+    ap (λ (n : ℕ). pageOf n ++ more) e)
+
+-- what question 15 says of a page
+pub goes-so : (l : ℕ) (page : List ℕ) → goesWith l page ≡ true → (runs page ≡ true) × (count page ≡ usedFor l)
+unfolding goesWith
+goes-so l page h =
+    let b = both (runs page) _ h in
+    (b .0, eqb-true (count page) (usedFor l) (b .1))
+
+leading≤ : (s : List ℕ) → leading s ≤ length s
+unfolding leading
+leading≤ [] = omega arith
+leading≤ (x ∷ s) = if-eq (λ (n : ℕ). n ≤ length (x ∷ s)) x used (λ e. omega (arith, leading≤ s)) (λ e. omega arith)
+
+pub count≤ : (page : List ℕ) → pageSize ≤ length page → count page ≤ pageSize
+unfolding count
+count≤ page h = omega (arith, leading≤ (take pageSize page), length-take-le pageSize page h)
+
+-- no page reserves a number above the last
+pub goes-last : (l : ℕ) (page : List ℕ) → pageSize ≤ length page → goesWith l page ≡ true → l ≤ lastIncarnation
+goes-last l page h g = omega (arith, goes-so l page g .1, count≤ page h)
+
+-- nothing is stored where the number is reserved
+pub stays : (l : ℕ) (page : List ℕ) → l ≤ numbersEach * count page → reserving l page ≡ page
+unfolding reserving
+stays l page h = lt-no _ _ _ _ (omega arith)
+
+-- at most one octet is stored, the first that is not 00
+module _ (l : ℕ) (page : List ℕ) where
+  pub one-octet : (i : ℕ) → i ≢ count page → getD (reserving l page) i 0 ≡ getD page i 0
+  unfolding reserving
+  one-octet i n =
+      if-lt (λ (s : List ℕ). getD s i 0 ≡ getD page i 0) _ _ (λ t. getD-set-other page (count page) i used 0 n) (λ t. refl)
+
+  pub reserving-long : length (reserving l page) ≡ length page
+  unfolding reserving
+  reserving-long = if-lt (λ (s : List ℕ). length s ≡ length page) _ _ (λ t. length-set page (count page) used) (λ t. refl)

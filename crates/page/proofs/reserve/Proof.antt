@@ -1,0 +1,34 @@
+use mathlib.Core.Path.{sym}
+use denote.Ref.{now}
+use Rattle.page.proofs.Laws.{stays}
+use Rattle.page.proofs.Scan.{keeps, stores}
+use borrow.Author.Needs.{needs}
+use native.Mathlib.Omega.{arith}
+use Rattle.page.proofs.reserve.Statement.{statement}
+use Rattle.page.proofs.reserve.Tie as tie
+
+returns : tie.Need-returns
+returns c = sym (stays (c .before .args .local) (now (c .before .args .page)) (omega arith))
+
+returns-2 : tie.Need-returns-2
+returns-2 c =
+    let a = c .before .before .before in
+    keeps (now (a .args .page)) (a .pre .0 .0) (a .args .local) _ (c .if2 .taken) (omega (arith, a .pre .1)) (omega (arith, a .pre .1)) (omega arith)
+
+returns-3 : tie.Need-returns-3
+returns-3 c =
+    let a = c .before .before .before in
+    stores (now (a .args .page)) (a .pre .0 .0) (a .args .local) _ (c .if2 .left) (omega (arith, a .pre .1)) (omega (arith, a .pre .1)) (omega arith)
+
+pub reserve-spec : {M : Type 1} → statement M
+reserve-spec =
+    tie.close
+    (tie.spec
+    returns
+    (λ c. search needs)
+    (λ c. search needs)
+    (λ c. search needs)
+    returns-2
+    (λ c. search needs)
+    (λ c. search needs)
+    returns-3)
