@@ -13,8 +13,8 @@ use Rattle.octets.proofs.Test.{if-eq, eq-yes, eq-no}
 use Rattle.frame.specs.Frame.{Block, DATA, Frame}
 use Rattle.protocol.specs.Endpoint.{Endpoint, waiting}
 use Rattle.protocol.specs.Table.{Notice, none, connected, rejected, closedByPartner, closeFinished, handedUp, Sent}
-use Rattle.protocol.specs.History.{Call, Event, History, now, sent}
-use Rattle.protocol.specs.Claim.{Opens, blockUp, handedUpIn, blockSent, acceptedFor, OpenedWith, Prefix}
+use Rattle.protocol.specs.History.{Act, Event, History, now, sent}
+use Rattle.protocol.specs.Claim.{Opens, blockUp, handedUpIn, blockAccepted, acceptedFor, OpenedWith, Prefix}
 use Rattle.protocol.proofs.Facts.{silent, Laden, load, Carry, keeps, clears, begins, takes, overtakes, releases, queues, stepTo}
 use Rattle.protocol.proofs.Facts.{Says, silence, crao, crpo, crack, rej, reset-said, dr, drack, drack-to-other, datum, ack}
 use Rattle.protocol.proofs.Calls.{Of, with-new, event}
@@ -67,7 +67,7 @@ module _ (x : Event) (h : History) where
   unfolding handedUpIn
   up-here = ap (λ (bs : List Block). handedUpIn (x .answer .endpoint .local) h ++ bs) (eq-yes _ _ _ _ refl)
 
-  sent-none : blockSent (x .call) ≡ [] → (l d : ℕ) → acceptedFor l d (x ∷ h) ≡ acceptedFor l d h
+  sent-none : blockAccepted (x .act) ≡ [] → (l d : ℕ) → acceptedFor l d (x ∷ h) ≡ acceptedFor l d h
   unfolding acceptedFor
   sent-none p l d =
       add-none (acceptedFor l d h)
@@ -78,7 +78,7 @@ module _ (x : Event) (h : History) where
   sent-other l d p = add-none (acceptedFor l d h) (eq-no _ _ _ _ p)
 
   sent-here : (l d : ℕ) → x .answer .endpoint .local ≡ l → x .answer .endpoint .remote ≡ d
-      → acceptedFor l d (x ∷ h) ≡ acceptedFor l d h ++ blockSent (x .call)
+      → acceptedFor l d (x ∷ h) ≡ acceptedFor l d h ++ blockAccepted (x .act)
   unfolding acceptedFor
   sent-here l d p q = ap (λ (bs : List Block). acceptedFor l d h ++ bs) (eq-yes _ _ _ _ p ∙ eq-yes _ _ _ _ q)
 
@@ -148,13 +148,13 @@ module _ (x : Event) {h : History} (p : x .before ≡ now h) (k : Named h) where
       (λ d v a. r .past4 (k .past d (subst (λ (n : ℕ). OpenedWith h n d) (r .local) v) (r .alive a)) a)
       (λ e q. (r .local, r .on4 e q))
 
-  -- a call that begins one
-  pub named-begun : y .local ≡ now h .local + 1 → y .state ≤ 3 → Named (x ∷ h)
-  named-begun l s =
+  -- a call that begins one, or a restart
+  pub named-begun : now h .local ≤ y .local → (1 ≤ y .state → now h .local < y .local) → y .state ≤ 3 → Named (x ∷ h)
+  named-begun l r s =
       named-on
       (λ l d d′ o v. absurd (omega (arith, o .opens .1)))
-      (omega arith)
-      (λ d v a. absurd (omega (arith, k .below (y .local) d v)))
+      l
+      (λ d v a. absurd (omega (arith, k .below (y .local) d v, r a)))
       (λ e q. absurd (omega arith))
 
 -- What an open end has counted, and what waits.
@@ -220,7 +220,7 @@ placed-on x h g p e =
     subst (λ (l : List Block). Stands l (g .number) (g .block)) (sym (m .1)) (stands-grow (acceptedFor (g .sender) (g .quoted) h) (m .0) (p e))
 
 -- One more call c at the end h, which sends o.
-module _ (c : Call) (o : Sent) (f : Frame) {h : History} (nm : Named h) (st : Stock h) (ld : Laden (now h)) where
+module _ (c : Act) (o : Sent) (f : Frame) {h : History} (nm : Named h) (st : Stock h) (ld : Laden (now h)) where
   abbrev next : Endpoint → Notice → History
   next x n = event c h (stepTo x n o) ∷ h
 
@@ -234,7 +234,7 @@ module _ (c : Call) (o : Sent) (f : Frame) {h : History} (nm : Named h) (st : St
   abbrev first : ℕ
   first = now h .accepted - waiting (now h)
 
-  counts-on : {x : Endpoint} {n : Notice} {bs : List Block} → blockSent c ≡ bs → Carry (now h) f x n bs → x .state ≡ 4 → Counts (next x n)
+  counts-on : {x : Endpoint} {n : Notice} {bs : List Block} → blockAccepted c ≡ bs → Carry (now h) f x n bs → x .state ≡ 4 → Counts (next x n)
   unfolding now
   counts-on s (keeps t) e =
       let k = st .counts e in
@@ -313,7 +313,7 @@ module _ (c : Call) (o : Sent) (f : Frame) {h : History} (nm : Named h) (st : St
   up-none-on (queues b p q r) l u = up-silent _ h tt l ∙ st .up-none l u
 
   -- a call within an incarnation
-  pub stock-within : {x : Endpoint} {n : Notice} → Carry (now h) f x n (blockSent c) → Says x f o → Back (now h) x → Stock (next x n)
+  pub stock-within : {x : Endpoint} {n : Notice} → Carry (now h) f x n (blockAccepted c) → Says x f o → Back (now h) x → Stock (next x n)
   unfolding now sent
   stock-within {x} k v r = record {
     counts = counts-on refl k;
@@ -326,14 +326,14 @@ module _ (c : Call) (o : Sent) (f : Frame) {h : History} (nm : Named h) (st : St
     stands = with-new o (places (counts-on refl k) (load ld k .waits) v) (λ g m. placed-on _ h g (st .stands g m));
   }
 
-  -- a call that begins one
-  pub stock-begun : {x : Endpoint} {n : Notice} → T (silent n) → blockSent c ≡ [] → Says x f o → x .local ≡ L + 1 → x .state ≤ 2
-      → length (x .queue) ≤ x .accepted → Stock (next x n)
+  -- a call that begins one, or a restart
+  pub stock-begun : {x : Endpoint} {n : Notice} → T (silent n) → blockAccepted c ≡ [] → Says x f o → L ≤ x .local → (1 ≤ x .state → L < x .local)
+      → x .state ≤ 2 → length (x .queue) ≤ x .accepted → Stock (next x n)
   unfolding now sent
-  stock-begun {x} t s v l p w = record {
+  stock-begun {x} t s v l r p w = record {
     counts = λ e. absurd (omega arith);
     up-none = λ m u. up-silent _ h t m ∙ st .up-none m (λ d w. u d (older _ w));
     above = λ m d a. sent-none _ h s m d ∙ st .above m d (omega arith);
-    early = λ d a b. sent-none _ h s (x .local) d ∙ st .above (x .local) d (omega arith);
+    early = λ d a b. sent-none _ h s (x .local) d ∙ st .above (x .local) d (r a);
     stands = with-new o (places (λ e. absurd (omega arith)) w v) (λ g m. placed-on _ h g (st .stands g m));
   }

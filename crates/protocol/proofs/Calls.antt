@@ -1,5 +1,5 @@
 -- The calls: when a request is allowed, and what each call does, as the facts say it.
-use Prim.Native.Nat.{ℕ, zero, suc, _-_, _≤_, _<_}
+use Prim.Native.Nat.{ℕ, zero, suc, _+_, _*_, _-_, _≤_, _<_}
 use mathlib.Core.Path.{_≡_, refl, sym, subst, ap, _∙_}
 use mathlib.Core.Logic.{_⊎_, inl, inr, ⊎-elim}
 use mathlib.Core.Bool.{Bool, true, false}
@@ -13,13 +13,15 @@ use Rattle.octets.specs.Test.{Question, first, Outcome, refused, ok, outcome}
 use Rattle.octets.proofs.Test.{split, if-eq, either}
 use Rattle.frame.specs.Frame.{Block, Frame, control, dataFrame, Request, connect, listen, endListening, close, timer, collect, send}
 use Rattle.protocol.specs.Endpoint.{Endpoint, waiting}
-use Rattle.protocol.specs.Table.{Sent, nothing, frame, Step}
-use Rattle.octets.specs.Sizes.{lastNumber, lastIncarnation, queueSize}
+use Rattle.protocol.specs.Table.{none, Sent, nothing, frame, Step, quiet}
+use Rattle.octets.specs.Sizes.{lastNumber, lastIncarnation, pageSize, numbersEach, queueSize}
 use Rattle.protocol.specs.Requests.{questions, refusal, queueing, oldest, resent, hungUp, collected, accept, request}
-use Rattle.protocol.specs.History.{Call, ask, deliver, perform, Event, History, now, also, sent, recorded, after, Due}
-use Rattle.protocol.specs.Claim.{blockSent}
+use Rattle.page.specs.Page.{usedFor}
+use Rattle.protocol.specs.Restart.{restarted}
+use Rattle.protocol.specs.History.{Call, ask, deliver, perform, endpointLeft, Act, call, restart, cut, does, Event, History, now, also, sent, recorded, after, Due}
+use Rattle.protocol.specs.Claim.{blockSent, blockAccepted, Restarts, Begins}
 use Rattle.protocol.proofs.Facts.{alone, stays, hangs-up, drops, was-held, keeps, clears, takes, queues, Sane, Laden}
-use Rattle.protocol.proofs.Facts.{Says, silence, crao, crpo, dr, datum, ack, Fires, fires, heard}
+use Rattle.protocol.proofs.Facts.{move-local, Says, silence, crao, crpo, dr, datum, ack, Fires, fires, heard}
 
 -- Questions: what holds of a refusal, and of the value where all answers are yes, holds of the outcome.
 abbrev Numbered : List Question → Type 0
@@ -113,6 +115,43 @@ module _ {e : Endpoint} (f : Frame) (s : Sane e) (l : Laden e) where
   asks-on timer t a = fires (stays refl refl refl) (keeps tt) timed
   asks-on collect t a = collects a (getD (e .held) 0 []) refl
 
+-- The number that a call leaves: the same, or the next one where one is left.
+pub record Next (e x : Endpoint) : Type 0 where
+  pub least : e .local ≤ x .local
+  pub most : x .local ≤ e .local + 1
+  pub left : e .local ≤ lastIncarnation → x .local ≤ lastIncarnation
+
+same : {e x : Endpoint} → x .local ≡ e .local → Next e x
+same h = record { least = omega arith; most = omega arith; left = λ l. omega arith }
+
+module _ (e : Endpoint) where
+  hung-up-same : Next e (hungUp e .endpoint)
+  unfolding hungUp
+  hung-up-same = if-eq (λ (x : Step). Next e (x .endpoint)) _ _ (λ z. same refl) (λ n. same refl)
+
+  collected-same : (b : Block) → Next e (collected e b .endpoint)
+  unfolding collected
+  collected-same [] = same refl
+  collected-same (x ∷ b) = same refl
+
+  request-next : (q : Request) → Allowed q e → Next e (accept q e .endpoint)
+  unfolding accept
+  request-next connect y = record { least = omega arith; most = omega arith; left = λ l. omega arith }
+  request-next listen y = record { least = omega arith; most = omega arith; left = λ l. omega arith }
+  request-next endListening y = same refl
+  request-next close y = hung-up-same
+  request-next (send b) y = same refl
+  request-next timer y = same refl
+  request-next collect y = collected-same (getD (e .held) 0 [])
+
+pub local-of : {e : Endpoint} {f : Frame} {bs : List Block} {x : Step} → Fires e f bs x → x .endpoint .local ≡ e .local
+local-of (fires m c s) = move-local m
+
+pub next-on : (c : Call) (e : Endpoint) → Next e (endpointLeft e (perform c e))
+unfolding perform
+next-on (ask q) e = requested (λ (o : Outcome Step). Next e (endpointLeft e o)) q e (λ n. same refl) (λ y. request-next e q y)
+next-on (deliver f) e = same (local-of (heard e f))
+
 -- of the frame sent, if there is one
 abbrev pub Of : (Frame → Type 0) → Sent → Type 0
 Of P nothing = Unit {0}
@@ -129,27 +168,48 @@ pub data Heard (b : History) : Frame → Type 0 where
   no-frame : Heard b (control 0 0 0)
   from : {f : Frame} → List·Memᴰ f (sent b) → Heard b f
 
-abbrev pub event : Call → History → Step → Event
-event c h x = record { call = c; before = now h; answer = x }
+abbrev pub event : Act → History → Step → Event
+event c h x = record { act = c; before = now h; answer = x }
 
--- What a call does at the end a, beside the end b.
-pub data Deed (a b : History) (c : Call) : History → Type 0 where
+-- What an act does at the end a, beside the end b.
+pub data Deed (a b : History) (c : Act) : History → Type 0 where
   refuses : Deed a b c a
-  connects : now a .state ≡ 0 → now a .local < lastIncarnation → c ≡ ask connect → Deed a b c (event c a (accept connect (now a)) ∷ a)
-  listens : now a .state ≡ 0 → now a .local < lastIncarnation → blockSent c ≡ [] → Deed a b c (event c a (accept listen (now a)) ∷ a)
-  goes : {f : Frame} {x : Step} → Heard b f → Fires (now a) f (blockSent c) x → Deed a b c (event c a x ∷ a)
+  connects : now a .state ≡ 0 → now a .local < lastIncarnation → c ≡ call (ask connect) → Deed a b c (event c a (accept connect (now a)) ∷ a)
+  listens : now a .state ≡ 0 → now a .local < lastIncarnation → c ≡ call (ask listen) → Deed a b c (event c a (accept listen (now a)) ∷ a)
+  goes : {f : Frame} {x : Step} → Heard b f → (Begins c → ⊥) → Fires (now a) f (blockAccepted c) x → Deed a b c (event c a x ∷ a)
+  -- on a page that reserves all numbers used
+  restarts : (p : ℕ) → Restarts c → now a .local ≤ numbersEach * p → p ≤ pageSize → Deed a b c (event c a (quiet (restarted p) none) ∷ a)
 
-module _ {a b : History} (s : Sane (now a)) (l : Laden (now a)) where
-  allowed : (q : Request) → Allowed q (now a) → Deed a b (ask q) (event (ask q) a (accept q (now a)) ∷ a)
+-- a restart accepts no block and begins no incarnation
+pub restart-accepts : (c : Act) → Restarts c → blockAccepted c ≡ []
+restart-accepts (call c) t = absurd t
+restart-accepts restart t = refl
+restart-accepts (cut c) t = refl
+
+pub restart-begins : (c : Act) → Restarts c → Begins c → ⊥
+restart-begins (call c) t u = absurd t
+restart-begins restart t u = u
+restart-begins (cut c) t u = u
+
+module _ {a b : History} (s : Sane (now a)) (l : Laden (now a)) (w : now a .local ≤ lastIncarnation) where
+  allowed : (q : Request) → Allowed q (now a) → Deed a b (call (ask q)) (event (call (ask q)) a (accept q (now a)) ∷ a)
   allowed connect y = connects (y .0) (y .1) refl
   allowed listen y = listens (y .0) (y .1) refl
-  allowed endListening y = goes no-frame (asks-on _ s l endListening tt y)
-  allowed close y = goes no-frame (asks-on _ s l close tt y)
-  allowed timer y = goes no-frame (asks-on _ s l timer tt y)
-  allowed collect y = goes no-frame (asks-on _ s l collect tt y)
-  allowed (send c) y = goes no-frame (asks-on _ s l (send c) tt y)
+  allowed endListening y = goes no-frame (λ t. t) (asks-on _ s l endListening tt y)
+  allowed close y = goes no-frame (λ t. t) (asks-on _ s l close tt y)
+  allowed timer y = goes no-frame (λ t. t) (asks-on _ s l timer tt y)
+  allowed collect y = goes no-frame (λ t. t) (asks-on _ s l collect tt y)
+  allowed (send c) y = goes no-frame (λ t. t) (asks-on _ s l (send c) tt y)
 
-  pub deed : (c : Call) → Due b c → Deed a b c (after c a)
-  unfolding after recorded perform
-  deed (ask q) d = requested (λ (o : Outcome Step). Deed a b (ask q) (recorded (ok (ask q)) o a)) q (now a) (λ n. refuses) (λ y. allowed q y)
-  deed (deliver f) d = goes (from d) (heard (now a) f)
+  called : (c : Call) → Due b (call c) → Deed a b (call c) (recorded (ok (call c)) (perform c (now a)) a)
+  unfolding recorded perform
+  called (ask q) d = requested (λ (o : Outcome Step). Deed a b (call (ask q)) (recorded (ok (call (ask q))) o a)) q (now a) (λ n. refuses) (λ y. allowed q y)
+  called (deliver f) d = goes (from d) (λ t. t) (heard (now a) f)
+
+  pub deed : (c : Act) → Due b c → Deed a b c (after c a)
+  unfolding after recorded does
+  deed (call c) d = called c d
+  deed restart d = restarts (usedFor (now a .local)) tt (omega arith) (omega arith)
+  deed (cut c) d =
+      let k = next-on c (now a) in
+      restarts (usedFor (endpointLeft (now a) (perform c (now a)) .local)) tt (omega (arith, k .least)) (omega (arith, k .left w))

@@ -45,6 +45,18 @@ pub data Move (e : Endpoint) (f : Frame) : Endpoint → Type 0 where
   hangs-up : 1 ≤ e .state → 1 ≤ e .remote → Move e f (turned 5 (e .remote) e)
   drops : 1 ≤ e .state → Excuse e f → Move e f (turned 0 0 e)
 
+-- no move changes the number
+pub move-local : {e x : Endpoint} {f : Frame} → Move e f x → x .local ≡ e .local
+move-local (stays p q r) = q
+move-local (answers k d p q n) = refl
+move-local (recalls k d p) = refl
+move-local (opens k l r d p) = refl
+move-local (joins k r d p) = refl
+move-local (relistens k r d p) = refl
+move-local (resets k r d p) = refl
+move-local (hangs-up p d) = refl
+move-local (drops p u) = refl
+
 abbrev pub silent : Notice → Bool
 silent none = true
 silent connected = true

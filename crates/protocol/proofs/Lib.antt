@@ -3,6 +3,7 @@ pub mod Sound
 pub mod Calls
 pub mod Invariant
 pub mod Opening
+pub mod Numbers
 pub mod Blocks
 pub mod Order
 pub mod Limits

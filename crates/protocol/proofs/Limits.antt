@@ -12,8 +12,8 @@ use Rattle.protocol.specs.Endpoint.{Endpoint, waiting, sized, sound}
 use Rattle.protocol.specs.Table.{Notice, Sent, frame, Step}
 use Rattle.octets.specs.Sizes.{lastNumber, lastIncarnation}
 use Rattle.protocol.specs.Requests.{begun, accept}
-use Rattle.protocol.specs.History.{Call, ask, deliver, perform, History, now, sent}
-use Rattle.protocol.specs.Claim.{blockSent}
+use Rattle.protocol.specs.History.{Call, ask, deliver, perform, Act, History, now, sent}
+use Rattle.protocol.specs.Claim.{blockSent, blockAccepted}
 use Rattle.protocol.specs.Limits.{Bounded, Readable, Leaves, LeavesSound, LeavesBounded}
 use Rattle.frame.specs.Fits.{Fits, control-fits, data-fits, ack-fits}
 use Rattle.protocol.proofs.Facts.{Move, stays, answers, recalls, opens, joins, relistens, resets, hangs-up, drops}
@@ -22,7 +22,7 @@ use Rattle.protocol.proofs.Facts.{Source, arrives, was-held, Carry, kee
 use Rattle.protocol.proofs.Facts.{Says, silence, crao, crpo, crack, rej, reset-said, dr, drack, drack-to-other, datum, ack}
 use Rattle.protocol.proofs.Facts.{Sane, sane-on, Laden, load}
 use Rattle.protocol.proofs.Sound.{sized-append, sized-drop, sized-at, Fitting, sounds, Sound, sound-so}
-use Rattle.protocol.proofs.Calls.{Of, with-new, Heard, no-frame, from, Deed, refuses, connects, listens, goes, Allowed, requested, asks-on}
+use Rattle.protocol.proofs.Calls.{Of, with-new, Heard, no-frame, from, Deed, refuses, connects, listens, goes, restarts, Allowed, requested, asks-on}
 use Rattle.protocol.proofs.Invariant.{back}
 
 -- what is known of the frame that a call hears
@@ -197,7 +197,7 @@ unfolding now sent sized
 no-room = record { bounded = omega arith; blocks = refl; fitting = λ i n. none-held i n; fits = λ g m. absurd (List·Memᴰ·not-nil m) }
 
 -- a call at the end a, which is sane and laden afterwards
-pub room-on : {a b : History} {c : Call} {a′ : History} → Laden (now a) → Room a → Room b → sized (blockSent c) ≡ true → Sane (now a′) → Laden (now a′)
+pub room-on : {a b : History} {c : Act} {a′ : History} → Laden (now a) → Room a → Room b → sized (blockAccepted c) ≡ true → Sane (now a′) → Laden (now a′)
     → Deed a b c a′ → Room a′
 unfolding now sent accept
 room-on i h k t s l refuses = h
@@ -207,7 +207,8 @@ room-on {a} i h k t s l (connects z p e) =
     record { bounded = v; blocks = sized-none; fitting = λ i n. none-held i n; fits = with-new (frame (control CRAO (now a .local + 1) 0)) new (h .fits) }
 room-on i h k t s l (listens z p e) =
     record { bounded = begun-bounded 1 (h .bounded) p; blocks = sized-none; fitting = λ i n. none-held i n; fits = h .fits }
-room-on {a} {b} i h k t s l (goes {f = f} r (fires {o = o} m w x)) =
+room-on i h k t s l (restarts p r q u) = record { bounded = omega arith; blocks = sized-none; fitting = λ i n. none-held i n; fits = h .fits }
+room-on {a} {b} i h k t s l (goes {f = f} r _ (fires {o = o} m w x)) =
     let u : Small f = hears r in
     let v = bounded-on u (h .bounded) (h .fitting) m w in
     let q = sized-on (h .blocks) t w in

@@ -1,5 +1,5 @@
 -- The second half of demand 3: the blocks handed up are, in order, the first of those that the partner accepted.
-use Prim.Native.Nat.{ℕ, _+_, _-_, _≤_}
+use Prim.Native.Nat.{ℕ, _+_, _-_, _≤_, _<_}
 use mathlib.Core.Path.{_≡_, refl, sym, subst, subst₂, _∙_, ap}
 use mathlib.Core.Logic.{⊎-elim}
 use mathlib.Core.List.{List, [], _∷_, List·Memᴰ, List·Memᴰ·not-nil}
@@ -11,10 +11,10 @@ use Rattle.frame.specs.Frame.{Block, DATA, Frame, control}
 use Rattle.protocol.specs.Endpoint.{Endpoint}
 use Rattle.protocol.specs.Table.{Notice, handedUp, Sent, delivering}
 use Rattle.protocol.specs.Requests.{accept}
-use Rattle.protocol.specs.History.{Call, Event, History, now, sent}
-use Rattle.protocol.specs.Claim.{handedUpIn, blockSent, acceptedFor, OpenedWith, Prefix, InOrder}
+use Rattle.protocol.specs.History.{Act, Event, History, now, sent}
+use Rattle.protocol.specs.Claim.{handedUpIn, blockAccepted, acceptedFor, OpenedWith, Prefix, InOrder}
 use Rattle.protocol.proofs.Facts.{silent, Laden, Each, none-held, each-moved, each-held, Source, arrives, was-held, Carry, keeps, clears, begins, takes, overtakes, releases, queues, Says, crao, silence, stepTo, fires}
-use Rattle.protocol.proofs.Calls.{event, Heard, no-frame, from, Deed, refuses, connects, listens, goes}
+use Rattle.protocol.proofs.Calls.{event, Heard, no-frame, from, Deed, refuses, connects, listens, goes, restarts, restart-accepts}
 use Rattle.protocol.proofs.Invariant.{Back, back}
 use Rattle.protocol.proofs.Blocks.{prefix-grow, Stands, stands-grow, prefix-more, up-silent, up-other, up-here, sent-more}
 use Rattle.protocol.proofs.Blocks.{Named, Opening, which, named-within, named-begun, Stock, nothing-up, stock-within, stock-begun}
@@ -83,7 +83,7 @@ module _ {a b : History} (w : Flow a b) where
       subst₂ (λ (i j : ℕ). Stands (acceptedFor i j b) (f .number) (f .block)) s r (w .stock-b .stands f m k)
 
   -- a call that hands up a block
-  module _ (c : Call) (o : Sent) (bl : Block) where
+  module _ (c : Act) (o : Sent) (bl : Block) where
     abbrev x : Event
     x = event c a (stepTo (delivering (now a)) (handedUp bl) o)
 
@@ -127,7 +127,7 @@ module _ {a b : History} (w : Flow a b) where
       subst₂ There at e
       (w .early-a p 0 (subst (λ (l : Block). 1 ≤ length l) (sym e) n))
 
-  order-on : (c : Call) (o : Sent) {f : Frame} → Heard b f → {x : Endpoint} {n : Notice} {bs : List Block} → Carry (now a) f x n bs
+  order-on : (c : Act) (o : Sent) {f : Frame} → Heard b f → {x : Endpoint} {n : Notice} {bs : List Block} → Carry (now a) f x n bs
       → Back (now a) x → Order (event c a (stepTo x n o) ∷ a) b
   order-on c o h (keeps t) r = order-silent _ t (opens-empty refl r)
   order-on c o h (clears t u) r = order-silent _ u (opens-empty refl r)
@@ -138,7 +138,7 @@ module _ {a b : History} (w : Flow a b) where
   order-on c o h (queues b p q s) r = order-silent _ tt (opens-empty refl r)
 
   -- the places after a call
-  early-on : Laden (now a) → (c : Call) (o : Sent) {f : Frame} → Heard b f → {x : Endpoint} {n : Notice} {bs : List Block} → Carry (now a) f x n bs
+  early-on : Laden (now a) → (c : Act) (o : Sent) {f : Frame} → Heard b f → {x : Endpoint} {n : Notice} {bs : List Block} → Carry (now a) f x n bs
       → Early (event c a (stepTo x n o) ∷ a) b
   unfolding now
   early-on ld c o h (keeps t) = w .early-a
@@ -155,16 +155,18 @@ module _ {a b : History} (w : Flow a b) where
   early-on ld c o h (releases p q s) = w .early-a
   early-on ld c o h (queues b p q s) = w .early-a
 
-  early-begun : (c : Call) (o : Sent) (x : Endpoint) (n : Notice) → x .state ≤ 2 → Early (event c a (stepTo x n o) ∷ a) b
+  early-begun : (c : Act) (o : Sent) (x : Endpoint) (n : Notice) → x .state ≤ 2 → Early (event c a (stepTo x n o) ∷ a) b
   unfolding now
   early-begun c o x n p e = absurd (omega arith)
 
-  begun-on : Laden (now a) → (c : Call) (o : Sent) {x : Endpoint} {n : Notice} → T (silent n) → blockSent c ≡ [] → Says x (control 0 0 0) o
-      → x .local ≡ now a .local + 1 → x .state ≤ 2 → length (x .queue) ≤ x .accepted → Flow (event c a (stepTo x n o) ∷ a) b
-  begun-on ld c o t s v l p q = record {
-    named-a = named-begun _ refl (w .named-a) l (omega arith);
+  -- a call that begins an incarnation, or a restart
+  begun-on : Laden (now a) → (c : Act) (o : Sent) {x : Endpoint} {n : Notice} → T (silent n) → blockAccepted c ≡ [] → Says x (control 0 0 0) o
+      → now a .local ≤ x .local → (1 ≤ x .state → now a .local < x .local) → x .state ≤ 2 → length (x .queue) ≤ x .accepted
+      → Flow (event c a (stepTo x n o) ∷ a) b
+  begun-on ld c o t s v l r p q = record {
+    named-a = named-begun _ refl (w .named-a) l r (omega arith);
     named-b = w .named-b;
-    stock-a = stock-begun c o _ (w .named-a) (w .stock-a) ld t s v l p q;
+    stock-a = stock-begun c o _ (w .named-a) (w .stock-a) ld t s v l r p q;
     stock-b = w .stock-b;
     order-a = order-silent _ t (λ l d u. absurd (omega (arith, u .opens .1)));
     order-b = order-grows _;
@@ -172,12 +174,13 @@ module _ {a b : History} (w : Flow a b) where
     early-b = early-grows _;
   }
 
-  pub flows : Laden (now a) → {c : Call} {a′ : History} → Deed a b c a′ → Flow a′ b
+  pub flows : Laden (now a) → {c : Act} {a′ : History} → Deed a b c a′ → Flow a′ b
   unfolding accept
   flows ld refuses = w
-  flows ld (connects z l e) = begun-on ld _ _ tt (ap blockSent e) (crao refl) refl (omega arith) (omega arith)
-  flows ld (listens z l e) = begun-on ld _ _ tt e silence refl (omega arith) (omega arith)
-  flows ld {c} (goes h (fires {o = o} m k s)) = record {
+  flows ld (connects z l e) = begun-on ld _ _ tt (ap blockAccepted e) (crao refl) (omega arith) (omega arith) (omega arith) (omega arith)
+  flows ld (listens z l e) = begun-on ld _ _ tt (ap blockAccepted e) silence (omega arith) (omega arith) (omega arith) (omega arith)
+  flows ld {c} (restarts p t l m) = begun-on ld _ _ tt (restart-accepts c t) silence (omega arith) (omega arith) (omega arith) (omega arith)
+  flows ld {c} (goes h _ (fires {o = o} m k s)) = record {
     named-a = named-within _ refl (w .named-a) (back m);
     named-b = w .named-b;
     stock-a = stock-within c o _ (w .named-a) (w .stock-a) ld k s (back m);

@@ -20,8 +20,7 @@ use Rattle.protocol.specs.declared.Rule.the-variants.{HandUp, Hold, Ackn
 use Rattle.protocol.specs.Endpoint.{Endpoint, noneHeld, sized}
 use Rattle.protocol.specs.Table.{dataRow, openRows, whenEstablished, rule, Step, heldAt, delivering, apply, step}
 use Rattle.protocol.specs.Requests.{questions, refusal, collected, accept, request}
-use Rattle.protocol.specs.World.{endpointLeft}
-use Rattle.protocol.specs.History.{Call, ask, deliver, perform, History, now, recorded, after}
+use Rattle.protocol.specs.History.{Call, ask, deliver, perform, endpointLeft, call, does, History, now, recorded, after}
 use Rattle.protocol.specs.Sequence.{upOf, comesUp, arrival, AllEight, overtaking, InSequence, afterAll, HandsUpInSequence}
 use Rattle.protocol.specs.Claim.{blockUp, handedUpIn}
 use Rattle.protocol.proofs.Facts.{Each, none-held, each-moved, each-held, getD-moved, length-moved, length-held, first-is, held-same, held-other}
@@ -326,27 +325,27 @@ steady-all e bs (j ∷ order) = (steady-delivery _, steady-all e bs order)
 
 -- one call more
 module _ (c : Call) (h : History) where
-  now-endpointLeft : (o : Outcome Step) → now (recorded (ok c) o h) ≡ endpointLeft (now h) o
+  now-endpointLeft : (o : Outcome Step) → now (recorded (ok (call c)) o h) ≡ endpointLeft (now h) o
   unfolding recorded now
   now-endpointLeft (refused n) = refl
   now-endpointLeft (ok x) = refl
 
   one-up : (o : Outcome Step) → endpointLeft (now h) o .local ≡ now h .local
-      → handedUpIn (now h .local) (recorded (ok c) o h) ≡ handedUpIn (now h .local) h ++ upOf o
+      → handedUpIn (now h .local) (recorded (ok (call c)) o h) ≡ handedUpIn (now h .local) h ++ upOf o
   unfolding recorded upOf
   one-up (refused n) e = sym (append-nil (handedUpIn (now h .local) h))
-  one-up (ok x) e = subst (λ (k : ℕ). handedUpIn k (event c h x ∷ h) ≡ handedUpIn k h ++ blockUp (x .notice)) e (up-here (event c h x) h)
+  one-up (ok x) e = subst (λ (k : ℕ). handedUpIn k (event (call c) h x ∷ h) ≡ handedUpIn k h ++ blockUp (x .notice)) e (up-here (event (call c) h x) h)
 
 all-up : (cs : List Call) → Steady cs → (h : History) (l : ℕ) → now h .local ≡ l → handedUpIn l (afterAll cs h) ≡ handedUpIn l h ++ comesUp cs (now h)
-unfolding afterAll comesUp after
+unfolding afterAll comesUp after does
 all-up [] t h l e = sym (append-nil (handedUpIn l h))
 all-up (c ∷ cs) t h l e =
     let o = perform c (now h) in
     let n = now-endpointLeft c h o in
     let s = t .0 (now h) in
-    let u : handedUpIn l (recorded (ok c) o h) ≡ handedUpIn l h ++ upOf o = subst (λ (k : ℕ). handedUpIn k (recorded (ok c) o h) ≡ handedUpIn k h ++ upOf o) e (one-up c h o s) in
-    all-up cs (t .1) (recorded (ok c) o h) l (ap (λ (x : Endpoint). x .local) n ∙ s ∙ e)
-    ∙ ap (λ (x : Endpoint). handedUpIn l (recorded (ok c) o h) ++ comesUp cs x) n
+    let u : handedUpIn l (recorded (ok (call c)) o h) ≡ handedUpIn l h ++ upOf o = subst (λ (k : ℕ). handedUpIn k (recorded (ok (call c)) o h) ≡ handedUpIn k h ++ upOf o) e (one-up c h o s) in
+    all-up cs (t .1) (recorded (ok (call c)) o h) l (ap (λ (x : Endpoint). x .local) n ∙ s ∙ e)
+    ∙ ap (λ (x : Endpoint). handedUpIn l (recorded (ok (call c)) o h) ++ comesUp cs x) n
     ∙ ap (λ (x : List Block). x ++ comesUp cs (endpointLeft (now h) o)) u
     ∙ append-assoc (handedUpIn l h) (upOf o) (comesUp cs (endpointLeft (now h) o))
 

@@ -1,30 +1,43 @@
--- Demand 3 holds of every list of calls, and so do the limits.
+-- Demand 3 holds of every list of calls, no number is used twice, and so do the limits.
 use mathlib.Core.List.{List}
-use Rattle.protocol.specs.History.{Call, History, Due}
+use Rattle.protocol.specs.History.{Act, History, after, Due}
+use Rattle.protocol.specs.Endpoint.{Endpoint}
 use Rattle.protocol.specs.World.{Ends, Entry, Two, run, AllDue, BothNew, endsWhere, ends}
-use Rattle.protocol.specs.Claim.{NoEndAlone}
+use Rattle.protocol.specs.Claim.{NoEndAlone, NoNumberTwice}
 use Rattle.protocol.specs.Limits.{Sized, Limited}
-use Rattle.protocol.proofs.Calls.{deed}
+use Rattle.protocol.proofs.Calls.{Deed, deed}
 use Rattle.protocol.proofs.Limits.{Room, no-room, room-on}
 use Rattle.protocol.proofs.Sound.{sounds}
 use Rattle.protocol.proofs.Opening.{Joint, swap, acts, fresh-ends}
+use Rattle.protocol.proofs.Numbers.{Numbers, numbers-on, no-numbers}
 use Rattle.protocol.proofs.Order.{Flow, swap-flow, flows, no-flow, in-order}
-use Rattle.protocol.proofs.World.{Invariant, reached, no-end-alone, itself}
+use Rattle.protocol.proofs.World.{Invariant, Simulates, reached, no-end-alone, itself}
 
 -- what holds of two ends that a list of calls has reached
 pub record Reached (a b : History) : Type 0 where
   pub joint : Joint a b
   pub flow : Flow a b
+  pub numbers-a : Numbers a
+  pub numbers-b : Numbers b
+
+-- what an act does at the first of them
+deed-at : {a b : History} → Reached a b → (c : Act) → Due b c → Deed a b c (after c a)
+deed-at h c d = deed (h .joint .ends-a .sane) (h .joint .laden-a) (h .numbers-a .last) c d
 
 pub reach : Invariant Reached Due
 reach =
     record {
-      starts = record { joint = fresh-ends; flow = no-flow };
-      turns = λ a b h. record { joint = swap (h .joint); flow = swap-flow (h .flow) };
+      starts = record { joint = fresh-ends; flow = no-flow; numbers-a = no-numbers; numbers-b = no-numbers };
+      turns = λ a b h. record { joint = swap (h .joint); flow = swap-flow (h .flow); numbers-a = h .numbers-b; numbers-b = h .numbers-a };
       goes-on = λ a b h c d.
-          let x = deed (h .joint .ends-a .sane) (h .joint .laden-a) c d in
-          record { joint = acts (h .joint) x .joint; flow = flows (h .flow) (h .joint .laden-a) x };
-      meets = λ a b h c d. acts (h .joint) (deed (h .joint .ends-a .sane) (h .joint .laden-a) c d) .met;
+          let x = deed-at h c d in
+          record {
+            joint = acts (h .joint) x .joint;
+            flow = flows (h .flow) (h .joint .laden-a) x;
+            numbers-a = numbers-on (h .numbers-a) x;
+            numbers-b = h .numbers-b;
+          };
+      meets = λ a b h c d. acts (h .joint) (deed-at h c d) .met;
       in-order = λ a b h. in-order (h .flow);
     }
 
@@ -48,7 +61,7 @@ roomy =
           let k = reach .goes-on a b r c (d .1) in
           record {
             reached-both = k;
-            room-a = room-on (r .joint .laden-a) (h .room-a) (h .room-b) (d .0) (k .joint .ends-a .sane) (k .joint .laden-a) (deed (r .joint .ends-a .sane) (r .joint .laden-a) c (d .1));
+            room-a = room-on (r .joint .laden-a) (h .room-a) (h .room-b) (d .0) (k .joint .ends-a .sane) (k .joint .laden-a) (deed-at r c (d .1));
             room-b = h .room-b;
           };
       meets = λ a b h c d. reach .meets a b (h .reached-both) c (d .1);
@@ -67,11 +80,17 @@ limited h = record {
   fits = h .room-a .fits;
 }
 
+-- no number is used twice at ends whose calls do as the protocol's
+pub no-number-twice : (E : Ends) {Holds : E .Record → Endpoint → Type 0} → Simulates E Roomy Sized Holds → NoNumberTwice E
+no-number-twice E s start f calls d =
+    let h = reached E roomy s start f calls d in
+    (h .reached-both .numbers-a .once, h .reached-both .numbers-b .once)
+
 -- so it is where each block to send has 1 to 64 octets
 abbrev pub reading : Ends
 reading = endsWhere Sized
 
-pub limits : (start : Two reading) → BothNew reading start → (calls : List (Entry Call)) → AllDue reading start calls
+pub limits : (start : Two reading) → BothNew reading start → (calls : List (Entry Act)) → AllDue reading start calls
     → Limited (run reading start calls .a .history) × Limited (run reading start calls .b .history)
 limits start f calls d =
     let h = reached reading roomy (itself Roomy Sized) start f calls d in

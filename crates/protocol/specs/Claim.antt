@@ -142,6 +142,12 @@ NeverTwice [] = Unit {0}
 NeverTwice (x ∷ earlier) =
     (Begins (x .act) → (y : Event) → List·Memᴰ y earlier → y .answer .endpoint .local < x .answer .endpoint .local) × NeverTwice earlier
 
+-- of both ends, after every list
+abbrev pub NoNumberTwice : Ends → Type 0
+NoNumberTwice E =
+    (start : Two E) → BothNew E start → (calls : List (Entry (E .Call))) → AllDue E start calls
+    → NeverTwice (run E start calls .a .history) × NeverTwice (run E start calls .b .history)
+
 -- Demand 3 says nothing of an end that is never told. So it is claimed too that a call to a closed end is turned away: the
 -- caller's timer call sends a frame, the partner answers it, and that answer, delivered, closes the caller with notice 2.
 pub record TurnedAway (caller partner : Endpoint) : Type 0 where
