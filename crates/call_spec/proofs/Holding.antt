@@ -1,31 +1,48 @@
--- A record that holds a sound endpoint whose numbers have 32 bits, in a buffer that may be longer, and what calls leave of it.
+-- A record that holds a sound endpoint whose numbers have 32 bits, and its page, in buffers that may be longer; and what calls leave of them.
 use Prim.Native.Nat.{ℕ, _≤_}
-use mathlib.Core.Path.{_≡_, sym, ap, _∙_}
+use mathlib.Core.Path.{_≡_, refl, sym, ap, _∙_}
 use mathlib.Core.Bool.{true}
 use mathlib.Core.List.{List, _++_}
 use native.Mathlib.Omega.{arith}
 use lib.ListN.{length, length-append}
+use Rattle.octets.specs.Sizes.{pageSize, lastIncarnation}
 use Rattle.octets.specs.Test.{Outcome, refused, ok, mapped}
 use Rattle.octets.specs.Octets.{put, left}
 use Rattle.octets.proofs.Octets.{put-front}
+use Rattle.page.specs.Page.{usedFor, goesWith, reserving, pageOf}
+use Rattle.page.proofs.Laws.{page-long, page-goes, page-reserves}
 use Rattle.protocol.specs.Endpoint.{Endpoint, sound}
 use Rattle.protocol.specs.Table.{Step}
-use Rattle.protocol.specs.World.{endpointLeft}
+use Rattle.protocol.specs.History.{endpointLeft}
 use Rattle.protocol.specs.Limits.{Bounded, LeavesSound, LeavesBounded}
-use Rattle.call_spec.specs.Calls.{Format, recordAfter}
+use Rattle.protocol.proofs.Calls.{Next}
+use Rattle.call_spec.specs.Calls.{Format, recordAfter, pageAfter}
 use Rattle.call_spec.specs.Claim.{Lawful}
 
 -- the octets of an endpoint, and octets after it
 abbrev pub Lies : Format → List ℕ → Endpoint → Type 0
 Lies format rec e = (rest : List ℕ) × (rec ≡ format .octets e ++ rest)
 
-pub record Holding (format : Format) (rec : List ℕ) (e : Endpoint) : Type 0 where
+-- the page that goes with its number
+abbrev pub GoesWith : List ℕ → Endpoint → Type 0
+GoesWith page e = (more : List ℕ) × (page ≡ pageOf (usedFor (e .local)) ++ more)
+
+pub record Holding (format : Format) (rec page : List ℕ) (e : Endpoint) : Type 0 where
   pub is-sound : sound e ≡ true
   pub bounded : Bounded e
+  pub last : e .local ≤ lastIncarnation
   pub lies : Lies format rec e
+  pub paged : GoesWith page e
 
-module _ (format : Format) (law : Lawful format) {rec : List ℕ} {e : Endpoint} (k : Holding format rec e) where
-  -- it passes 11 and 12, and its endpoint is read again
+-- the one store keeps the page
+pub stored : {page : List ℕ} {e x : Endpoint} → GoesWith page e → Next e x → e .local ≤ lastIncarnation → GoesWith (reserving (x .local) page) x
+stored {page} {e} {x} k n l = (
+  k .0,
+  ap (reserving (x .local)) (k .1) ∙ page-reserves (e .local) (x .local) (n .left l) (n .least) (n .most) (k .0),
+)
+
+module _ (format : Format) (law : Lawful format) {rec page : List ℕ} {e : Endpoint} (k : Holding format rec page e) where
+  -- they pass 11, 12 and 15, and the endpoint is read again
   pub long : format .size ≤ length rec
   long = omega (arith, ap length (k .lies .1), length-append (format .octets e) (k .lies .0), law .long e (k .is-sound) (k .bounded))
 
@@ -35,14 +52,29 @@ module _ (format : Format) (law : Lawful format) {rec : List ℕ} {e : Endpoint}
   pub keeps : format .holds rec ≡ e
   keeps = ap (format .holds) (k .lies .1) ∙ law .keeps e (k .lies .0) (k .is-sound) (k .bounded)
 
+  pub page-enough : pageSize ≤ length page
+  page-enough =
+      let l = page-long (usedFor (e .local)) (omega (arith, k .last)) in
+      omega (arith, ap length (k .paged .1), length-append (pageOf (usedFor (e .local))) (k .paged .0))
+
+  pub goes : goesWith (e .local) page ≡ true
+  goes = ap (goesWith (e .local)) (k .paged .1) ∙ page-goes (e .local) (k .last) (k .paged .0)
+
   -- another endpoint, written over it
   pub written : (x : Endpoint) → sound x ≡ true → Bounded x → put rec 0 (format .octets x) ≡ format .octets x ++ k .lies .0
   written x s b =
       ap (λ (d : List ℕ). put d 0 (format .octets x)) (k .lies .1)
       ∙ put-front (format .octets e) (k .lies .0) (format .octets x) (law .long x s b ∙ sym (law .long e (k .is-sound) (k .bounded)))
 
-  -- what a call leaves is such a record again
-  pub leaves : (o : Outcome Step) → LeavesSound o → LeavesBounded o → Holding format (recordAfter format rec o) (endpointLeft e o)
-  unfolding recordAfter mapped left
-  leaves (refused n) s b = k
-  leaves (ok x) s b = record { is-sound = s; bounded = b; lies = (k .lies .0, written (x .endpoint) s b) }
+  -- what a call leaves is such a record and such a page again
+  pub leaves : (o : Outcome Step) → LeavesSound o → LeavesBounded o → Next e (endpointLeft e o)
+      → Holding format (recordAfter format rec o) (pageAfter page o) (endpointLeft e o)
+  unfolding recordAfter pageAfter mapped left
+  leaves (refused n) s b m = k
+  leaves (ok x) s b m = record {
+    is-sound = s;
+    bounded = b;
+    last = m .left (k .last);
+    lies = (k .lies .0, written (x .endpoint) s b);
+    paged = stored (k .paged) m (k .last);
+  }

@@ -7,7 +7,7 @@ use mathlib.Core.List.{List, [], _∷_, _++_, List·Memᴰ, List·Memᴰ·head, 
 use native.Mathlib.Omega.{arith}
 use borrow.Author.Tests.{le-leb}
 use lib.ListN.{length, getD, replicate}
-use Rattle.octets.specs.Sizes.{longestFrame, longestBlock, heldSize, lastNumber}
+use Rattle.octets.specs.Sizes.{longestFrame, longestBlock, heldSize, lastNumber, pageSize, lastIncarnation}
 use Rattle.octets.specs.Test.{when, ifEq, inRange, first, Outcome, ok, outcome, refusing, mapped, andThen}
 use Rattle.octets.specs.Octets.{size}
 use Rattle.frame.specs.Frame.{Block, COLLECT, dataFrame, collect}
@@ -22,14 +22,15 @@ use Rattle.protocol.specs.History as protocol
 use Rattle.protocol.specs.Limits.{Bounded, Readable}
 use Rattle.protocol.specs.Sequence.{upOf}
 use Rattle.protocol.specs.Sequence as protocol-sequence
+use Rattle.protocol.proofs.Calls.{next-on}
 use Rattle.protocol.proofs.Limits.{call-sound, call-bounded}
 use Rattle.protocol.proofs.Sound.{sound-so, sized-at}
 use Rattle.protocol.proofs.Sequence as proved
 use Rattle.call_spec.specs.declared.Call.{Call}
 use Rattle.call_spec.specs.declared.Call.the-variants as call
-use Rattle.call_spec.specs.Calls.{Arguments, Rooms, given, reads, said, does, blockRoomOk, asked, Format, performed, recordAfter}
+use Rattle.call_spec.specs.Calls.{Arguments, Rooms, given, reads, said, does, blockRoomOk, asked, Format, performed, recordAfter, pageAfter}
 use Rattle.call_spec.specs.Claim.{Lawful}
-use Rattle.call_spec.proofs.Holding.{Holding, long, passes, keeps, leaves}
+use Rattle.call_spec.proofs.Holding.{Holding, long, passes, keeps, page-enough, goes, leaves}
 use Rattle.call_spec.specs.Sequence.{comesUp, arrival, overtaking, InSequence}
 
 pub has-room : (c : Call) (n : ℕ) → longestBlock ≤ n → blockRoomOk c n ≡ true
@@ -40,11 +41,11 @@ has-room call.Receive n h = refl
 module _ (format : Format) (law : Lawful format) where
   -- A call on the record of a sound endpoint does what the protocol's call does that its octets say: so what holds of the one, the cases
   -- at the edges among it, holds of the other.
-  pub performs : {rec : List ℕ} {e : Endpoint} → Holding format rec e → (c : Arguments) {x : protocol.Call}
-      → said c ≡ ok x → longestFrame ≤ c .room → longestBlock ≤ c .blockRoom → performed format rec c ≡ protocol.perform x e
+  pub performs : {rec page : List ℕ} {e : Endpoint} → Holding format rec page e → (c : Arguments) {x : protocol.Call}
+      → said c ≡ ok x → longestFrame ≤ c .room → longestBlock ≤ c .blockRoom → performed format rec page c ≡ protocol.perform x e
   unfolding performed asked does refusing andThen first when
-  performs {rec} k c h room blockRoom =
-      rw (le-leb (format .size) (length rec) (long format law k), le-leb longestFrame (c .room) room, has-room (c .call) (c .blockRoom) blockRoom, passes format law k, keeps format law k, h) refl
+  performs {rec} {page} k c h room blockRoom =
+      rw (le-leb (format .size) (length rec) (long format law k), le-leb longestFrame (c .room) room, has-room (c .call) (c .blockRoom) blockRoom, le-leb pageSize (length page) (page-enough format law k), passes format law k, keeps format law k, goes format law k, h) refl
 
   -- the calls of one list say those of the other
   abbrev Says : List Arguments → List protocol.Call → Type 0
@@ -53,17 +54,17 @@ module _ (format : Format) (law : Lawful format) where
   Says (c ∷ cs) [] = ⊥
   Says (c ∷ cs) (q ∷ qs) = ((said c ≡ ok q) × Readable q × (longestFrame ≤ c .room) × (longestBlock ≤ c .blockRoom)) × Says cs qs
 
-  same-up : (cs : List Arguments) (qs : List protocol.Call) → Says cs qs → {rec : List ℕ} {e : Endpoint} → Holding format rec e
-      → comesUp format cs rec ≡ protocol-sequence.comesUp qs e
+  same-up : (cs : List Arguments) (qs : List protocol.Call) → Says cs qs → {rec page : List ℕ} {e : Endpoint} → Holding format rec page e
+      → comesUp format cs rec page ≡ protocol-sequence.comesUp qs e
   unfolding comesUp protocol-sequence.comesUp
   same-up [] [] y k = refl
   same-up [] (q ∷ qs) y k = absurd y
   same-up (c ∷ cs) [] y k = absurd y
-  same-up (c ∷ cs) (q ∷ qs) y {rec} {e} k =
+  same-up (c ∷ cs) (q ∷ qs) y {rec} {page} {e} k =
       let p = performs k c (y .0 .0) (y .0 .2) (y .0 .3) in
       let o = protocol.perform q e in
-      let l = leaves format law k o (call-sound q e (k .is-sound) (y .0 .1)) (call-bounded q e (k .is-sound) (k .bounded) (y .0 .1)) in
-      ap (λ (x : Outcome Step). upOf x ++ comesUp format cs (recordAfter format rec x)) p
+      let l = leaves format law k o (call-sound q e (k .is-sound) (y .0 .1)) (call-bounded q e (k .is-sound) (k .bounded) (y .0 .1)) (next-on q e) in
+      ap (λ (x : Outcome Step). upOf x ++ comesUp format cs (recordAfter format rec x) (pageAfter page x)) p
       ∙ ap (λ (x : List Block). upOf o ++ x) (same-up cs qs (y .1) l)
 
   -- the octets of collect
@@ -96,10 +97,10 @@ module _ (format : Format) (law : Lawful format) where
           let h = only j (List·Memᴰ·head refl) in
           ((arrives j h, fits j h, frames, blocks), says-all order (λ i m. only i (List·Memᴰ·tail m)))
 
-  pub in-sequence : (e : Endpoint) → sound e ≡ true → Bounded e → e .state ≡ established → e .held ≡ noneHeld → e .delivered + 7 < lastNumber → InSequence format e
-  in-sequence e s b open-is none numbers = record {
-    comes = λ r frames blocks rest bs order l8 sz o.
+  pub in-sequence : (e : Endpoint) → sound e ≡ true → Bounded e → e .local ≤ lastIncarnation → e .state ≡ established → e .held ≡ noneHeld → e .delivered + 7 < lastNumber → InSequence format e
+  in-sequence e s b last open-is none numbers = record {
+    comes = λ r frames blocks rest more bs order l8 sz o.
         same-up (overtaking r e bs order) (protocol-sequence.overtaking e bs order) (says-all r frames blocks e s b open-is numbers bs l8 sz order (o .only))
-        (record { is-sound = s; bounded = b; lies = (rest, refl) })
+        (record { is-sound = s; bounded = b; last = last; lies = (rest, refl); paged = (more, refl) })
         ∙ proved.in-sequence e open-is none .comes bs order l8 sz o;
   }

@@ -1,38 +1,101 @@
--- Ends whose calls are given octets (document 01, "Demand 3, over a list of calls"): any octets, any frame buffer, refused calls included.
-use Prim.Native.Nat.{ℕ}
+-- Ends whose calls are given octets (document 01, "Demand 3, over a list of calls"; document 02, N6): any octets, any frame buffer, refused calls,
+-- restarts and cuts included.
+use Prim.Native.Nat.{ℕ, _≤_}
 use mathlib.Core.Path.{_≡_}
 use mathlib.Core.Bool.{true}
 use mathlib.Core.List.{List, _++_, map, List·Memᴰ}
 use lib.ListN.{length}
+use Rattle.octets.specs.Test.{Outcome, refused, ok, mapped}
 use Rattle.frame.specs.Layout.{encode}
+use Rattle.page.specs.Page.{goesWith, newPage}
 use Rattle.protocol.specs.Endpoint.{Endpoint, fresh, sound}
+use Rattle.protocol.specs.Table.{Step}
 use Rattle.protocol.specs.History.{History, sent}
-use Rattle.protocol.specs.World.{Ends}
+use Rattle.protocol.specs.History as protocol
+use Rattle.protocol.specs.World.{Ends, Entry, Two, run, AllDue, BothNew}
 use Rattle.protocol.specs.Limits.{Bounded}
 use Rattle.call_spec.specs.declared.Call.{Call}
 use Rattle.call_spec.specs.declared.Call.the-variants.{Request, Receive}
-use Rattle.call_spec.specs.Calls.{Arguments, said, Format, performed, recordAfter}
+use Rattle.call_spec.specs.Calls.{Arguments, said, Format, performed, restartedIn, recordAfter, pageAfter}
 
--- Any call may stand anywhere, but the octets of a frame received equal those of a frame that an earlier call at the other end sent.
+-- what an end lends to its calls and keeps between them
+pub record Lent : Type 0 where
+  pub rec : List ℕ
+  pub page : List ℕ
+
+abbrev pub lent : List ℕ → List ℕ → Lent
+lent rec page = record { rec = rec; page = page }
+
+-- What stands in a list at an end: a call; a restart, with a buffer for the record that may hold anything; or a call that is cut after its store,
+-- and the restart after it. (A cut before the store is a restart as any other.)
+pub data Act : Type 0 where
+  call : Arguments → Act
+  restart : List ℕ → Act
+  cut : Arguments → List ℕ → Act
+
+-- Any call may stand anywhere, but the octets of a frame received equal those of a frame that an earlier call at the other end sent; and an end
+-- restarts with room for a record.
 abbrev pub DueOctets : History → Call → List ℕ → Type 0
 DueOctets other Request s = Unit {0}
 DueOctets other Receive s = List·Memᴰ s (map encode (sent other))
 
-abbrev pub Due : History → Arguments → Type 0
-Due other c = DueOctets other (c .call) (c .octets)
+abbrev pub Due : Format → History → Act → Type 0
+Due format other (call c) = DueOctets other (c .call) (c .octets)
+Due format other (restart rec) = format .size ≤ length rec
+Due format other (cut c rec) = format .size ≤ length rec
 
--- Ends whose records are lent in octets. A fresh one is that of a fresh endpoint, in a buffer that may be longer.
-abbrev pub ends : Format → Ends
-ends format =
-    record {
-      Record = List ℕ;
-      Fresh = λ rec. (rest : List ℕ) × (rec ≡ format .octets fresh ++ rest);
-      Call = Arguments;
-      said = λ rec. said;
-      comes = performed format;
-      leaves = λ rec c. recordAfter format rec;
-      Due = λ this. Due;
-    }
+-- what a cut call says, by its octets and by what it comes to: one that is refused stores nothing, and is a restart
+unfoldable pub cutSays : Outcome protocol.Call → Outcome Step → protocol.Act
+cutSays (refused n) o = protocol.restart
+cutSays (ok q) (refused n) = protocol.restart
+cutSays (ok q) (ok x) = protocol.cut q
+
+-- Of a call that comes to o, the record and the page that a restart finds: its buffer, and the page as the call has left it.
+unfoldable pub renewed : Format → List ℕ → List ℕ → Outcome Step → Lent → Lent
+renewed format rec page (refused n) r = r
+renewed format rec page (ok x) r = lent (recordAfter format rec (ok x)) page
+
+-- Ends whose records and pages are lent in octets. A fresh one has the record of a fresh endpoint and a new page, in buffers that may be longer.
+module _ (format : Format) where
+  abbrev comesTo : Lent → Arguments → Outcome Step
+  comesTo r c = performed format (r .rec) (r .page) c
+
+  abbrev pub saidBy : Lent → Act → Outcome protocol.Act
+  saidBy r (call c) = mapped protocol.call (said c)
+  saidBy r (restart rec) = ok protocol.restart
+  saidBy r (cut c rec) = ok (cutSays (said c) (comesTo r c))
+
+  abbrev pub comesBy : Lent → Act → Outcome Step
+  comesBy r (call c) = comesTo r c
+  comesBy r (restart rec) = restartedIn format rec (r .page)
+  comesBy r (cut c rec) = restartedIn format rec (pageAfter (r .page) (comesTo r c))
+
+  abbrev pub leavesBy : Lent → Act → Outcome Step → Lent
+  leavesBy r (call c) o = lent (recordAfter format (r .rec) o) (pageAfter (r .page) o)
+  leavesBy r (restart rec) o = renewed format rec (r .page) o r
+  leavesBy r (cut c rec) o = renewed format rec (pageAfter (r .page) (comesTo r c)) o r
+
+  abbrev pub ends : Ends
+  ends =
+      record {
+        Record = Lent;
+        Fresh = λ r. ((rest : List ℕ) × (r .rec ≡ format .octets fresh ++ rest)) × ((more : List ℕ) × (r .page ≡ newPage ++ more));
+        Call = Act;
+        said = saidBy;
+        comes = comesBy;
+        leaves = leavesBy;
+        Due = λ this. Due format;
+      }
+
+  -- Beside demand 3: wherever a list has come, 12 and 15 are answered yes.
+  pub record Passes (r : Lent) : Type 0 where
+    pub is-sound : format .sound (r .rec) ≡ true
+    pub goes-so : goesWith (format .holds (r .rec) .local) (r .page) ≡ true
+
+  abbrev pub NeverRefused : Type 0
+  NeverRefused =
+      (start : Two ends) → BothNew ends start → (calls : List (Entry Act)) → AllDue ends start calls
+      → Passes (run ends start calls .a .rec) × Passes (run ends start calls .b .rec)
 
 -- What a format keeps of an endpoint that is sound and has numbers of 32 bits, in a buffer that may be longer.
 pub record Lawful (format : Format) : Type 0 where

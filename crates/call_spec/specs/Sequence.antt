@@ -8,15 +8,16 @@ use lib.ListN.{length, getD, replicate}
 use Rattle.octets.specs.Sizes.{longestFrame, longestBlock, heldSize}
 use Rattle.frame.specs.Frame.{Block, dataFrame, COLLECT}
 use Rattle.frame.specs.Layout.{encode}
+use Rattle.page.specs.Page.{usedFor, pageOf}
 use Rattle.protocol.specs.Endpoint.{Endpoint, sized}
 use Rattle.protocol.specs.Sequence.{upOf, AllEight}
 use Rattle.call_spec.specs.declared.Call.the-variants.{Request, Receive}
-use Rattle.call_spec.specs.Calls.{Arguments, Rooms, given, Format, performed, recordAfter}
+use Rattle.call_spec.specs.Calls.{Arguments, Rooms, given, Format, performed, recordAfter, pageAfter}
 
--- the blocks that come up in a list of calls on a lent record, in order
-unfoldable pub comesUp : Format → List Arguments → List ℕ → List Block
-comesUp format [] rec = []
-comesUp format (c ∷ cs) rec = let o = performed format rec c in upOf o ++ comesUp format cs (recordAfter format rec o)
+-- the blocks that come up in a list of calls on a lent record and its page, in order
+unfoldable pub comesUp : Format → List Arguments → List ℕ → List ℕ → List Block
+comesUp format [] rec page = []
+comesUp format (c ∷ cs) rec page = let o = performed format rec page c in upOf o ++ comesUp format cs (recordAfter format rec o) (pageAfter page o)
 
 -- block i of bs arrives: the partner's DATA numbered e + i
 abbrev pub arrival : Rooms → Endpoint → List Block → ℕ → Arguments
@@ -26,7 +27,7 @@ arrival r e bs i = given Receive (encode (dataFrame (e .remote) (e .local) (e .d
 abbrev pub overtaking : Rooms → Endpoint → List Block → List ℕ → List Arguments
 overtaking r e bs order = map (arrival r e bs) order ++ replicate 7 (given Request (COLLECT ∷ []) r)
 
--- of the record of an endpoint, in a buffer that may be longer; the buffers for a frame and for a block have room
+-- of the record of an endpoint and the page that goes with it, in buffers that may be longer; the buffers for a frame and for a block have room
 pub record InSequence (format : Format) (e : Endpoint) : Type 0 where
-  pub comes : (r : Rooms) → longestFrame ≤ r .frame → longestBlock ≤ r .block → (rest : List ℕ) (bs : List Block) (order : List ℕ)
-      → length bs ≡ heldSize → sized bs ≡ true → AllEight order → comesUp format (overtaking r e bs order) (format .octets e ++ rest) ≡ bs
+  pub comes : (r : Rooms) → longestFrame ≤ r .frame → longestBlock ≤ r .block → (rest more : List ℕ) (bs : List Block) (order : List ℕ)
+      → length bs ≡ heldSize → sized bs ≡ true → AllEight order → comesUp format (overtaking r e bs order) (format .octets e ++ rest) (pageOf (usedFor (e .local)) ++ more) ≡ bs

@@ -38,7 +38,7 @@ pub record Simulates (E : Ends) (I : History → History → Type 0) (Fair : His
   pub fair : (a b : History) → I a b → (r : E .Record) → Holds r (now a) → (c : E .Call) → E .Due a b c → (q : Act) → E .said r c ≡ ok q → Fair b q
   pub comes : (a b : History) → I a b → (r : E .Record) → Holds r (now a) → (c : E .Call) → Asks E r c (now a) ⊎ Idle E Holds r c (now a)
   pub refuses : (r : E .Record) (e : Endpoint) → Holds r e → (c : E .Call) (n : ℕ) → Holds (E .leaves r c (refused n)) e
-  pub accepts : (a b g : History) → I a b → I g b → (r : E .Record) → Holds r (now a) → (c : E .Call) (x : Step) → now g ≡ x .endpoint → Holds (E .leaves r c (ok x)) (now g)
+  pub accepts : (a b g : History) → I a b → I g b → (r : E .Record) → Holds r (now a) → (c : E .Call) (x : Step) → E .comes r c ≡ ok x → now g ≡ x .endpoint → Holds (E .leaves r c (ok x)) (now g)
 
 -- two ends whose records hold what their calls have answered
 pub record Held (E : Ends) (I : History → History → Type 0) (Holds : E .Record → Endpoint → Type 0) (x y : End (E .Record)) : Type 0 where
@@ -59,19 +59,19 @@ module _ (E : Ends) {I : History → History → Type 0} {Fair : History → Act
     stays : (n : ℕ) → Goes a b a (E .leaves r e (refused n))
     stays n = record { both = i; this = s .refuses r (now a) k e n; meets = λ o. absurd (o .0 (o .1)) }
 
-    goes : (n : ℕ) (q : Outcome Act) → ((c : Act) → q ≡ ok c → Fair b c)
+    goes : (n : ℕ) (q : Outcome Act) → E .comes r e ≡ asking n q (now a) → ((c : Act) → q ≡ ok c → Fair b c)
         → Goes a b (recorded q (asking n q (now a)) a) (E .leaves r e (asking n q (now a)))
     unfolding recorded refusing andThen after now
-    goes (suc n) (refused m) fair = stays (suc n)
-    goes (suc n) (ok c) fair = stays (suc n)
-    goes zero (refused m) fair = stays m
-    goes zero (ok c) fair =
+    goes (suc n) (refused m) p fair = stays (suc n)
+    goes (suc n) (ok c) p fair = stays (suc n)
+    goes zero (refused m) p fair = stays m
+    goes zero (ok c) p fair =
         let j = h .goes-on a b i c (fair c refl) in
-        record { both = j; this = by-answer (does c (now a)) j; meets = h .meets a b i c (fair c refl) }
+        record { both = j; this = by-answer (does c (now a)) p j; meets = h .meets a b i c (fair c refl) }
       where
-        by-answer : (o : Outcome Step) → I (recorded (ok c) o a) b → Holds (E .leaves r e o) (now (recorded (ok c) o a))
-        by-answer (refused m) j = s .refuses r (now a) k e m
-        by-answer (ok x) j = s .accepts a b _ i j r k e x refl
+        by-answer : (o : Outcome Step) → E .comes r e ≡ o → I (recorded (ok c) o a) b → Holds (E .leaves r e o) (now (recorded (ok c) o a))
+        by-answer (refused m) p j = s .refuses r (now a) k e m
+        by-answer (ok x) p j = s .accepts a b _ i j r k e x p refl
 
     idles : Idle E Holds r e (now a) → Goes a b (recorded (E .said r e) (E .comes r e) a) (E .leaves r e (E .comes r e))
     unfolding recorded
@@ -86,7 +86,7 @@ module _ (E : Ends) {I : History → History → Type 0} {Fair : History → Act
   unfolding called
   call-at {x} {y} k c d =
       ⊎-elim
-      (λ (o : Asks E (x .rec) c (now (x .history))). rw (o .1) (goes _ _ (k .both) (x .rec) (k .this) c (o .0) (E .said (x .rec) c) (s .fair _ _ (k .both) (x .rec) (k .this) c d)))
+      (λ (o : Asks E (x .rec) c (now (x .history))). rw (o .1) (goes _ _ (k .both) (x .rec) (k .this) c (o .0) (E .said (x .rec) c) (o .1) (s .fair _ _ (k .both) (x .rec) (k .this) c d)))
       (λ (o : Idle E Holds (x .rec) c (now (x .history))). idles _ _ (k .both) (x .rec) (k .this) c o)
       (s .comes _ _ (k .both) (x .rec) (k .this) c)
 
@@ -115,8 +115,12 @@ module _ (E : Ends) {I : History → History → Type 0} {Fair : History → Act
   unfolding now
   new-held w f = rw (f .0 .1, f .1 .1) (record { both = h .starts; this = s .starts _ (f .0 .0); other = s .starts _ (f .1 .0) })
 
+  -- what holds along it
+  pub kept : (w : Two E) → BothNew E w → (cs : List (Entry (E .Call))) → AllDue E w cs → Kept (run E w cs .a) (run E w cs .b)
+  kept w f cs d = along w (new-held w f) cs d .1
+
   pub reached : (w : Two E) → BothNew E w → (cs : List (Entry (E .Call))) → AllDue E w cs → I (run E w cs .a .history) (run E w cs .b .history)
-  reached w f cs d = along w (new-held w f) cs d .1 .both
+  reached w f cs d = kept w f cs d .both
 
   -- the one law: no end of E opens without its partner
   pub no-end-alone : NoEndAlone E
@@ -133,7 +137,7 @@ itself I Fair =
       fair = λ a b i r k c d q e. let z : c ≡ q = cc in subst (Fair b) z d;
       comes = λ a b i r k c. inl (0, rw k refl);
       refuses = λ r e k c n. k;
-      accepts = λ a b g i j r k c x e. sym e;
+      accepts = λ a b g i j r k c x o e. sym e;
     }
 
 -- one list of calls after another
