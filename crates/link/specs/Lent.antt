@@ -1,10 +1,10 @@
 -- What a call on a lent record answers, and every octet that it leaves.
 use Prim.Native.Nat.{ℕ}
 use mathlib.Core.Path.{_≡_}
-use mathlib.Core.List.{List, [], _∷_}
+use mathlib.Core.List.{List}
 use lib.Dec.{leb}
 use lib.ListN.{length}
-use Rattle.octets.specs.Test.{when, first, Outcome, refused, ok, outcome, numberOf}
+use Rattle.octets.specs.Test.{when, Outcome, refused, ok, numberOf}
 use Rattle.protocol.specs.Endpoint.{fresh}
 use Rattle.protocol.specs.Table.{none, Step, quiet}
 use Rattle.call_spec.specs.declared.Call.{Call}
@@ -13,7 +13,7 @@ use Rattle.endpoint.specs.declared.Endpoint.{Endpoint}
 use Rattle.endpoint.specs.View.{pack}
 use Rattle.endpoint.specs.Record.{recordSize, decode}
 use Rattle.call_spec.specs.declared.Status.{Status}
-use Rattle.call_spec.specs.Calls.{Arguments, given, rooms, wire, performed, recordAfter, bufferAfter}
+use Rattle.call_spec.specs.Calls.{Arguments, given, rooms, wire, performed, restartedIn, recordAfter, bufferAfter, pageAfter}
 use Rattle.link.specs.declared.Answer.{Answer}
 use Rattle.link.specs.Record.{format}
 
@@ -52,17 +52,24 @@ pub record Called (c : Call) (o : Outcome Step) (rec s out up rec′ out′ up�
 abbrev pub lentCall : Call → List ℕ → List ℕ → List ℕ → Arguments
 lentCall c s out up = given c s (rooms (length out) (length up))
 
-abbrev pub CalledLent : Call → List ℕ → List ℕ → List ℕ → List ℕ → List ℕ → List ℕ → List ℕ → Answer → Type 0
-CalledLent c rec s out up rec′ out′ up′ r = Called c (performed format rec (lentCall c s out up)) rec s out up rec′ out′ up′ r
+-- of a record and its page: what it comes to
+abbrev pub lentOutcome : Call → List ℕ → List ℕ → List ℕ → List ℕ → List ℕ → Outcome Step
+lentOutcome c rec page s out up = performed format rec page (lentCall c s out up)
+
+abbrev pub CalledLent : Call → List ℕ → List ℕ → List ℕ → List ℕ → List ℕ → List ℕ → List ℕ → List ℕ → List ℕ → Answer → Type 0
+CalledLent c rec page s out up rec′ page′ out′ up′ r =
+    Called c (lentOutcome c rec page s out up) rec s out up rec′ out′ up′ r × (page′ ≡ pageAfter page (lentOutcome c rec page s out up))
+
+-- A restart of a lent record (N6), on this page: what it answers, and every octet that it leaves.
+pub record Restarted (rec page rec′ : List ℕ) (r : Answer) : Type 0 where
+  pub answer : r ≡ answerOf rec (restartedIn format rec page)
+  pub end : rec′ ≡ recordAfter format rec (restartedIn format rec page)
 
 -- the answer in numbers
 abbrev pub answerIn : ℕ → ℕ → ℕ → ℕ → ℕ → ℕ → ℕ → Answer
 answerIn number state notice local remote sent block =
     record { status = record { number = number; state = state; notice = notice; local = local; remote = remote }; sent = sent; block = block }
 
--- a fresh record, and one in a buffer; 11 where it is too short
+-- a fresh record: what a restart on a new page leaves
 abbrev pub freshRecord : List ℕ
 freshRecord = format .octets fresh
-
-unfoldable pub freshIn : List ℕ → Outcome (List ℕ)
-freshIn rec = outcome (first ((11, leb recordSize (length rec)) ∷ [])) freshRecord

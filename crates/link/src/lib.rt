@@ -1,5 +1,6 @@
-// The calls of an end on lent buffers: its record of 1,058 octets, a request or a frame, room for a frame out, and a request's room for a
-// block. A call is planned first; then come its stores, in this order: the frame out, the block, the record, the numbers told.
+// The calls of an end on lent buffers: its record of 1,058 octets, its page of 4,096, a request or a frame, room for a frame out, and a request's
+// room for a block. A call is planned first, and nothing is stored; then come its stores, in this order: one octet of the page at most, by
+// page::reserve, which stores nothing else; the frame out, the block, the record, the numbers told.
 use call_spec::Call;
 use call_spec::Status;
 use endpoint::BLOCKS_AT;
@@ -11,18 +12,20 @@ use octets::refusal;
 use step_plan::Plan;
 ghost use mathlib.Core.Path.{_≡_};
 ghost use mathlib.Core.Bool.{true};
-ghost use mathlib.Core.List.{[]};
-ghost use Prim.Native.Nat.{_≤_};
+ghost use mathlib.Core.List.{List, []};
+ghost use Prim.Native.Nat.{ℕ, _+_, _*_, _≤_};
 ghost use lib.ListN.{length};
-ghost use Rattle.octets.specs.Test.{first, refused, ok, numberOf};
-ghost use Rattle.octets.specs.Octets.{put, left};
+ghost use Rattle.octets.specs.Sizes.{pageSize, numbersEach, lastIncarnation};
+ghost use Rattle.octets.specs.Test.{ifEq, first, refused, ok};
+ghost use Rattle.octets.specs.Octets.{put};
+ghost use Rattle.page.specs.Page.{runs, count, reserving};
 ghost use Rattle.call_spec.specs.declared.Call.the-variants.{Receive};
-ghost use Rattle.call_spec.specs.Calls.{given, rooms, performed};
+ghost use Rattle.call_spec.specs.Calls.{given, rooms};
 ghost use Rattle.call_spec.specs.Answers.{blockOf};
 ghost use Rattle.endpoint.specs.Record.{recordSize, encode, decode};
 ghost use Rattle.endpoint_step.specs.Internal.{Plans, PlansAny, Fits, carried};
-ghost use Rattle.link.specs.Record.{format, recordQuestions};
-ghost use Rattle.link.specs.Lent.{statusOf, stands, answerOf, lentCall, CalledLent, answerIn, freshIn};
+ghost use Rattle.link.specs.Record.{format, pagedFor, recordQuestions};
+ghost use Rattle.link.specs.Lent.{statusOf, stands, answerOf, Called, lentCall, lentOutcome, CalledLent, Restarted, answerIn};
 
 // The octets of a record.
 pub const RECORD_SIZE: usize = endpoint::RECORD_SIZE;
@@ -32,17 +35,6 @@ pub struct Answer {
     pub status: Status,
     pub sent: usize,
     pub block: usize,
-}
-
-// Writes a fresh record to the start of rec. Answers 0, or 11 where rec is too short.
-pub fn make_fresh(rec: &mut [u8]) -> u8
-    ensures { λ r. ⌜ (r ≡ numberOf (freshIn (now (rec .entry)))) × (now (rec .exit) ≡ left (freshIn (now (rec .entry))) (now (rec .entry))) ⌝ }
-{
-    if rec.len() < RECORD_SIZE {
-        return refusal::SHORT_BUFFER;
-    }
-    endpoint::encode(Endpoint::fresh(), rec);
-    step_plan::ACCEPTED
 }
 
 // Question 12 of a record.
@@ -60,15 +52,30 @@ pub fn is_sound(rec: &[u8]) -> bool
     )
 }
 
-// Questions 11 and 12 of a record: 0 where both are passed.
-pub fn ready(rec: &[u8]) -> u8
-    ensures { λ r. ⌜ r ≡ first (recordQuestions (now (rec .entry))) ⌝ }
+// Question 15 of a page beside a record.
+pub fn is_paged(rec: &[u8], page: &[u8]) -> bool
+    requires { ⌜ (recordSize ≤ length (now rec)) × (pageSize ≤ length (now page)) ⌝ }
+    ensures { λ r. ⌜ r ≡ pagedFor (now (rec .entry)) (now (page .entry)) ⌝ }
+{
+    let n = endpoint::load_numbers(rec);
+    page::goes_with(n.local, page)
+}
+
+// Questions 11, 12 and 15 of a record and its page: 0 where all are passed.
+pub fn ready(rec: &[u8], page: &[u8]) -> u8
+    ensures { λ r. ⌜ r ≡ first (recordQuestions (now (rec .entry)) (now (page .entry))) ⌝ }
 {
     if rec.len() < RECORD_SIZE {
         return refusal::SHORT_BUFFER;
     }
+    if page.len() < octets::PAGE_SIZE {
+        return refusal::SHORT_BUFFER;
+    }
     if !is_sound(rec) {
         return refusal::UNSOUND;
+    }
+    if !is_paged(rec, page) {
+        return refusal::WRONG_PAGE;
     }
     step_plan::ACCEPTED
 }
@@ -120,11 +127,47 @@ pub fn refuse(rec: &[u8], number: u8) -> Answer
     }
 }
 
-// The plan of a call, from the record's own octets: s has those of a request or of a frame, room and block_room are the lengths of the
-// buffers for a frame out and for a block. Nothing is stored.
-pub fn plan_call(call: Call, rec: &[u8], s: &[u8], room: usize, block_room: usize) -> Plan
+// Restarts an end, which leaves its record as the page says: closed, with L = 16 times the count of 00. It neither looks at the record that it
+// replaces nor stores in the page. On a new page that is a fresh end.
+pub fn restart(rec: &mut [u8], page: &[u8]) -> Answer
+    ensures { λ r. ⌜ Restarted (now (rec .entry)) (now (page .entry)) (now (rec .exit)) r ⌝ }
+{
+    if rec.len() < RECORD_SIZE {
+        return refuse(rec, refusal::SHORT_BUFFER);
+    }
+    if page.len() < octets::PAGE_SIZE {
+        return refuse(rec, refusal::SHORT_BUFFER);
+    }
+    if !page::is_run(page) {
+        return refuse(rec, refusal::WRONG_PAGE);
+    }
+    let e = Endpoint::restarted(page::count_used(page));
+    endpoint::encode(e, rec);
+    Answer {
+        status: Status {
+            number: step_plan::ACCEPTED,
+            state: e.state,
+            notice: step_plan::NONE,
+            local: e.local,
+            remote: e.remote,
+        },
+        sent: 0,
+        block: 0,
+    }
+}
+
+// The plan of a call, from the record's own octets and its page: s has those of a request or of a frame, room and block_room are the lengths of
+// the buffers for a frame out and for a block. Nothing is stored.
+pub fn plan_call(
+    call: Call,
+    rec: &[u8],
+    page: &[u8],
+    s: &[u8],
+    room: usize,
+    block_room: usize,
+) -> Plan
     requires { ⌜ recordSize ≤ length (now rec) ⌝ }
-    ensures { λ r. ⌜ Plans (decode (now (rec .entry))) (given call (now (s .entry)) (rooms room «block_room»)) r ⌝ }
+    ensures { λ r. ⌜ Plans (decode (now (rec .entry))) (now (page .entry)) (given call (now (s .entry)) (rooms room «block_room»)) r ⌝ }
 {
     let n = endpoint::load_numbers(rec);
     endpoint_step::plan_call(
@@ -134,19 +177,31 @@ pub fn plan_call(call: Call, rec: &[u8], s: &[u8], room: usize, block_room: usiz
         &rec[BLOCKS_AT..HELD_LENGTHS_AT],
         &rec[HELD_LENGTHS_AT..HELD_BLOCKS_AT],
         &rec[HELD_BLOCKS_AT..RECORD_SIZE],
+        page,
         s,
         room,
         block_room,
     )
 }
 
-// The plan of a call where 11 and 12 are passed.
+// The plan of a call where 11, 12 and 15 are passed.
 pub fn plan_sound(call: Call, rec: &[u8], s: &[u8]) -> Plan
     requires { ⌜ (recordSize ≤ length (now rec)) × (format .sound (now rec) ≡ true) ⌝ }
     ensures { λ r. ⌜ PlansAny (decode (now (rec .entry))) call (now (s .entry)) r ⌝ }
 {
     let n = endpoint::load_numbers(rec);
     endpoint_step::plan_sound(call, n, &rec[HELD_LENGTHS_AT..HELD_BLOCKS_AT], s)
+}
+
+// The one store of a planned call to its page, before all its others: the number that the plan leaves is reserved. A refusal stores nothing.
+pub fn reserve(p: Plan, page: &mut [u8])
+    requires { ⌜ (p .number ≡ 0 → ((pageSize ≤ length (now page)) × (runs (now page) ≡ true)) × ((p .numbers .local ≤ lastIncarnation) × (p .numbers .local ≤ numbersEach * count (now page) + numbersEach))) ⌝ }
+    ensures { λ _. ⌜ now (page .exit) ≡ ifEq (p .number) 0 (reserving (p .numbers .local) (now (page .entry))) (now (page .entry)) ⌝ }
+{
+    if p.number != step_plan::ACCEPTED {
+        return;
+    }
+    page::reserve(p.numbers.local, page);
 }
 
 // Changes the record where it lies: its numbers, and of the lengths and blocks what the plan says; joined is the block that joins those
@@ -182,7 +237,7 @@ fn store<'a>(p: Plan, joined: &'a [u8], early: &'a [u8], rec: &mut [u8])
     );
 }
 
-// The stores of a planned call, and its answer: the frame out, the block handed up, then the record. A plan that refuses stores nothing.
+// The other stores of a planned call, and its answer: the frame out, the block handed up, then the record. A plan that refuses stores nothing.
 pub fn finish(
     call: Call,
     p: Plan,
@@ -191,8 +246,8 @@ pub fn finish(
     out: &mut [u8],
     up: &mut [u8],
 ) -> Answer
-    requires { ⌜ (recordSize ≤ length (now rec)) × Plans (decode (now rec)) (lentCall call (now s) (now out) (now up)) p ⌝ }
-    ensures { λ r. ⌜ CalledLent call (now (rec .entry)) (now (s .entry)) (now (out .entry)) (now (up .entry)) (now (rec .exit)) (now (out .exit)) (now (up .exit)) r ⌝ }
+    requires { ⌜ (recordSize ≤ length (now rec)) × ((page : List ℕ) × Plans (decode (now rec)) page (lentCall call (now s) (now out) (now up)) p) ⌝ }
+    ensures { λ r. ⌜ ((page : List ℕ) → Plans (decode (now (rec .entry))) page (lentCall call (now (s .entry)) (now (out .entry)) (now (up .entry))) p → Called call (lentOutcome call (now (rec .entry)) page (now (s .entry)) (now (out .entry)) (now (up .entry))) (now (rec .entry)) (now (s .entry)) (now (out .entry)) (now (up .entry)) (now (rec .exit)) (now (out .exit)) (now (up .exit)) r) ⌝ }
 {
     if p.number != step_plan::ACCEPTED {
         return refuse(rec, p.number);
@@ -232,20 +287,40 @@ pub fn finish(
 }
 
 // A call of an end: a request, the timer call among them, or a frame received. Receiving neither asks nor writes up.
-pub fn perform(call: Call, rec: &mut [u8], s: &[u8], out: &mut [u8], up: &mut [u8]) -> Answer
-    ensures { λ r. ⌜ CalledLent call (now (rec .entry)) (now (s .entry)) (now (out .entry)) (now (up .entry)) (now (rec .exit)) (now (out .exit)) (now (up .exit)) r ⌝ }
+pub fn perform(
+    call: Call,
+    rec: &mut [u8],
+    page: &mut [u8],
+    s: &[u8],
+    out: &mut [u8],
+    up: &mut [u8],
+) -> Answer
+    ensures { λ r. ⌜ CalledLent call (now (rec .entry)) (now (page .entry)) (now (s .entry)) (now (out .entry)) (now (up .entry)) (now (rec .exit)) (now (page .exit)) (now (out .exit)) (now (up .exit)) r ⌝ }
 {
     if rec.len() < RECORD_SIZE {
         return refuse(rec, refusal::SHORT_BUFFER);
     }
-    let p = plan_call(call, rec, s, out.len(), up.len());
+    let p = plan_call(call, rec, page, s, out.len(), up.len());
+    reserve(p, page);
     finish(call, p, rec, s, out, up)
+}
+
+// A frame received by a call that only looks at the page: no number is begun, so that nothing has to be reserved.
+fn hear(rec: &mut [u8], page: &[u8], s: &[u8], out: &mut [u8], up: &mut [u8]) -> Answer
+    ensures { λ r. ⌜ Called Receive (lentOutcome Receive (now (rec .entry)) (now (page .entry)) (now (s .entry)) (now (out .entry)) (now (up .entry))) (now (rec .entry)) (now (s .entry)) (now (out .entry)) (now (up .entry)) (now (rec .exit)) (now (out .exit)) (now (up .exit)) r ⌝ }
+{
+    if rec.len() < RECORD_SIZE {
+        return refuse(rec, refusal::SHORT_BUFFER);
+    }
+    let p = plan_call(Call::Receive, rec, page, s, out.len(), up.len());
+    finish(Call::Receive, p, rec, s, out, up)
 }
 
 // Receives the frame s. Gives the block handed up, a part of s, empty where there is none; the number, state, notice, L, D and
 // the length of the frame sent go to the last six.
 pub fn receive<'a>(
     rec: &mut [u8],
+    page: &[u8],
     s: &'a [u8],
     out: &mut [u8],
     number: &mut u8,
@@ -255,10 +330,10 @@ pub fn receive<'a>(
     remote: &mut u32,
     sent: &mut usize,
 ) -> &'a [u8]
-    ensures { λ r. ⌜ CalledLent Receive (now (rec .entry)) (now (s .entry)) (now (out .entry)) [] (now (rec .exit)) (now (out .exit)) [] (answerIn (now (number .exit)) (now (state .exit)) (now (notice .exit)) (now (local .exit)) (now (remote .exit)) (now (sent .exit)) (length (now r))) × (now r ≡ blockOf (performed format (now (rec .entry)) (lentCall Receive (now (s .entry)) (now (out .entry)) []))) ⌝ }
+    ensures { λ r. ⌜ Called Receive (lentOutcome Receive (now (rec .entry)) (now (page .entry)) (now (s .entry)) (now (out .entry)) []) (now (rec .entry)) (now (s .entry)) (now (out .entry)) [] (now (rec .exit)) (now (out .exit)) [] (answerIn (now (number .exit)) (now (state .exit)) (now (notice .exit)) (now (local .exit)) (now (remote .exit)) (now (sent .exit)) (length (now r))) × (now r ≡ blockOf (lentOutcome Receive (now (rec .entry)) (now (page .entry)) (now (s .entry)) (now (out .entry)) [])) ⌝ }
 {
     let mut none = [0u8; 0];
-    let a = perform(Call::Receive, rec, s, out, &mut none);
+    let a = hear(rec, page, s, out, &mut none);
     let told = a.status;
     *number = told.number;
     *state = told.state;

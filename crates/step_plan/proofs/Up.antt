@@ -124,9 +124,10 @@ unfolding does reads source
 does-right call.Request s e = asking-right e (readRequest s)
 does-right call.Receive s e = hearing-right (drop dataBlockAt s) (dataBlockAt ≤ length s) e (readFrame s) (λ f h. data-block s h)
 
-pub right : (sound : Bool) (e : Endpoint) (c : Arguments) → RightOf (source (c .call) (c .octets) e) (There (c .call) (c .octets)) (asked sound e c)
+pub right : (sound : Bool) (page : List ℕ) (e : Endpoint) (c : Arguments)
+    → RightOf (source (c .call) (c .octets) e) (There (c .call) (c .octets)) (asked sound page e c)
 unfolding asked
-right sound e c = after-question (RightOf (source (c .call) (c .octets) e) (There (c .call) (c .octets))) (none-right _ _) _ _ (does-right (c .call) (c .octets) e)
+right sound page e c = after-question (RightOf (source (c .call) (c .octets) e) (There (c .call) (c .octets))) (none-right _ _) _ _ (does-right (c .call) (c .octets) e)
 
 -- it is the one that its notice tells
 pub told : {b block : Block} {Q : Type 0} {n : ℕ} → Right b block Q n → blockBy n b ≡ block
