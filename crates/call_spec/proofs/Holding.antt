@@ -17,7 +17,7 @@ use Rattle.protocol.specs.History.{endpointLeft}
 use Rattle.protocol.specs.Limits.{Bounded, LeavesSound, LeavesBounded}
 use Rattle.protocol.proofs.Calls.{Next}
 use Rattle.call_spec.specs.Calls.{Format, recordAfter, pageAfter}
-use Rattle.call_spec.specs.Claim.{Lawful}
+use Rattle.call_spec.specs.Claim.{lent, Passes, Lawful}
 
 -- the octets of an endpoint, and octets after it
 abbrev pub Lies : Format → List ℕ → Endpoint → Type 0
@@ -59,6 +59,9 @@ module _ (format : Format) (law : Lawful format) {rec page : List ℕ} {e : Endp
 
   pub goes : goesWith (e .local) page ≡ true
   goes = ap (goesWith (e .local)) (k .paged .1) ∙ page-goes (e .local) (k .last) (k .paged .0)
+
+  pub passes-both : Passes format (lent rec page)
+  passes-both = record { is-sound = passes; goes-so = ap (λ (a : Endpoint). goesWith (a .local) page) keeps ∙ goes }
 
   -- another endpoint, written over it
   pub written : (x : Endpoint) → sound x ≡ true → Bounded x → put rec 0 (format .octets x) ≡ format .octets x ++ k .lies .0

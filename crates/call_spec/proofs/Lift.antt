@@ -12,7 +12,7 @@ use Rattle.octets.specs.Sizes.{pageSize, lastIncarnation}
 use Rattle.octets.specs.Test.{when, first, Outcome, refused, ok, refusing, mapped, andThen}
 use Rattle.octets.specs.Octets.{put, left}
 use Rattle.octets.proofs.Test.{in-range, joined, passing}
-use Rattle.page.specs.Page.{usedFor, runs, count, goesWith, reserving, pageOf}
+use Rattle.page.specs.Page.{usedFor, runs, count, reserving, pageOf}
 use Rattle.page.proofs.Laws.{page-long, page-runs, page-count}
 use Rattle.frame.specs.Frame.{Frame, Request, connect, listen, endListening, close, timer, collect, send}
 use Rattle.frame.specs.Fits.{Fits}
@@ -35,8 +35,8 @@ use Rattle.protocol.proofs.Theorem as protocol-theorem
 use Rattle.call_spec.specs.declared.Call.{Call}
 use Rattle.call_spec.specs.declared.Call.the-variants as which
 use Rattle.call_spec.specs.Calls.{Arguments, reads, said, does, asked, restarting, Format, performed, restartedIn, recordAfter, pageAfter}
-use Rattle.call_spec.specs.Claim.{Lent, lent, Act, call, restart, cut, DueOctets, Due, cutSays, renewed, ends, Passes, NeverRefused, Lawful}
-use Rattle.call_spec.proofs.Holding.{Lies, GoesWith, Holding, stored, keeps, passes, page-enough, goes, written}
+use Rattle.call_spec.specs.Claim.{Lent, lent, Act, call, restart, cut, DueOctets, Due, cutSays, renewed, ends, NeverRefused, Lawful}
+use Rattle.call_spec.proofs.Holding.{Lies, GoesWith, Holding, stored, keeps, passes-both, written}
 
 -- a frame whose octets are among those sent
 among : (s : List ℕ) (fs : List Frame) → List·Memᴰ s (map encode fs) → (f : Frame) × List·Memᴰ f fs × (s ≡ encode f)
@@ -136,7 +136,7 @@ module _ (format : Format) (law : Lawful format) where
       then (ok q) p = (q, refl, p)
 
   -- what a restart comes to on the page of e, and with 11 of the record
-  restart-comes : {page : List ℕ} (e : Endpoint) → GoesWith page e → e .local ≤ lastIncarnation → restarting page ≡ ok (quiet (afterRestart e) none)
+  pub restart-comes : {page : List ℕ} (e : Endpoint) → GoesWith page e → e .local ≤ lastIncarnation → restarting page ≡ ok (quiet (afterRestart e) none)
   unfolding restarting refusing first when
   restart-comes {page} e g l =
       let f : usedFor (e .local) ≤ pageSize = omega arith in
@@ -261,10 +261,7 @@ no-number-twice format law = protocol-theorem.no-number-twice (ends format) (lie
 pub never-refused : (format : Format) → Lawful format → NeverRefused format
 never-refused format law start f calls d =
     let k = kept (ends format) roomy (lies format law) start f calls d in
-    (passing-at (holding (k .both) (k .this .0) (k .this .1)), passing-at (holding (roomy .turns _ _ (k .both)) (k .other .0) (k .other .1)))
-  where
-    passing-at : {r : Lent} {e : Endpoint} → Holding format (r .rec) (r .page) e → Passes format r
-    passing-at {r} h = record {
-      is-sound = passes format law h;
-      goes-so = ap (λ (e : Endpoint). goesWith (e .local) (r .page)) (keeps format law h) ∙ goes format law h;
-    }
+    (
+      passes-both format law (holding (k .both) (k .this .0) (k .this .1)),
+      passes-both format law (holding (roomy .turns _ _ (k .both)) (k .other .0) (k .other .1)),
+    )

@@ -105,14 +105,14 @@ pub tells : (rec : List ℕ) (n : ℕ) → recordSize ≤ length rec
 unfolding statusOf toldOf noticeOf numberOf when
 tells rec n h = rw (le-leb recordSize (length rec) h) refl
 
-pub too-short : (rec : List ℕ) (c : Arguments) → length rec < recordSize → performed format rec c ≡ refused 11
+pub too-short : (rec page : List ℕ) (c : Arguments) → length rec < recordSize → performed format rec page c ≡ refused 11
 unfolding performed refusing first when
-too-short rec c h = rw (lt-leb recordSize (length rec) h) refl
+too-short rec page c h = rw (lt-leb recordSize (length rec) h) refl
 
 module _ (rec : List ℕ) (long : recordSize ≤ length rec) where
-  pub enough : (c : Arguments) → performed format rec c ≡ outcomeOf (decode rec) c
+  pub enough : (page : List ℕ) (c : Arguments) → performed format rec page c ≡ outcomeOf (decode rec) page c
   unfolding performed outcomeOf refusing first when
-  enough c = rw (le-leb recordSize (length rec) long) refl
+  enough page c = rw (le-leb recordSize (length rec) long) refl
 
   told : (o : Outcome Step) → SameNumbers (endpointAfter (view (decode rec)) o) (toldOf rec o)
   unfolding endpointAfter toldOf view pack when
@@ -133,9 +133,9 @@ module _ (rec : List ℕ) (long : recordSize ≤ length rec) where
     held-blocks = length-take-le placesSize (drop heldBlocksAt rec) (rw length-drop (omega arith));
   }
 
-  module _ (c : Arguments) {p : Plan} (w : Plans (decode rec) c p) where
+  module _ (page : List ℕ) (c : Arguments) {p : Plan} (w : Plans (decode rec) page c p) where
     abbrev o : Outcome Step
-    o = outcomeOf (decode rec) c
+    o = outcomeOf (decode rec) page c
 
     abbrev joins : Block
     joins = joinsQueue p (c .octets)
@@ -144,52 +144,52 @@ module _ (rec : List ℕ) (long : recordSize ≤ length rec) where
     early = joinsHeld p (c .octets)
 
     pub refuses : p .number ≢ 0 → (out up : List ℕ) {r : Answer} → r ≡ answerOf rec (refused (p .number))
-        → Called (c .call) (performed format rec c) rec (c .octets) out up rec out up r
-    refuses z out up h = turned-down (enough c ∙ is-refused o (λ y. z (w .number ∙ y)) ∙ ap (λ (n : ℕ). refused n) (sym (w .number))) (c .call) rec (c .octets) out up h
+        → Called (c .call) (performed format rec page c) rec (c .octets) out up rec out up r
+    refuses z out up h = turned-down (enough page c ∙ is-refused o (λ y. z (w .number ∙ y)) ∙ ap (λ (n : ℕ). refused n) (sym (w .number))) (c .call) rec (c .octets) out up h
 
     pub accepts : Octets rec → p .number ≡ 0 → {out out′ : List ℕ} {n : ℕ}
         → Sends (sentBy (p .reply) (blockOut (p .queue) joins (placeBlock (decode rec .lengths) (decode rec .blocks) 0))) out out′ n
         → {u u′ : List ℕ} {m : ℕ} → HandsUp (c .call) (blockBy (p .notice) (blockFrom (c .call) (decode rec .«held_lengths») (decode rec .«held_blocks») (c .octets))) u u′ m
         → {rec′ : List ℕ} → rec′ ≡ put rec 0 (encode (carried p joins early (decode rec)))
-        → Called (c .call) (performed format rec c) rec (c .octets) out u rec′ out′ u′
+        → Called (c .call) (performed format rec page c) rec (c .octets) out u rec′ out′ u′
         (record { status = record { number = 0; state = p .numbers .state; notice = p .notice; local = p .numbers .local; remote = p .numbers .remote }; sent = n; block = m })
     unfolding answerOf statusOf view outcomeOf
     accepts oc z {out} s {u} h {rec′} er =
         let k = w .endpoint in
-        let t = sends (decode rec) decode-long c w s in
-        let g = rw (hands-up (decode rec) decode-long c w) at h in
+        let t = sends (decode rec) decode-long page c w s in
+        let g = rw (hands-up (decode rec) decode-long page c w) at h in
         let st : p .numbers .state ≡ toldOf rec o .state = ap (λ (x : abstract.Endpoint). x .state) k ∙ told o .state in
         let lo : p .numbers .local ≡ toldOf rec o .local = ap (λ (x : abstract.Endpoint). x .local) k ∙ told o .local in
         let re : p .numbers .remote ≡ toldOf rec o .remote = ap (λ (x : abstract.Endpoint). x .remote) k ∙ told o .remote in
         let nu : 0 ≡ numberOf o = sym z ∙ w .number in
         let eu = hands-is (c .call) u o g in
-        rw (enough c)
+        rw (enough page c)
         (record {
           answer = λ i. record { status = record { number = nu i; state = st i; notice = w .notice i; local = lo i; remote = re i }; sent = (t .count ∙ sent-is o) i; block = g .count i };
-          end = er ∙ ap (λ (x : Endpoint). put rec 0 (encode x)) (leaves (decode rec) decode-long c w z) ∙ stored oc o;
+          end = er ∙ ap (λ (x : Endpoint). put rec 0 (encode x)) (leaves (decode rec) decode-long page c w z) ∙ stored oc o;
           buffer = sends-is out o t;
           block-buffer = eu;
-          block = ap₂ (λ (l : List ℕ) (j : ℕ). blockPart (c .call) (c .octets) l j) eu (g .count) ∙ stands (decode rec) decode-long c w u;
+          block = ap₂ (λ (l : List ℕ) (j : ℕ). blockPart (c .call) (c .octets) l j) eu (g .count) ∙ stands (decode rec) decode-long page c w u;
         })
 
 -- The block that is handed up is told by the notice.
-shown : (rec : List ℕ) (c : Arguments)
-    → Right (source (c .call) (c .octets) (format .holds rec)) (blockOf (performed format rec c)) (There (c .call) (c .octets)) (noticeOf (performed format rec c))
+shown : (rec page : List ℕ) (c : Arguments)
+    → Right (source (c .call) (c .octets) (format .holds rec)) (blockOf (performed format rec page c)) (There (c .call) (c .octets)) (noticeOf (performed format rec page c))
 unfolding performed
-shown rec c =
+shown rec page c =
     after-question (λ (o : Outcome Step). Right (source (c .call) (c .octets) (format .holds rec)) (blockOf o) (There (c .call) (c .octets)) (noticeOf o)) (none-right _ _) _ _
-    (right (format .sound rec) (format .holds rec) c)
+    (right (format .sound rec) page (format .holds rec) c)
 
-module _ (rec s : List ℕ) (r : Rooms) where
+module _ (rec page s : List ℕ) (r : Rooms) where
   abbrev received : Outcome Step
-  received = performed format rec (given Receive s r)
+  received = performed format rec page (given Receive s r)
 
   pub long-enough : noticeOf received ≡ 5 → dataBlockAt ≤ length s
-  long-enough h = shown rec (given Receive s r) .some h .1
+  long-enough h = shown rec page (given Receive s r) .some h .1
 
   pub hands-it-up : blockBy (noticeOf received) (drop dataBlockAt s) ≡ blockOf received
   unfolding source
-  hands-it-up = up.told (shown rec (given Receive s r))
+  hands-it-up = up.told (shown rec page (given Receive s r))
 
 -- a call with notice 5 is accepted
 five : (o : Outcome Step) → noticeOf o ≡ 5 → numberOf o ≡ 0
@@ -198,36 +198,36 @@ five (refused n) h = absurd (omega arith)
 five (ok x) h = refl
 
 -- the first of the held blocks of a record that a call was accepted of has at most 64 octets
-held-fits : (rec : List ℕ) (c : Arguments) → numberOf (performed format rec c) ≡ 0 → 1 ≤ length (getD (format .holds rec .held) 0 [])
+held-fits : (rec page : List ℕ) (c : Arguments) → numberOf (performed format rec page c) ≡ 0 → 1 ≤ length (getD (format .holds rec .held) 0 [])
     → length (getD (format .holds rec .held) 0 []) ≤ longestBlock
 unfolding outcomeOf numberOf
-held-fits rec c h n =
-    by-lt (length rec) recordSize (λ s. absurd (omega (arith, sym h ∙ ap numberOf (too-short rec c s))))
+held-fits rec page c h n =
+    by-lt (length rec) recordSize (λ s. absurd (omega (arith, sym h ∙ ap numberOf (too-short rec page c s))))
     (λ l.
-    let f = passes (sound (decode rec)) (view (decode rec)) c (sym (ap numberOf (enough rec l c)) ∙ h) .is-fine in
+    let f = passes (sound (decode rec)) page (view (decode rec)) c (sym (ap numberOf (enough rec l page c)) ∙ h) .is-fine in
     facts (decode rec) f (decode-long rec l) .fitting 0 n .0)
 
 -- a block handed up has at most 64 octets: one received since its frame has no more than the longest, one collected since the record is sound
-pub received-short : (rec s : List ℕ) (r : Rooms) → length s ≤ longestFrame → length (blockOf (performed format rec (given Receive s r))) ≤ longestBlock
+pub received-short : (rec page s : List ℕ) (r : Rooms) → length s ≤ longestFrame → length (blockOf (performed format rec page (given Receive s r))) ≤ longestBlock
 unfolding source
-received-short rec s r h =
-    let w = shown rec (given Receive s r) in
-    by-eq (noticeOf (performed format rec (given Receive s r))) 5
+received-short rec page s r h =
+    let w = shown rec page (given Receive s r) in
+    by-eq (noticeOf (performed format rec page (given Receive s r))) 5
     (λ z. omega (arith, ap length (w .some z .0), length-drop dataBlockAt s))
     (λ z. omega (arith, ap length (w .nothing z)))
 
-pub collected-short : (rec s : List ℕ) (r : Rooms) → length (blockOf (performed format rec (given Request s r))) ≤ longestBlock
+pub collected-short : (rec page s : List ℕ) (r : Rooms) → length (blockOf (performed format rec page (given Request s r))) ≤ longestBlock
 unfolding source
-collected-short rec s r =
+collected-short rec page s r =
     let c = given Request s r in
-    let w = shown rec c in
-    by-eq (noticeOf (performed format rec c)) 5
-    (λ z. by-eq (length (blockOf (performed format rec c))) 0 (λ y. omega arith) (λ y. let e = w .some z .0 in omega (arith, ap length e, held-fits rec c (five (performed format rec c) z) (omega (arith, ap length e)))))
+    let w = shown rec page c in
+    by-eq (noticeOf (performed format rec page c)) 5
+    (λ z. by-eq (length (blockOf (performed format rec page c))) 0 (λ y. omega arith) (λ y. let e = w .some z .0 in omega (arith, ap length e, held-fits rec page c (five (performed format rec page c) z) (omega (arith, ap length e)))))
     (λ z. omega (arith, ap length (w .nothing z)))
 
-block-short-by : (rec : List ℕ) (c : Call) (s : List ℕ) (r : Rooms) → length s ≤ longestFrame → length (blockOf (performed format rec (given c s r))) ≤ longestBlock
-block-short-by rec Request s r h = collected-short rec s r
-block-short-by rec Receive s r h = received-short rec s r h
+block-short-by : (rec page : List ℕ) (c : Call) (s : List ℕ) (r : Rooms) → length s ≤ longestFrame → length (blockOf (performed format rec page (given c s r))) ≤ longestBlock
+block-short-by rec page Request s r h = collected-short rec page s r
+block-short-by rec page Receive s r h = received-short rec page s r h
 
-pub block-short : (rec : List ℕ) (c : Arguments) → length (c .octets) ≤ longestFrame → length (blockOf (performed format rec c)) ≤ longestBlock
-block-short rec c h = block-short-by rec (c .call) (c .octets) (rooms (c .room) (c .blockRoom)) h
+pub block-short : (rec page : List ℕ) (c : Arguments) → length (c .octets) ≤ longestFrame → length (blockOf (performed format rec page c)) ≤ longestBlock
+block-short rec page c h = block-short-by rec page (c .call) (c .octets) (rooms (c .room) (c .blockRoom)) h

@@ -6,12 +6,13 @@ use mathlib.Core.List.{List, _++_}
 use native.Mathlib.Omega.{arith}
 use lib.ListN.{length, length-append}
 use Rattle.octets.proofs.Buffers.{length-padded}
-use Rattle.octets.specs.Sizes.{longestFrame, longestBlock, queueSize, heldSize, lastNumber}
+use Rattle.octets.specs.Sizes.{longestFrame, longestBlock, queueSize, heldSize, lastNumber, lastIncarnation}
 use Rattle.octets.specs.Test.{ok}
 use Rattle.octets.specs.Octets.{octetsOf, lay}
+use Rattle.page.specs.Page.{usedFor, pageOf}
 use Rattle.protocol.specs.Endpoint as abstract
 use Rattle.protocol.specs.History as protocol
-use Rattle.protocol.specs.Claim.{NoEndAlone}
+use Rattle.protocol.specs.Claim.{NoEndAlone, NoNumberTwice}
 use Rattle.protocol.specs.Limits.{Bounded}
 use Rattle.protocol.specs.Endpoint.{lengthsOf}
 use Rattle.protocol.proofs.Sound.{sound-so, lengths-length}
@@ -22,9 +23,10 @@ use Rattle.endpoint.proofs.Packs.{length-places}
 use Rattle.endpoint.proofs.Held.{small-of, small-held, held, pack-sound}
 use Rattle.endpoint.proofs.Record.{decode-encode}
 use Rattle.call_spec.specs.Calls.{Arguments, said, performed}
-use Rattle.call_spec.specs.Claim.{Lawful}
+use Rattle.call_spec.specs.Claim.{NeverRefused, Lawful}
 use Rattle.call_spec.specs.Sequence.{InSequence}
 use Rattle.call_spec.proofs.Lift.{demand-3}
+use Rattle.call_spec.proofs.Lift as lift
 use Rattle.call_spec.proofs.Sequence as sequence
 use Rattle.link.specs.Record.{format, ends}
 
@@ -64,16 +66,24 @@ lawful =
       keeps = λ e rest s b. ap view (decode-encode (pack e) rest (packed-fits e s b)) ∙ held e s;
     }
 
--- no end opens without its partner: any octets, any frame buffers, refused calls included
+-- no end opens without its partner: any octets, any frame buffers, refused calls, restarts and cuts included
 pub no-end-alone : NoEndAlone ends
 no-end-alone = demand-3 format lawful
 
+-- no number is used twice, and 12 and 15 refuse nothing
+pub no-number-twice : NoNumberTwice ends
+no-number-twice = lift.no-number-twice format lawful
+
+pub never-refused : NeverRefused format
+never-refused = lift.never-refused format lawful
+
 -- a call on the record of a sound endpoint does what the protocol's call does that its octets say
-pub performs : (e : abstract.Endpoint) (rest : List ℕ) → abstract.sound e ≡ true → Bounded e → (c : Arguments) {x : protocol.Call}
-    → said c ≡ ok x → longestFrame ≤ c .room → longestBlock ≤ c .blockRoom → performed format (format .octets e ++ rest) c ≡ protocol.perform x e
-performs e rest s b = sequence.performs format lawful (record { is-sound = s; bounded = b; lies = (rest, refl) })
+pub performs : (e : abstract.Endpoint) (rest more : List ℕ) → abstract.sound e ≡ true → Bounded e → e .local ≤ lastIncarnation → (c : Arguments) {x : protocol.Call}
+    → said c ≡ ok x → longestFrame ≤ c .room → longestBlock ≤ c .blockRoom
+    → performed format (format .octets e ++ rest) (pageOf (usedFor (e .local)) ++ more) c ≡ protocol.perform x e
+performs e rest more s b l = sequence.performs format lawful (record { is-sound = s; bounded = b; last = l; lies = (rest, refl); paged = (more, refl) })
 
 -- the eight come up in sequence
-pub in-sequence : (e : abstract.Endpoint) → abstract.sound e ≡ true → Bounded e → e .state ≡ abstract.established → e .held ≡ abstract.noneHeld
+pub in-sequence : (e : abstract.Endpoint) → abstract.sound e ≡ true → Bounded e → e .local ≤ lastIncarnation → e .state ≡ abstract.established → e .held ≡ abstract.noneHeld
     → e .delivered + 7 < lastNumber → InSequence format e
 in-sequence = sequence.in-sequence format lawful

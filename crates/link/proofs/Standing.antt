@@ -23,8 +23,8 @@ unfolding statusOf toldOf noticeOf numberOf noticeNumber pack view when
 tells-standing rec long = rw (le-leb recordSize (length rec) long) refl
 
 -- nothing moves
-pub stands-still : {rec : List ℕ} {e : Endpoint} → Holding format rec e → recordAfter format rec (ok (stands rec)) ≡ rec
+pub stands-still : {rec page : List ℕ} {e : Endpoint} → Holding format rec page e → recordAfter format rec (ok (stands rec)) ≡ rec
 unfolding recordAfter mapped left
-stands-still {rec} {e} k =
+stands-still {rec} {e = e} k =
     ap (λ (a : Endpoint). put rec 0 (format .octets a)) (keeps format lawful k)
     ∙ written format lawful k e (k .is-sound) (k .bounded) ∙ sym (k .lies .1)

@@ -1,4 +1,4 @@
--- Every accepted call of a sound record leaves a sound record, in octets too.
+-- Every accepted call of a sound record leaves a sound record, and a page that goes with it, in octets too.
 use Prim.Native.Nat.{ℕ, _≤_}
 use mathlib.Core.Path.{_≡_, refl, sym, ap, subst, _∙_}
 use mathlib.Core.Bool.{true}
@@ -6,7 +6,10 @@ use mathlib.Core.List.{List, [], _∷_, _++_, append-nil}
 use native.Mathlib.Omega.{arith}
 use borrow.Author.Tests.{le-leb, leb-true}
 use lib.ListN.{length, drop, take-append-drop}
-use Rattle.octets.specs.Test.{when, first, Outcome, refused, ok}
+use Rattle.octets.specs.Sizes.{pageSize}
+use Rattle.octets.specs.Test.{when, first, Outcome, refused, ok, numberOf}
+use Rattle.page.specs.Page.{newPage}
+use Rattle.page.proofs.Laws.{goes-last, page-is}
 use Rattle.octets.specs.Octets.{Octets}
 use Rattle.octets.proofs.Octets.{field-32}
 use Rattle.octets.proofs.Test.{passing, all-yes}
@@ -14,8 +17,9 @@ use Rattle.protocol.specs.Endpoint.{fresh}
 use Rattle.protocol.specs.Endpoint as abstract
 use Rattle.protocol.specs.History.{now, perform}
 use Rattle.protocol.specs.Table.{Step}
-use Rattle.protocol.specs.World.{endpointLeft}
+use Rattle.protocol.specs.History.{endpointLeft}
 use Rattle.protocol.specs.Limits.{Bounded, LeavesSound, LeavesBounded}
+use Rattle.protocol.proofs.Calls.{Next, same-number, next-on}
 use Rattle.protocol.proofs.Limits.{call-sound, call-bounded}
 use Rattle.protocol.proofs.Theorem.{roomy, limited}
 use Rattle.endpoint.specs.View.{view}
@@ -23,12 +27,14 @@ use Rattle.endpoint.specs.Record.{localAt, remoteAt, acceptedAt, deliveredAt, r
 use Rattle.endpoint.proofs.Packs.{pack-view}
 use Rattle.endpoint.proofs.Record.{encode-decode}
 use Rattle.endpoint.proofs.Sounds.{tidy, tidy-held, view-sound}
+use Rattle.endpoint_step.proofs.Ready as ready
 use Rattle.endpoint_step.proofs.Laws.{InOctets, accepts}
 use Rattle.call_spec.specs.declared.Call.{Call}
 use Rattle.call_spec.specs.declared.Call.the-variants.{Request, Receive}
-use Rattle.call_spec.specs.Calls.{Arguments, performed, recordAfter}
-use Rattle.call_spec.proofs.Holding.{Holding, long, passes, keeps, leaves}
-use Rattle.link.specs.Record.{format, recordQuestions}
+use Rattle.call_spec.specs.Calls.{Arguments, performed, recordAfter, pageAfter}
+use Rattle.call_spec.specs.Claim.{lent, Passes}
+use Rattle.call_spec.proofs.Holding.{Holding, long, passes, keeps, page-enough, goes, passes-both, leaves}
+use Rattle.link.specs.Record.{format, pagedFor, recordQuestions}
 use Rattle.link.specs.Lent.{freshRecord}
 use Rattle.link.proofs.Demand.{lawful}
 use Rattle.link.proofs.Answers.{decode-long}
@@ -44,14 +50,17 @@ bounded rec o l =
       delivered≤ = field-32 deliveredAt rec o (omega arith);
     }
 
--- so a sound record in octets holds an endpoint, and that one has the same octets
-pub holding : (rec : List ℕ) → recordSize ≤ length rec → Octets rec → format .sound rec ≡ true → Holding format rec (view (decode rec))
-holding rec l o s =
+-- so a sound record in octets holds an endpoint, that one has the same octets, and the page is the one that goes with it
+pub holding : (rec page : List ℕ) → recordSize ≤ length rec → Octets rec → format .sound rec ≡ true → pageSize ≤ length page → pagedFor rec page ≡ true
+    → Holding format rec page (view (decode rec))
+holding rec page l o s pl pg =
     let e = decode rec in
     let z = decode-long rec l in
     record {
       is-sound = view-sound e s z;
       bounded = bounded rec o l;
+      last = goes-last (view e .local) page pl pg;
+      paged = (drop pageSize page, page-is (view e .local) page pl pg);
       lies = (
         drop recordSize rec,
         sym (take-append-drop recordSize rec)
@@ -59,36 +68,47 @@ holding rec l o s =
       );
     }
 
-pub fresh-holding : Holding format freshRecord fresh
+pub fresh-holding : Holding format freshRecord newPage fresh
 unfolding now
-fresh-holding = let f = limited (roomy .starts) in record { is-sound = f .is-sound; bounded = f .bounded; lies = ([], sym (append-nil freshRecord)) }
+fresh-holding =
+    let f = limited (roomy .starts) in
+    record {
+      is-sound = f .is-sound;
+      bounded = f .bounded;
+      last = omega arith;
+      lies = ([], sym (append-nil freshRecord));
+      paged = ([], sym (append-nil newPage));
+    }
 
 pub in-octets : (c : Call) (s : List ℕ) → Octets s → InOctets c s
 in-octets Request s o = tt
 in-octets Receive s o = o
 
 -- a record that holds a sound endpoint goes on holding one, whatever calls come
-pub goes-on : {rec : List ℕ} {e : abstract.Endpoint} → Holding format rec e → (c : Arguments) → InOctets (c .call) (c .octets) → (o : Outcome Step)
-    → performed format rec c ≡ o → Holding format (recordAfter format rec o) (endpointLeft e o)
+pub goes-on : {rec page : List ℕ} {e : abstract.Endpoint} → Holding format rec page e → (c : Arguments) → InOctets (c .call) (c .octets) → (o : Outcome Step)
+    → performed format rec page c ≡ o → Holding format (recordAfter format rec o) (pageAfter page o) (endpointLeft e o)
 unfolding performed
-goes-on k c i (refused n) h = leaves format lawful k (refused n) tt tt
-goes-on {rec} {e} k c i (ok x) h =
-    let a = accepts (format .sound rec) (format .holds rec) c i (passing (first ((11, _) ∷ [])) h .1) in
+goes-on {e = e} k c i (refused n) h = leaves format lawful k (refused n) tt tt (same-number refl)
+goes-on {rec} {page} {e} k c i (ok x) h =
+    let a = accepts (format .sound rec) page (format .holds rec) c i (passing (first ((11, _) ∷ [])) h .1) in
     let p = ap (perform (a .call)) (sym (keeps format lawful k)) ∙ a .performs in
     leaves format lawful k (ok x)
     (subst LeavesSound p (call-sound (a .call) e (k .is-sound) (a .readable)))
     (subst LeavesBounded p (call-bounded (a .call) e (k .is-sound) (k .bounded) (a .readable)))
+    (subst (λ (o : Outcome Step). Next e (endpointLeft e o)) p (next-on (a .call) e))
 
-pub stays-sound : (rec : List ℕ) → Octets rec → (c : Arguments) → InOctets (c .call) (c .octets) → {x : Step} → performed format rec c ≡ ok x
-    → format .sound (recordAfter format rec (performed format rec c)) ≡ true
-unfolding performed
-stays-sound rec o c i {x} h =
+-- what an accepted call leaves passes 12 and 15
+pub stays-sound : (rec page : List ℕ) → Octets rec → (c : Arguments) → InOctets (c .call) (c .octets) → {x : Step} → performed format rec page c ≡ ok x
+    → Passes format (lent (recordAfter format rec (performed format rec page c)) (pageAfter page (performed format rec page c)))
+unfolding performed numberOf
+stays-sound rec page o c i {x} h =
     let r = passing (first ((11, _) ∷ [])) h in
     let l = leb-true recordSize (length rec) (all-yes 11 _ _ (r .0) tt .0) in
-    let s = accepts (format .sound rec) (format .holds rec) c i (r .1) .is-sound in
-    rw h (passes format lawful (goes-on (holding rec l o s) c i (ok x) h))
+    let q = ready.passes (format .sound rec) page (format .holds rec) c (ap numberOf (r .1)) in
+    rw h (passes-both format lawful (goes-on (holding rec page l o (q .is-fine) (q .page-long) (q .goes)) c i (ok x) h))
 
--- 11 and 12 are passed
-pub is-ready : {rec : List ℕ} {e : abstract.Endpoint} → Holding format rec e → first (recordQuestions rec) ≡ 0
+-- 11, 12 and 15 are passed
+pub is-ready : {rec page : List ℕ} {e : abstract.Endpoint} → Holding format rec page e → first (recordQuestions rec page) ≡ 0
 unfolding first when
-is-ready {rec} k = rw (le-leb recordSize (length rec) (long format lawful k), passes format lawful k) refl
+is-ready {rec} {page} k =
+    rw (le-leb recordSize (length rec) (long format lawful k), le-leb pageSize (length page) (page-enough format lawful k), passes format lawful k, keeps format lawful k, goes format lawful k) refl

@@ -1,16 +1,17 @@
 -- The page that goes with a number, and what the one store of a call leaves of a page.
 use Prim.Native.Nat.{ℕ, zero, suc, _+_, _*_, _-_, _≤_, _<_}
-use mathlib.Core.Path.{_≡_, refl, ap, _∙_}
+use mathlib.Core.Path.{_≡_, refl, sym, ap, ap₂, _∙_}
 use mathlib.Core.Logic.{_≢_}
 use mathlib.Core.Bool.{true}
 use mathlib.Core.List.{List, [], _∷_, _++_}
 use native.Mathlib.Omega.{arith}
-use lib.ListN.{length, take, set, getD, replicate, length-append, length-replicate, length-set}
+use lib.Dec.{eqb}
+use lib.ListN.{length, take, drop, set, getD, replicate, length-append, length-replicate, length-set, take-append-drop}
 use lib.Seq.{take-at, length-take-le, getD-set-other}
-use borrow.Author.Tests.{eqb-true, eq-eqb}
+use borrow.Author.Tests.{eqb-true, eq-eqb, ne-eqb}
 use Rattle.octets.specs.Sizes.{pageSize, numbersEach, lastIncarnation}
 use Rattle.octets.specs.Test.{when, ifEq}
-use Rattle.octets.proofs.Test.{if-eq, if-lt, lt-no, both, joined}
+use Rattle.octets.proofs.Test.{by-eq, eq-yes, eq-no, if-eq, if-lt, lt-no, both, joined}
 use Rattle.page.specs.Page.{used, unused, usedFor, only, isRun, leading, runs, count, goesWith, reserving, pageOf}
 
 -- p octets of 00 and n of FF
@@ -119,3 +120,50 @@ module _ (l : ℕ) (page : List ℕ) where
   pub reserving-long : length (reserving l page) ≡ length page
   unfolding reserving
   reserving-long = if-lt (λ (s : List ℕ). length s ≡ length page) _ _ (λ t. length-set page (count page) used) (λ t. refl)
+
+-- a page that question 15 is answered yes of is the one that goes with l
+only-is : (x : ℕ) (s : List ℕ) → only x s ≡ true → s ≡ replicate (length s) x
+unfolding only
+only-is x [] h = refl
+only-is x (y ∷ s) h = let u = both (eqb y x) (only x s) h in ap₂ (λ (z : ℕ) (t : List ℕ). z ∷ t) (eqb-true y x (u .0)) (only-is x s (u .1))
+
+abbrev run-of-both : ℕ → ℕ → List ℕ
+run-of-both n m = replicate n used ++ replicate m unused
+
+leading-yes : (x : ℕ) (s : List ℕ) → x ≡ used → leading (x ∷ s) ≡ suc (leading s)
+unfolding leading
+leading-yes x s e = let k : leading s + 1 ≡ suc (leading s) = omega arith in eq-yes _ _ _ _ e ∙ k
+
+leading-no : (x : ℕ) (s : List ℕ) → x ≢ used → leading (x ∷ s) ≡ 0
+unfolding leading
+leading-no x s n = eq-no _ _ _ _ n
+
+leading-none : leading [] ≡ 0
+unfolding leading
+leading-none = refl
+
+run-is : (s : List ℕ) → isRun s ≡ true → s ≡ run-of-both (leading s) (length s - leading s)
+unfolding isRun when
+run-is [] h = ap (λ (n : ℕ). run-of-both n (0 - n)) (sym leading-none)
+run-is (x ∷ s) h =
+    by-eq x used
+    (λ e.
+    let k = leading-yes x s e in
+    let m : length s - leading s ≡ length (x ∷ s) - leading (x ∷ s) = omega arith in
+    let r : isRun s ≡ true = rw (eq-eqb x used e) at h in
+    ap₂ (λ (z : ℕ) (t : List ℕ). z ∷ t) e (run-is s r) ∙ ap₂ run-of-both (sym k) m)
+    (λ n.
+    let k = leading-no x s n in
+    let m : suc (length s) ≡ length (x ∷ s) - leading (x ∷ s) = omega arith in
+    let r : only unused (x ∷ s) ≡ true = rw (ne-eqb x used n) at h in
+    only-is unused (x ∷ s) r ∙ ap₂ run-of-both (sym k) m)
+
+pub page-is : (l : ℕ) (page : List ℕ) → pageSize ≤ length page → goesWith l page ≡ true → page ≡ pageOf (usedFor l) ++ drop pageSize page
+unfolding pageOf runs count
+page-is l page h g =
+    let u = goes-so l page g in
+    let k = length-take-le pageSize page h in
+    let c : leading (take pageSize page) ≡ usedFor l = u .1 in
+    sym (take-append-drop pageSize page)
+    ∙ ap (λ (t : List ℕ). t ++ drop pageSize page)
+    (run-is (take pageSize page) (u .0) ∙ ap₂ (λ (n m : ℕ). replicate n used ++ replicate (m - n) unused) c k)

@@ -121,27 +121,27 @@ pub record Next (e x : Endpoint) : Type 0 where
   pub most : x .local ≤ e .local + 1
   pub left : e .local ≤ lastIncarnation → x .local ≤ lastIncarnation
 
-same : {e x : Endpoint} → x .local ≡ e .local → Next e x
-same h = record { least = omega arith; most = omega arith; left = λ l. omega arith }
+pub same-number : {e x : Endpoint} → x .local ≡ e .local → Next e x
+same-number h = record { least = omega arith; most = omega arith; left = λ l. omega arith }
 
 module _ (e : Endpoint) where
   hung-up-same : Next e (hungUp e .endpoint)
   unfolding hungUp
-  hung-up-same = if-eq (λ (x : Step). Next e (x .endpoint)) _ _ (λ z. same refl) (λ n. same refl)
+  hung-up-same = if-eq (λ (x : Step). Next e (x .endpoint)) _ _ (λ z. same-number refl) (λ n. same-number refl)
 
   collected-same : (b : Block) → Next e (collected e b .endpoint)
   unfolding collected
-  collected-same [] = same refl
-  collected-same (x ∷ b) = same refl
+  collected-same [] = same-number refl
+  collected-same (x ∷ b) = same-number refl
 
   request-next : (q : Request) → Allowed q e → Next e (accept q e .endpoint)
   unfolding accept
   request-next connect y = record { least = omega arith; most = omega arith; left = λ l. omega arith }
   request-next listen y = record { least = omega arith; most = omega arith; left = λ l. omega arith }
-  request-next endListening y = same refl
+  request-next endListening y = same-number refl
   request-next close y = hung-up-same
-  request-next (send b) y = same refl
-  request-next timer y = same refl
+  request-next (send b) y = same-number refl
+  request-next timer y = same-number refl
   request-next collect y = collected-same (getD (e .held) 0 [])
 
 pub local-of : {e : Endpoint} {f : Frame} {bs : List Block} {x : Step} → Fires e f bs x → x .endpoint .local ≡ e .local
@@ -149,8 +149,8 @@ local-of (fires m c s) = move-local m
 
 pub next-on : (c : Call) (e : Endpoint) → Next e (endpointLeft e (perform c e))
 unfolding perform
-next-on (ask q) e = requested (λ (o : Outcome Step). Next e (endpointLeft e o)) q e (λ n. same refl) (λ y. request-next e q y)
-next-on (deliver f) e = same (local-of (heard e f))
+next-on (ask q) e = requested (λ (o : Outcome Step). Next e (endpointLeft e o)) q e (λ n. same-number refl) (λ y. request-next e q y)
+next-on (deliver f) e = same-number (local-of (heard e f))
 
 -- of the frame sent, if there is one
 abbrev pub Of : (Frame → Type 0) → Sent → Type 0
