@@ -10,33 +10,36 @@ use lib.ListN.{length}
 use Rattle.octets.specs.Sizes.{longestFrame}
 use Rattle.octets.specs.Test.{when, ifEq, Outcome, refused, ok, mapped, andThen}
 use Rattle.octets.specs.Octets as octets
-use Rattle.octets.proofs.Test.{if-eq, accepted, all-yes, then-of}
+use Rattle.octets.proofs.Test.{if-eq, accepted, all-yes, then-of, passing}
+use Rattle.page.specs.Page.{count}
 use Rattle.frame.specs.Frame.{Frame}
 use Rattle.frame.specs.Layout.{encode}
-use Rattle.protocol.specs.Table.{frame, Step}
+use Rattle.protocol.specs.Restart.{restarted}
+use Rattle.protocol.specs.Table.{none, frame, Step, quiet}
 use Rattle.protocol.specs.World.{End, Entry, atA, atB, Two, called, run, DueAt, AllDue, BothNew}
 use Rattle.protocol.specs.World as world
 use Rattle.protocol.specs.Limits.{Sized}
 use Rattle.protocol.proofs.World.{Simulates, turned, entry-at, new-held, run-append, due-append}
 use Rattle.protocol.proofs.World as law
 use Rattle.protocol.proofs.Theorem.{Roomy, roomy, limited}
-use Rattle.call_spec.specs.Calls.{Arguments, performed, recordAfter}
-use Rattle.call_spec.proofs.Holding.{Lies}
-use Rattle.call_spec.proofs.Lift.{lies}
+use Rattle.page.proofs.Laws.{stays}
+use Rattle.call_spec.specs.Calls.{restarting, restartedIn, recordAfter, pageAfter}
+use Rattle.call_spec.specs.Claim.{Lent, lent, Act, call, restart, cut, renewed}
+use Rattle.call_spec.proofs.Lift.{LiesIn, lies}
 use Rattle.link.specs.Record.{format, ends}
-use Rattle.link.proofs.Demand.{lawful, no-end-alone}
+use Rattle.link.proofs.Demand.{lawful, no-end-alone, no-number-twice}
 use Rattle.bench_log.specs.Log.{places, logSize}
-use Rattle.bench_spec.specs.Bench.{Bench, At, recordAt, lineAsks, sends, logged, callOutcome, comes, endOf, logAfter, countAfter, benchAfter}
+use Rattle.bench_spec.specs.Bench.{Bench, At, lentAt, lineAsks, sends, logged, callOutcome, comes, endOf, logAfter, countAfter, lentAfter, benchAfter}
 use Rattle.bench_spec.specs.Run.{LentLine, lineAfter, linesAfter, entry, entriesOf, callsOf, newEnds, newBench, Holds}
 use Rattle.bench_spec.proofs.Sends.{grows, has-sent, encode-short}
 use Rattle.bench_spec.proofs.Logged.{Among, Logged, Grows, still, logs}
-use Rattle.bench_spec.proofs.Fair.{asked-fair}
+use Rattle.bench_spec.proofs.Fair.{FromLine, asked-fair}
 
 -- the ends of the list of calls
-abbrev Held : End (List ℕ) → End (List ℕ) → Type 0
-Held = law.Held ends Roomy (Lies format)
+abbrev Held : End Lent → End Lent → Type 0
+Held = law.Held ends Roomy (LiesIn format)
 
-abbrev does : Simulates ends Roomy Sized (Lies format)
+abbrev does : Simulates ends Roomy Sized (LiesIn format)
 does = lies format lawful
 
 -- the bench beside them
@@ -48,40 +51,55 @@ record Beside (w : Bench) (e : Two ends) : Type 0 where
 
 -- a refusal leaves the bench
 refusal : {w : Bench} {e : Two ends} → Beside w e → (i n : ℕ) → Beside (benchAfter i w (refused n)) e
-unfolding benchAfter recordAfter mapped octets.left logAfter countAfter
+unfolding benchAfter lentAfter recordAfter pageAfter mapped octets.left logAfter countAfter
 refusal {w} {e} h i n =
     record {
-      a = if-eq (λ (x : List ℕ). x ≡ e .a .rec) i 0 (λ _. h .a) (λ _. h .a);
-      b = if-eq (λ (x : List ℕ). x ≡ e .b .rec) i 0 (λ _. h .b) (λ _. h .b);
+      a = if-eq (λ (x : Lent). x ≡ e .a .rec) i 0 (λ _. h .a) (λ _. h .a);
+      b = if-eq (λ (x : Lent). x ≡ e .b .rec) i 0 (λ _. h .b) (λ _. h .b);
       log = h .log;
       held = h .held;
     }
 
 -- what an accepted call came to: its own outcome, and a place left if it sends
-came : (rec : List ℕ) (count : ℕ) (c : Arguments) {y : Step} → callOutcome rec count c ≡ ok y
-    → (performed format rec c ≡ ok y) × (when (sends (y .sent)) (ltb count places) true ≡ true)
+came : (l : Lent) (count : ℕ) (c : Act) {y : Step} → callOutcome l count c ≡ ok y
+    → (ends .comes l c ≡ ok y) × (when (sends (y .sent)) (ltb count places) true ≡ true)
 unfolding callOutcome logged
-came rec count c h =
-    let r = then-of (performed format rec c) (logged count) h in
+came l count c h =
+    let r = then-of (ends .comes l c) (logged count) h in
     let a = accepted _ _ (r .2) in
     (r .1 ∙ ap ok (a .1), rw (a .1) at (all-yes 14 _ _ (a .0) tt .0))
 
+-- a restart leaves the page, whose octets reserve its number already
+page-stays : (rec page : List ℕ) {y : Step} → restartedIn format rec page ≡ ok y → pageAfter page (ok y) ≡ page
+unfolding restartedIn restarting pageAfter
+page-stays rec page {y} h =
+    let k : ok (quiet (restarted (count page)) none) ≡ ok y = passing _ (passing _ h .1) .1 in
+    let z : quiet (restarted (count page)) none ≡ y = cc in
+    stays (y .endpoint .local) page (omega (arith, ap (λ (s : Step). s .endpoint .local) z))
+
+-- so what an accepted line leaves is what the list leaves
+leaves-so : (l : Lent) (c : Act) {y : Step} → FromLine l c → ends .comes l c ≡ ok y → lentAfter l (ok y) ≡ ends .leaves l c (ok y)
+unfolding lentAfter renewed
+leaves-so l (call c) f h = refl
+leaves-so l (restart rec) {y} f h = λ i. lent (recordAfter format (sym f i) (ok y)) (page-stays rec (l .page) h i)
+leaves-so l (cut c rec) f h = absurd f
+
 -- what an accepted call at an end adds to it
-record Adds (x : End (List ℕ)) (rec : List ℕ) (count : ℕ) (c : Arguments) (y : Step) : Type 0 where
-  pub leaves : recordAfter format rec (ok y) ≡ called ends c x .rec
+record Adds (x : End Lent) (l : Lent) (count : ℕ) (c : Act) (y : Step) : Type 0 where
+  pub leaves : lentAfter l (ok y) ≡ called ends c x .rec
   pub place-left : when (sends (y .sent)) (ltb count places) true ≡ true
   pub grown : Grows (x .history) (called ends c x .history)
   pub short : (f : Frame) → y .sent ≡ frame f → length (encode f) ≤ longestFrame
   pub among : (f : Frame) → y .sent ≡ frame f → Among (encode f) (called ends c x .history)
 
-adds : (x other : End (List ℕ)) {rec : List ℕ} (count : ℕ) (c : Arguments) {y : Step} → rec ≡ x .rec → Held (called ends c x) other
-    → callOutcome rec count c ≡ ok y → Adds x rec count c y
+adds : (x other : End Lent) {l : Lent} (count : ℕ) (c : Act) {y : Step} → l ≡ x .rec → FromLine l c → Held (called ends c x) other
+    → callOutcome l count c ≡ ok y → Adds x l count c y
 unfolding called
-adds x other {rec} count c {y} e held m =
-    let r = came rec count c m in
-    let k : performed format (x .rec) c ≡ ok y = rw e at (r .0) in
+adds x other {l} count c {y} e f held m =
+    let r = came l count c m in
+    let k : ends .comes (x .rec) c ≡ ok y = rw e at (r .0) in
     record {
-      leaves = ap₂ (recordAfter format) e (sym k);
+      leaves = leaves-so l c f (r .0) ∙ ap₂ (λ (z : Lent) (o : Outcome Step). ends .leaves z c o) e (sym k);
       place-left = r .1;
       grown = grows c x k;
       short = λ f t. encode-short (limited (held .both) .fits f (has-sent c x k f t .0));
@@ -89,12 +107,12 @@ adds x other {rec} count c {y} e held m =
     }
 
 -- an accepted call at A, and at B
-at-a : {w : Bench} {e : Two ends} → Beside w e → (c : Arguments) → DueAt ends (atA c) e → logSize ≤ length (w .log)
+at-a : {w : Bench} {e : Two ends} → Beside w e → (c : Act) → FromLine (w .a) c → DueAt ends (atA c) e → logSize ≤ length (w .log)
     → {y : Step} → callOutcome (w .a) (w .count) c ≡ ok y → Beside (benchAfter 0 w (ok y)) (world.made ends (atA c) e)
 unfolding benchAfter ifEq when logAfter countAfter
-at-a {w} {e} h c d room {y} m =
+at-a {w} {e} h c f d room {y} m =
     let held = entry-at ends roomy does (atA c) e (h .held) d in
-    let x = adds (e .a) (e .b) (w .count) c (h .a) held m in
+    let x = adds (e .a) (e .b) (w .count) c (h .a) f held m in
     record {
       a = x .leaves;
       b = h .b;
@@ -104,12 +122,12 @@ at-a {w} {e} h c d room {y} m =
       held = held;
     }
 
-at-b : {w : Bench} {e : Two ends} → Beside w e → (c : Arguments) → DueAt ends (atB c) e → logSize ≤ length (w .log)
+at-b : {w : Bench} {e : Two ends} → Beside w e → (c : Act) → FromLine (w .b) c → DueAt ends (atB c) e → logSize ≤ length (w .log)
     → {y : Step} → callOutcome (w .b) (w .count) c ≡ ok y → Beside (benchAfter 1 w (ok y)) (world.made ends (atB c) e)
 unfolding benchAfter ifEq when logAfter countAfter
-at-b {w} {e} h c d room {y} m =
+at-b {w} {e} h c f d room {y} m =
     let held = entry-at ends roomy does (atB c) e (h .held) d in
-    let x = adds (e .b) (e .a) (w .count) c (h .b) (turned ends roomy does held) m in
+    let x = adds (e .b) (e .a) (w .count) c (h .b) f (turned ends roomy does held) m in
     record {
       a = h .a;
       b = x .leaves;
@@ -120,12 +138,12 @@ at-b {w} {e} h c d room {y} m =
     }
 
 -- at either
-accepts : {w : Bench} {e : Two ends} → Beside w e → (i : ℕ) (c : Arguments) → i ≤ 1 → DueAt ends (entry (i, c)) e → logSize ≤ length (w .log)
-    → {y : Step} → callOutcome (recordAt i w) (w .count) c ≡ ok y → Beside (benchAfter i w (ok y)) (world.made ends (entry (i, c)) e)
-unfolding entry recordAt ifEq when
-accepts h zero c l d room m = at-a h c d room m
-accepts h (suc zero) c l d room m = at-b h c d room m
-accepts h (suc (suc i)) c l d room m = absurd (omega arith)
+accepts : {w : Bench} {e : Two ends} → Beside w e → (i : ℕ) (c : Act) → i ≤ 1 → FromLine (lentAt i w) c → DueAt ends (entry (i, c)) e → logSize ≤ length (w .log)
+    → {y : Step} → callOutcome (lentAt i w) (w .count) c ≡ ok y → Beside (benchAfter i w (ok y)) (world.made ends (entry (i, c)) e)
+unfolding entry lentAt ifEq when
+accepts h zero c l f d room m = at-a h c f d room m
+accepts h (suc zero) c l f d room m = at-b h c f d room m
+accepts h (suc (suc i)) c l f d room m = absurd (omega arith)
 
 -- one line
 record Goes (w : Bench) (e : Two ends) (x : Outcome At) (o : Outcome Step) : Type 0 where
@@ -140,7 +158,7 @@ goes h l (refused n) (ok y) j k = absurd (let z : _≡_ {A = ℕ} 0 1 = cc in om
 goes h l (ok x) (refused m) j k = record { left = refusal h (x .0) m; due = tt }
 goes {w} {e} h l (ok x) (ok y) j k =
     let f = asked-fair w e (h .log) (l .0) (l .1) x j in
-    record { left = accepts h (x .0) (x .1) (f .0 .0) (f .0 .1) (f .1) k; due = (f .0 .1, tt) }
+    record { left = accepts h (x .0) (x .1) (f .0 .0 .0) (f .0 .1) (f .0 .0 .1) (f .1) k; due = (f .0 .0 .1, tt) }
 
 -- all lines
 record GoesAll (w : Bench) (e : Two ends) (ls : List LentLine) : Type 0 where
@@ -152,7 +170,7 @@ module _ (w : Bench) (l : LentLine) where
   abbrev asks : Outcome At
   asks = lineAsks w (l .0) (l .1)
 
-  abbrev calls-callOutcome : List (Entry Arguments)
+  abbrev calls-callOutcome : List (Entry Act)
   calls-callOutcome = entriesOf asks (comes w asks)
 
 line-goes : {w : Bench} {e : Two ends} → Beside w e → (l : LentLine) → Goes w e (asks w l) (comes w (asks w l))
@@ -171,15 +189,15 @@ goes-all h [] = record { left = h; due = tt }
 goes-all h (l ∷ ls) = let g = line-goes h l in one-more l ls g (goes-all (g .left) ls)
 
 -- at the start
-fresh-ends : (p q : List ℕ) → BothNew ends (newEnds p q)
-fresh-ends p q = (((p, refl), refl), ((q, refl), refl))
+fresh-ends : (p q : Lent) → BothNew ends (newEnds p q)
+fresh-ends p q = ((((p .rec, refl), (p .page, refl)), refl), (((q .rec, refl), (q .page, refl)), refl))
 
-new : (p q log : List ℕ) → Beside (newBench p q log) (newEnds p q)
+new : (p q : Lent) (log : List ℕ) → Beside (newBench p q log) (newEnds p q)
 unfolding newBench
 new p q log =
     record { a = refl; b = refl; log = λ k l. absurd (omega arith); held = new-held ends roomy does (newEnds p q) (fresh-ends p q) }
 
-pub bench-run : (p q log : List ℕ) (lines : List LentLine) → Holds p q log lines
+pub bench-run : (p q : Lent) (log : List ℕ) (lines : List LentLine) → Holds p q log lines
 bench-run p q log lines =
     let g = goes-all (new p q log) lines in
     record {
@@ -187,4 +205,6 @@ bench-run p q log lines =
       end-a = g .left .a;
       end-b = g .left .b;
       demand = no-end-alone (newEnds p q) (fresh-ends p q) (callsOf (newBench p q log) lines) (g .due);
+      once-a = no-number-twice (newEnds p q) (fresh-ends p q) (callsOf (newBench p q log) lines) (g .due) .0;
+      once-b = no-number-twice (newEnds p q) (fresh-ends p q) (callsOf (newBench p q log) lines) (g .due) .1;
     }

@@ -1,11 +1,11 @@
 -- What an accepted call adds to what its end has sent, and how long a frame is.
 use Prim.Native.Nat.{ℕ, _≤_}
-use mathlib.Core.Path.{_≡_, refl}
+use mathlib.Core.Path.{_≡_, refl, ap}
 use mathlib.Core.List.{List, map, List·Memᴰ, List·Memᴰ·head, List·Memᴰ·tail}
 use native.Mathlib.Omega.{arith}
 use lib.ListN.{length, length-append}
 use Rattle.octets.specs.Sizes.{longestFrame}
-use Rattle.octets.specs.Test.{ok}
+use Rattle.octets.specs.Test.{ok, mapped}
 use Rattle.octets.proofs.Test.{passing, then-of}
 use Rattle.octets.proofs.Octets.{length-octets}
 use Rattle.frame.specs.Frame.{Frame}
@@ -16,18 +16,21 @@ use Rattle.protocol.specs.Table.{Sent, nothing, frame, Step}
 use Rattle.protocol.specs.History.{also, sent, recorded}
 use Rattle.protocol.specs.History as protocol
 use Rattle.protocol.specs.World.{End, called}
-use Rattle.call_spec.specs.Calls.{Arguments, said, does, asked, performed}
-use Rattle.link.specs.Record.{format, ends}
+use Rattle.call_spec.specs.Calls.{said, does, asked, performed}
+use Rattle.call_spec.specs.Claim.{Lent, Act, call, restart, cut}
+use Rattle.link.specs.Record.{ends}
 
--- only a call whose octets say one is accepted
-says : (rec : List ℕ) (c : Arguments) {y : Step} → performed format rec c ≡ ok y → (x : protocol.Call) × (said c ≡ ok x)
-unfolding performed asked does
-says rec c h =
-    let r = then-of (said c) _ (passing _ (passing _ h .1) .1) in
-    (r .0, r .1)
+-- only a call whose octets say one is accepted; a restart says one always
+says : (r : Lent) (c : Act) {y : Step} → ends .comes r c ≡ ok y → (x : protocol.Act) × (ends .said r c ≡ ok x)
+unfolding performed asked does mapped
+says r (call c) h =
+    let s = then-of (said c) _ (passing _ (passing _ h .1) .1) in
+    (protocol.call (s .0), ap (mapped protocol.call) (s .1))
+says r (restart rec) h = (_, refl)
+says r (cut c rec) h = (_, refl)
 
 -- what the end has sent after it
-gains : (c : Arguments) (e : End (List ℕ)) {y : Step} → performed format (e .rec) c ≡ ok y
+gains : (c : Act) (e : End Lent) {y : Step} → ends .comes (e .rec) c ≡ ok y
     → sent (called ends c e .history) ≡ also (y .sent) (sent (e .history))
 unfolding called recorded sent
 gains c e h = rw (says (e .rec) c h .1, h) refl
@@ -37,11 +40,11 @@ also-keeps : (t : Sent) (fs : List Frame) (s : List ℕ) → List·Memᴰ s (map
 also-keeps nothing fs s m = m
 also-keeps (frame f) fs s m = List·Memᴰ·tail m
 
-pub grows : (c : Arguments) (e : End (List ℕ)) {y : Step} → performed format (e .rec) c ≡ ok y
+pub grows : (c : Act) (e : End Lent) {y : Step} → ends .comes (e .rec) c ≡ ok y
     → (s : List ℕ) → List·Memᴰ s (map encode (sent (e .history))) → List·Memᴰ s (map encode (sent (called ends c e .history)))
 grows c e {y} h s m = rw (gains c e h) (also-keeps (y .sent) (sent (e .history)) s m)
 
-pub has-sent : (c : Arguments) (e : End (List ℕ)) {y : Step} → performed format (e .rec) c ≡ ok y
+pub has-sent : (c : Act) (e : End Lent) {y : Step} → ends .comes (e .rec) c ≡ ok y
     → (f : Frame) → y .sent ≡ frame f → List·Memᴰ f (sent (called ends c e .history)) × List·Memᴰ (encode f) (map encode (sent (called ends c e .history)))
 has-sent c e {y} h f t = rw (gains c e h, t) (List·Memᴰ·head refl, List·Memᴰ·head refl)
 

@@ -1,4 +1,4 @@
--- A run of the bench as a list of calls (document 01, "Demand 3": a bench run, its refused lines left out, is such a list).
+-- A run of the bench as a list of calls and restarts (document 01, "Demand 3": a bench run, its refused lines left out, is such a list).
 use Prim.Native.Nat.{ℕ}
 use mathlib.Core.Path.{_≡_}
 use mathlib.Core.List.{List, [], _∷_, _++_}
@@ -6,8 +6,10 @@ use Rattle.octets.specs.Test.{ifEq, Outcome, refused, ok}
 use Rattle.protocol.specs.Endpoint.{fresh}
 use Rattle.protocol.specs.Table.{Step}
 use Rattle.protocol.specs.World.{Entry, atA, atB, Two, run, AllDue}
-use Rattle.protocol.specs.Claim.{Demand}
-use Rattle.call_spec.specs.Calls.{Arguments, Rooms}
+use Rattle.protocol.specs.Claim.{Demand, NeverTwice}
+use Rattle.page.specs.Page.{newPage}
+use Rattle.call_spec.specs.Calls.{Rooms}
+use Rattle.call_spec.specs.Claim.{Lent, lent, Act}
 use Rattle.link.specs.Record.{format, ends}
 use Rattle.bench_spec.specs.Bench.{Bench, At, lineAsks, comes, endOf, benchAfter}
 
@@ -24,31 +26,37 @@ linesAfter w [] = w
 linesAfter w (l ∷ ls) = linesAfter (lineAfter w l) ls
 
 -- a call at an end, as an entry of a list of calls
-unfoldable pub entry : At → Entry Arguments
+unfoldable pub entry : At → Entry Act
 entry x = ifEq (x .0) 0 (atA (x .1)) (atB (x .1))
 
 -- the call that a line makes; a refused line makes none
-unfoldable pub entriesOf : Outcome At → Outcome Step → List (Entry Arguments)
+unfoldable pub entriesOf : Outcome At → Outcome Step → List (Entry Act)
 entriesOf (refused n) o = []
 entriesOf (ok x) (refused n) = []
 entriesOf (ok x) (ok y) = entry x ∷ []
 
 -- the calls that the lines of a run make
-unfoldable pub callsOf : Bench → List LentLine → List (Entry Arguments)
+unfoldable pub callsOf : Bench → List LentLine → List (Entry Act)
 callsOf w [] = []
 callsOf w (l ∷ ls) = let q = lineAsks w (l .0) (l .1) in entriesOf q (comes w q) ++ callsOf (lineAfter w l) ls
 
--- Two fresh ends, whatever follows the records in their buffers.
-abbrev pub newEnds : List ℕ → List ℕ → Two ends
-newEnds p q = record { a = record { rec = format .octets fresh ++ p; history = [] }; b = record { rec = format .octets fresh ++ q; history = [] } }
+-- A fresh end with a new page, whatever follows them in their buffers, which is p.
+abbrev pub newLent : Lent → Lent
+newLent p = lent (format .octets fresh ++ p .rec) (newPage ++ p .page)
+
+-- two of them
+abbrev pub newEnds : Lent → Lent → Two ends
+newEnds p q = record { a = record { rec = newLent p; history = [] }; b = record { rec = newLent q; history = [] } }
 
 -- They and an empty log, whatever stands in the log's places.
-unfoldable pub newBench : List ℕ → List ℕ → List ℕ → Bench
-newBench p q log = record { a = newEnds p q .a .rec; b = newEnds p q .b .rec; log = log; count = 0 }
+unfoldable pub newBench : Lent → Lent → List ℕ → Bench
+newBench p q log = record { a = newLent p; b = newLent q; log = log; count = 0 }
 
--- A run is such a list of calls, it leaves the records that the list leaves, and demand 3 holds of it.
-pub record Holds (p q log : List ℕ) (lines : List LentLine) : Type 0 where
+-- A run is such a list of calls, it leaves the records and pages that the list leaves, demand 3 holds of it, and no number is used twice.
+pub record Holds (p q : Lent) (log : List ℕ) (lines : List LentLine) : Type 0 where
   pub due : AllDue ends (newEnds p q) (callsOf (newBench p q log) lines)
   pub end-a : linesAfter (newBench p q log) lines .a ≡ run ends (newEnds p q) (callsOf (newBench p q log) lines) .a .rec
   pub end-b : linesAfter (newBench p q log) lines .b ≡ run ends (newEnds p q) (callsOf (newBench p q log) lines) .b .rec
   pub demand : Demand ends (newEnds p q) (callsOf (newBench p q log) lines)
+  pub once-a : NeverTwice (run ends (newEnds p q) (callsOf (newBench p q log) lines) .a .history)
+  pub once-b : NeverTwice (run ends (newEnds p q) (callsOf (newBench p q log) lines) .b .history)

@@ -9,11 +9,12 @@ ghost use mathlib.Core.Path.{_≡_};
 ghost use mathlib.Core.Bool.{_&&_};
 ghost use Prim.Native.Nat.{_+_, _-_, _≤_, _<_};
 ghost use lib.ListN.{length, take, drop};
-ghost use Rattle.octets.specs.Sizes.{longestBlock, queueSize, heldSize, lastNumber};
+ghost use Rattle.octets.specs.Sizes.{longestBlock, queueSize, heldSize, lastNumber, pageSize};
 ghost use Rattle.octets.specs.Test.{when, zeros};
 ghost use Rattle.octets.specs.Octets.{put, octetsOf};
 ghost use Rattle.protocol.specs.Endpoint as abstract;
 ghost use Rattle.protocol.specs.Endpoint.{allOf, numbersSound, heldSound};
+ghost use Rattle.protocol.specs.Restart.{restarted};
 ghost use Rattle.endpoint.specs.View.{placesSize, pack};
 ghost use Rattle.endpoint.specs.Sound.{unusedOk, sound};
 ghost use Rattle.endpoint.specs.Record.{recordSize, encode, decode};
@@ -85,6 +86,16 @@ impl Endpoint {
             held_lengths: [0; octets::HELD_SIZE],
             held_blocks: [0; PLACES_SIZE],
         }
+    }
+
+    // An end after a restart, on a page with so many octets of 00: closed, with the last number that they reserve.
+    pub fn restarted(used: usize) -> Endpoint
+        requires { ⌜ used ≤ pageSize ⌝ }
+        ensures { λ r. ⌜ r ≡ pack (restarted used) ⌝ }
+    {
+        let mut e = Endpoint::fresh();
+        e.local = used as u32 * octets::NUMBERS_EACH;
+        e
     }
 }
 

@@ -10,19 +10,23 @@ use borrow.Author.Tests.{leb-true}
 use lib.ListN.{length, getD, drop, replicate}
 use lib.Seq.{take-all, take-at}
 use Rattle.frame.specs.Layout.{sendBlockAt, dataBlockAt}
-use Rattle.octets.specs.Sizes.{longestFrame, longestBlock, queueSize, heldSize, lastNumber}
-use Rattle.octets.specs.Test.{Outcome, refused, ok, mapped, numberOf}
+use Rattle.octets.specs.Sizes.{longestFrame, longestBlock, queueSize, heldSize, lastNumber, pageSize, numbersEach, lastIncarnation}
+use Rattle.octets.specs.Test.{first, Outcome, refused, ok, mapped, numberOf}
 use Rattle.octets.specs.Octets.{put, left, padded}
-use Rattle.octets.proofs.Test.{by-eq}
+use Rattle.octets.proofs.Test.{by-eq, passing}
 use Rattle.octets.proofs.Octets.{put-none}
 use Rattle.octets.proofs.Outcomes.{is-refused}
 use Rattle.frame.specs.Frame.{Block}
+use Rattle.page.specs.Page.{runs, reserving}
+use Rattle.page.specs.Page as pages
+use Rattle.page.proofs.Laws.{goes-so, goes-last, stays}
+use Rattle.protocol.specs.Endpoint as abstract
 use Rattle.protocol.specs.Endpoint.{lengthsOf}
 use Rattle.protocol.specs.Table.{Step}
 use Rattle.protocol.proofs.Sound.{length-at}
 use Rattle.call_spec.specs.declared.Call.{Call}
 use Rattle.call_spec.specs.declared.Call.the-variants as call
-use Rattle.call_spec.specs.Calls.{Arguments, given, does, wire, bufferAfter, blockRoomOk}
+use Rattle.call_spec.specs.Calls.{Arguments, given, does, ownQuestions, asked, wire, bufferAfter, pageAfter, blockRoomOk}
 use Rattle.step_rules.specs.Internal.{holding}
 use Rattle.step_plan.specs.declared.Plan.{Plan}
 use Rattle.step_plan.specs.declared.Places.{Places}
@@ -42,6 +46,7 @@ use Rattle.endpoint.proofs.Sounds.{by-lt, tidy, tidy-held, lengths-held, facts}
 use Rattle.endpoint_step.specs.declared.StepAnswer.{StepAnswer}
 use Rattle.endpoint_step.specs.Calls.{outcomeOf, stepAnswerOf, Advances}
 use Rattle.endpoint_step.specs.Internal.{joinsQueue, joinsHeld, Plans, PlansAny, placesAfter, InEight, Fits, lengthsAfter, blocksAfter, carried, blockFrom, Handy, handedTo, HandsUp}
+use Rattle.endpoint_step.proofs.Numbers.{Follows, same, local-after}
 use Rattle.endpoint_step.proofs.Ready.{ready, Passes, passes}
 use Rattle.endpoint_step.proofs.HeldPlaces.{held-lengths-after, held-blocks-after}
 
@@ -98,11 +103,11 @@ module _ (e : Endpoint) (s : sound e ≡ true) (long : Long e) where
       let z = sym (length-at (view e .held) 0) ∙ ap (λ (l : List ℕ). getD l 0 0) (lengths-held e s long) in
       omega (arith, facts e s long .fitting 0 (omega (arith, z)) .1)
 
-  -- the plan of a call where 11 and 12 are passed
+  -- the plan of a call where 11, 12 and 15 are passed
   pub planned : (c : Call) (o : List ℕ) {p : Plan} → Planned (numbersOf e) (e .«held_lengths») (drop sendBlockAt o) (drop dataBlockAt o) (does c o) p → PlansAny e c o p
   unfolding view
-  planned c o h room enough enough-block =
-      rw (ready e (given c o room) enough enough-block s)
+  planned c o h page room enough enough-block page-long goes =
+      rw (ready e page (given c o room) enough enough-block page-long s goes)
       (by-joined o (h (view e .queue) (view e .held) (placeBlock (e .lengths) (e .blocks) 0) (count e) (oldest-at e) (lengths-held e s long)))
 
   abbrev blocks : List Block
@@ -186,8 +191,9 @@ module _ (e : Endpoint) (s : sound e ≡ true) (long : Long e) where
   carries {b} {x} {old} {o} {p} c = carried-is p b x (c .counted) (c .room) (c .place) ∙ ap pack (c .endpoint) ∙ told-is o
 
 -- the plan of a call that is refused
-pub refusal : (e : Endpoint) (c : Arguments) {p : Plan} (k : ℕ) → outcomeOf e c ≡ refused k → p ≡ refusedPlan (numbersOf e) k → Plans e c p
-refusal e c k h r = refuses (numbersOf e) (view e .queue) (view e .held) _ _ _ (count e) k h r
+pub refusal : (e : Endpoint) (page : List ℕ) (c : Arguments) {p : Plan} (k : ℕ) → outcomeOf e page c ≡ refused k → p ≡ refusedPlan (numbersOf e) k
+    → Plans e page c p
+refusal e page c k h r = refuses (numbersOf e) (view e .queue) (view e .held) _ _ _ (count e) k h r
 
 -- what is left of the buffer
 pub sends-is : (out : List ℕ) {out′ : List ℕ} {n : ℕ} (o : Outcome Step) → Sends (sentIn o) out out′ n → out′ ≡ bufferAfter out o
@@ -204,6 +210,20 @@ handed-is call.Receive o up = refl
 
 pub hands-is : (c : Call) (up : List ℕ) {up′ : List ℕ} {n : ℕ} (o : Outcome Step) → HandsUp c (blockOf o) up up′ n → up′ ≡ blockBufferAfter c up o
 hands-is c up o h = h .octets ∙ handed-is c o up
+
+-- and of the page: a refusal, and a call that keeps a number which is reserved, leave it
+page-is : (a : abstract.Endpoint) (page : List ℕ) (o : Outcome Step) → a .local ≤ numbersEach * pages.count page
+    → reserving (endpointAfter a o .local) page ≡ pageAfter page o
+unfolding endpointAfter pageAfter
+page-is a page (refused n) h = stays (a .local) page h
+page-is a page (ok x) h = refl
+
+-- the number left by a call that has passed 11, 12 and 15
+follows : (a : abstract.Endpoint) (o : Outcome Step) → ((x : Step) → o ≡ ok x → Follows (a .local) (x .endpoint .local))
+    → Follows (a .local) (endpointAfter a o .local)
+unfolding endpointAfter
+follows a (refused n) h = same refl
+follows a (ok x) h = h x refl
 
 -- the parts of an accepted answer
 accepted-is : (e : Endpoint) (o : Outcome Step) → numberOf o ≡ 0
@@ -237,9 +257,9 @@ source-received : (c : Call) (s : List ℕ) (e : Endpoint) → c ≡ call.Receiv
 unfolding up.source
 source-received c s e h = rw h refl
 
-module _ (e : Endpoint) (long : Long e) (c : Arguments) {p : Plan} (w : Plans e c p) where
+module _ (e : Endpoint) (long : Long e) (page : List ℕ) (c : Arguments) {p : Plan} (w : Plans e page c p) where
   abbrev o : Outcome Step
-  o = outcomeOf e c
+  o = outcomeOf e page c
 
   abbrev joins : Block
   joins = joinsQueue p (c .octets)
@@ -254,14 +274,42 @@ module _ (e : Endpoint) (long : Long e) (c : Arguments) {p : Plan} (w : Plans e 
   pub held-there : Reaches (p .held) dataBlockAt (c .octets)
   held-there = held-reaches dataBlockAt (c .octets) (p .held) _ (w .place)
 
-  -- a plan that is accepted: the buffers have room, the record is sound
+  -- a plan that is accepted: the buffers have room, the record is sound, the page goes with it
   module _ (z : p .number ≡ 0) where
     is-accepted : numberOf o ≡ 0
     is-accepted = sym (w .number) ∙ z
 
-    passed : Passes (sound e) c
-    unfolding outcomeOf
-    passed = passes (sound e) (view e) c is-accepted
+    passed : Passes (sound e) (e .local) page c
+    unfolding outcomeOf view
+    passed = passes (sound e) page (view e) c is-accepted
+
+    -- the number that it leaves can be reserved
+    local-is : p .numbers .local ≡ endpointAfter (view e) o .local
+    unfolding view
+    local-is = ap (λ (a : abstract.Endpoint). a .local) (w .endpoint)
+
+    local-follows : Follows (e .local) (p .numbers .local)
+    unfolding outcomeOf asked view
+    local-follows =
+        subst (Follows (e .local)) (sym local-is)
+        (follows (view e) o (λ x h. local-after (c .call) (c .octets) (view e) x (passing (first (ownQuestions (sound e) (e .local) page c)) h .1)))
+
+    pub reservable : ((pageSize ≤ length page) × (runs page ≡ true))
+        × ((p .numbers .local ≤ lastIncarnation) × (p .numbers .local ≤ numbersEach * pages.count page + numbersEach))
+    reservable =
+        let g = goes-so (e .local) page (passed .goes) in
+        let l = local-follows in
+        (
+          (passed .page-long, g .0),
+          (l .1 .1 (goes-last (e .local) page (passed .page-long) (passed .goes)), omega arith),
+        )
+
+    -- and reserving it is what the call leaves of the page
+    pub reserves : {page′ : List ℕ} → page′ ≡ reserving (p .numbers .local) page → page′ ≡ pageAfter page o
+    unfolding view
+    reserves h =
+        let g = goes-so (e .local) page (passed .goes) in
+        h ∙ ap (λ (n : ℕ). reserving n page) local-is ∙ page-is (view e) page o (omega arith)
 
     -- its frame can be sent
     pub sendable : (getD (e .lengths) 0 0 ≤ longestBlock) × ((length joins ≤ longestBlock) × (longestFrame ≤ c .room))
@@ -286,17 +334,17 @@ module _ (e : Endpoint) (long : Long e) (c : Arguments) {p : Plan} (w : Plans e 
 
     pub handy : p .notice ≡ 5 → Handy (c .call) (e .«held_lengths») (c .octets) (c .blockRoom)
     unfolding outcomeOf
-    handy y = handy-at (c .call) (passed .block-room) (right (sound e) (view e) c .some (sym (w .notice) ∙ y) .1)
+    handy y = handy-at (c .call) (passed .block-room) (right (sound e) page (view e) c .some (sym (w .notice) ∙ y) .1)
 
   pub hands-up : blockBy (p .notice) (blockFrom (c .call) (e .«held_lengths») (e .«held_blocks») (c .octets)) ≡ blockOf o
   unfolding outcomeOf
-  hands-up = ap₂ (λ (n : ℕ) (b : Block). blockBy n b) (w .notice) (from-is e (c .call) (c .octets)) ∙ told (right (sound e) (view e) c)
+  hands-up = ap₂ (λ (n : ℕ) (b : Block). blockBy n b) (w .notice) (from-is e (c .call) (c .octets)) ∙ told (right (sound e) page (view e) c)
 
   -- it stands where it was handed up to
   pub stands : (u : List ℕ) → blockPart (c .call) (c .octets) (blockBufferAfter (c .call) u o) (length (blockOf o)) ≡ blockOf o
   unfolding outcomeOf
   stands u =
-      let r = right (sound e) (view e) c in
+      let r = right (sound e) page (view e) c in
       ap (λ (l : List ℕ). blockPart (c .call) (c .octets) l (length (blockOf o))) (sym (handed-is (c .call) o u))
       ∙ handed-stands (c .call) (c .octets) u (blockOf o) (noticeOf o) (λ y. r .some y .0) (r .nothing) (source-received (c .call) (c .octets) e)
 
@@ -305,10 +353,12 @@ module _ (e : Endpoint) (long : Long e) (c : Arguments) {p : Plan} (w : Plans e 
       → Sends (sentIn o) out out′ n
   sends s = rw (w .sent) at s
 
-  answers : {r : StepAnswer} {out u out′ u′ : List ℕ} → r ≡ stepAnswerOf e o → out′ ≡ bufferAfter out o → u′ ≡ blockBufferAfter (c .call) u o → Advances e c out u out′ u′ r
-  answers {u = u} h k m =
+  answers : {r : StepAnswer} {page′ out u out′ u′ : List ℕ} → r ≡ stepAnswerOf e o → page′ ≡ pageAfter page o → out′ ≡ bufferAfter out o
+      → u′ ≡ blockBufferAfter (c .call) u o → Advances e page c out u page′ out′ u′ r
+  answers {u = u} h g k m =
       record {
         answer = h;
+        page-octets = g;
         octets = k;
         block-octets = m;
         block =
@@ -322,17 +372,27 @@ module _ (e : Endpoint) (long : Long e) (c : Arguments) {p : Plan} (w : Plans e 
   none-handed call.Request u n = refl
   none-handed call.Receive u n = refl
 
-  pub turns-down : p .number ≢ 0 → (out u : List ℕ) → Advances e c out u out u (record { number = p .number; endpoint = e; notice = 0; sent = 0; block = 0 })
-  unfolding stepAnswerOf bufferAfter mapped left
-  turns-down z out u =
-      let k : o ≡ refused (p .number) = rw (w .number) (is-refused o (λ y. z (w .number ∙ y))) in
-      answers (rw k refl) (rw k refl) (rw k (sym (none-handed (c .call) u (p .number))))
+  -- a plan that is refused
+  module _ (z : p .number ≢ 0) where
+    is-turned-down : o ≡ refused (p .number)
+    is-turned-down = rw (w .number) (is-refused o (λ y. z (w .number ∙ y)))
 
-  pub accepts : p .number ≡ 0 → {out out′ : List ℕ} {n : ℕ} → Sends (sentBy (p .reply) (blockOut (p .queue) joins (placeBlock (e .lengths) (e .blocks) 0))) out out′ n
+    pub reserves-none : page ≡ pageAfter page o
+    unfolding pageAfter
+    reserves-none = rw is-turned-down refl
+
+    pub turns-down : {r : StepAnswer} → r ≡ stepAnswerOf e (refused (p .number)) → (out u : List ℕ) → Advances e page c out u page out u r
+    unfolding bufferAfter mapped left
+    turns-down h out u =
+        let k = is-turned-down in
+        answers (rw k h) reserves-none (rw k refl) (rw k (sym (none-handed (c .call) u (p .number))))
+
+  pub accepts : p .number ≡ 0 → {page′ : List ℕ} → page′ ≡ reserving (p .numbers .local) page
+      → {out out′ : List ℕ} {n : ℕ} → Sends (sentBy (p .reply) (blockOut (p .queue) joins (placeBlock (e .lengths) (e .blocks) 0))) out out′ n
       → {a : Endpoint} → a ≡ carried p joins early e
       → {u u′ : List ℕ} {m : ℕ} → HandsUp (c .call) (blockBy (p .notice) (blockFrom (c .call) (e .«held_lengths») (e .«held_blocks») (c .octets))) u u′ m
-      → Advances e c out u out′ u′ (record { number = 0; endpoint = a; notice = p .notice; sent = n; block = m })
-  accepts z {out} s a {u} h =
+      → Advances e page c out u page′ out′ u′ (record { number = 0; endpoint = a; notice = p .notice; sent = n; block = m })
+  accepts z k {out} s a {u} h =
       let t = sends s in
       let g = rw hands-up at h in
-      answers (accepted-is e o (is-accepted z) (a ∙ leaves z) (w .notice) (t .count) (g .count)) (sends-is out o t) (hands-is (c .call) u o g)
+      answers (accepted-is e o (is-accepted z) (a ∙ leaves z) (w .notice) (t .count) (g .count)) (reserves z k) (sends-is out o t) (hands-is (c .call) u o g)

@@ -7,7 +7,7 @@ use mathlib.Core.List.{List}
 use native.Mathlib.Omega.{arith}
 use Rattle.octets.specs.Test.{first, Outcome, refused, ok, mapped, andThen}
 use Rattle.octets.specs.Octets.{Octets}
-use Rattle.octets.proofs.Test.{all-yes, passing}
+use Rattle.octets.proofs.Test.{passing}
 use Rattle.frame.specs.Read.{readFrame, readRequest}
 use Rattle.frame.proofs.Fits.{read-fits}
 use Rattle.protocol.specs.Table.{Step}
@@ -27,6 +27,7 @@ use Rattle.endpoint.proofs.Packs.{Long}
 use Rattle.endpoint.proofs.Sounds.{view-sound}
 use Rattle.endpoint.proofs.Held.{held, pack-sound}
 use Rattle.endpoint_step.specs.Calls.{outcomeOf}
+use Rattle.endpoint_step.proofs.Ready.{all-passed}
 
 -- the parts of an accepted call
 mapped-ok : {A B : Type 0} (f : A → B) (o : Outcome A) (next : B → Outcome Step) {y : Step} → andThen (mapped f o) next ≡ ok y
@@ -54,12 +55,13 @@ unfolding does reads
 performs call.Request s a o h = let q = mapped-ok ask (readRequest s) _ h in (ask (q .0), read-sized s (q .0) (q .1), q .2)
 performs call.Receive s a o h = let f = mapped-ok deliver (readFrame s) _ h in (deliver (f .0), read-fits s (f .1) o, f .2)
 
-pub accepts : (fine : Bool) (a : abstract.Endpoint) (c : Arguments) → InOctets (c .call) (c .octets) → {x : Step} → asked fine a c ≡ ok x → Accepted fine a x
+pub accepts : (fine : Bool) (page : List ℕ) (a : abstract.Endpoint) (c : Arguments) → InOctets (c .call) (c .octets) → {x : Step}
+    → asked fine page a c ≡ ok x → Accepted fine a x
 unfolding asked
-accepts fine a c o h =
-    let r = passing (first (ownQuestions fine c)) h in
+accepts fine page a c o h =
+    let r = passing (first (ownQuestions fine (a .local) page c)) h in
     let q = performs (c .call) (c .octets) a o (r .1) in
-    record { is-sound = all-yes 12 fine _ (all-yes 11 _ _ (all-yes 11 _ _ (r .0) tt .1) tt .1) tt .0; call = q .0; readable = q .1; performs = q .2 }
+    record { is-sound = all-passed fine (a .local) page c (r .0) .is-fine; call = q .0; readable = q .1; performs = q .2 }
 
 -- What an accepted call leaves: a sound endpoint, whose struct is sound and holds it, and where the numbers had 32 bits they have.
 pub record Leaves (a : abstract.Endpoint) (x : Step) : Type 0 where
@@ -68,11 +70,11 @@ pub record Leaves (a : abstract.Endpoint) (x : Step) : Type 0 where
   pub holds : view (pack (x .endpoint)) ≡ x .endpoint
   pub bounded : Bounded a → Bounded (x .endpoint)
 
-pub leaves : (e : Endpoint) → Long e → (c : Arguments) → InOctets (c .call) (c .octets) → {x : Step}
-    → outcomeOf e c ≡ ok x → Leaves (view e) x
+pub leaves : (e : Endpoint) → Long e → (page : List ℕ) (c : Arguments) → InOctets (c .call) (c .octets) → {x : Step}
+    → outcomeOf e page c ≡ ok x → Leaves (view e) x
 unfolding outcomeOf
-leaves e long c o h =
-    let a = accepts (sound e) (view e) c o h in
+leaves e long page c o h =
+    let a = accepts (sound e) page (view e) c o h in
     let v = view-sound e (a .is-sound) long in
     let s = subst LeavesSound (a .performs) (call-sound (a .call) (view e) v (a .readable)) in
     record {

@@ -1,3 +1,4 @@
+pub mod Numbers
 pub mod Ready
 pub mod HeldPlaces
 pub mod Carries

@@ -1,54 +1,95 @@
--- Questions 11 and 12 of a call, and what follows them.
+-- Questions 11, 12 and 15 of a call, and 11 and 15 of a restart; what follows them.
 use Prim.Native.Nat.{ℕ, zero, suc, _≤_, _<_}
 use mathlib.Core.Path.{_≡_, refl}
 use mathlib.Core.Bool.{Bool, true, false}
+use mathlib.Core.List.{List}
 use native.Mathlib.Omega.{arith}
+use lib.ListN.{length}
 use borrow.Author.Tests.{le-leb, lt-leb, leb-true}
-use Rattle.octets.specs.Sizes.{longestFrame}
-use Rattle.octets.specs.Test.{when, first, Outcome, refused, refusing, numberOf}
+use Rattle.octets.specs.Sizes.{longestFrame, pageSize}
+use Rattle.octets.specs.Test.{when, first, Outcome, refused, ok, refusing, numberOf}
 use Rattle.octets.proofs.Test.{all-yes}
+use Rattle.page.specs.Page.{runs, count, goesWith}
 use Rattle.protocol.specs.Endpoint as abstract
-use Rattle.protocol.specs.Table.{Step}
-use Rattle.call_spec.specs.Calls.{Arguments, does, blockRoomOk, ownQuestions, asked}
+use Rattle.protocol.specs.Restart.{restarted}
+use Rattle.protocol.specs.Table.{none, Step, quiet}
+use Rattle.call_spec.specs.Calls.{Arguments, does, blockRoomOk, ownQuestions, asked, restarting}
 use Rattle.endpoint.specs.declared.Endpoint.{Endpoint}
 use Rattle.endpoint.specs.View.{view}
 use Rattle.endpoint.specs.Sound.{sound}
 use Rattle.endpoint_step.specs.Calls.{outcomeOf}
 
-module _ (e : Endpoint) (c : Arguments) where
-  pub no-room : c .room < longestFrame → outcomeOf e c ≡ refused 11
+module _ (e : Endpoint) (page : List ℕ) (c : Arguments) where
+  pub no-room : c .room < longestFrame → outcomeOf e page c ≡ refused 11
   unfolding outcomeOf asked refusing first when
   no-room h = rw (lt-leb longestFrame (c .room) h) refl
 
   module _ (h : longestFrame ≤ c .room) where
-    pub no-block-room : blockRoomOk (c .call) (c .blockRoom) ≡ false → outcomeOf e c ≡ refused 11
+    pub no-block-room : blockRoomOk (c .call) (c .blockRoom) ≡ false → outcomeOf e page c ≡ refused 11
     unfolding outcomeOf asked refusing first when
     no-block-room k = rw (le-leb longestFrame (c .room) h, k) refl
 
     module _ (b : blockRoomOk (c .call) (c .blockRoom) ≡ true) where
-      pub unsound : sound e ≡ false → outcomeOf e c ≡ refused 12
+      pub short-page : length page < pageSize → outcomeOf e page c ≡ refused 11
       unfolding outcomeOf asked refusing first when
-      unsound k = rw (le-leb longestFrame (c .room) h, b, k) refl
+      short-page k = rw (le-leb longestFrame (c .room) h, b, lt-leb pageSize (length page) k) refl
 
-      pub ready : sound e ≡ true → outcomeOf e c ≡ does (c .call) (c .octets) (view e)
-      unfolding outcomeOf asked refusing first when
-      ready k = rw (le-leb longestFrame (c .room) h, b, k) refl
+      module _ (l : pageSize ≤ length page) where
+        pub unsound : sound e ≡ false → outcomeOf e page c ≡ refused 12
+        unfolding outcomeOf asked refusing first when
+        unsound k = rw (le-leb longestFrame (c .room) h, b, le-leb pageSize (length page) l, k) refl
 
--- an accepted call has passed all three
-pub record Passes (fine : Bool) (c : Arguments) : Type 0 where
+        module _ (s : sound e ≡ true) where
+          pub wrong-page : goesWith (e .local) page ≡ false → outcomeOf e page c ≡ refused 15
+          unfolding outcomeOf asked refusing first when view
+          wrong-page k = rw (le-leb longestFrame (c .room) h, b, le-leb pageSize (length page) l, s, k) refl
+
+          pub ready : goesWith (e .local) page ≡ true → outcomeOf e page c ≡ does (c .call) (c .octets) (view e)
+          unfolding outcomeOf asked refusing first when view
+          ready k = rw (le-leb longestFrame (c .room) h, b, le-leb pageSize (length page) l, s, k) refl
+
+-- an accepted call, of an end with the number l, has passed all five
+pub record Passes (fine : Bool) (l : ℕ) (page : List ℕ) (c : Arguments) : Type 0 where
   pub frame-room : longestFrame ≤ c .room
   pub block-room : blockRoomOk (c .call) (c .blockRoom) ≡ true
+  pub page-long : pageSize ≤ length page
   pub is-fine : fine ≡ true
+  pub goes : goesWith l page ≡ true
+
+pub all-passed : (fine : Bool) (l : ℕ) (page : List ℕ) (c : Arguments) → first (ownQuestions fine l page c) ≡ 0 → Passes fine l page c
+all-passed fine l page c h =
+    let room = all-yes 11 _ _ h tt in
+    let block = all-yes 11 _ _ (room .1) tt in
+    let long = all-yes 11 _ _ (block .1) tt in
+    let own = all-yes 12 fine _ (long .1) tt in
+    record {
+      frame-room = leb-true longestFrame (c .room) (room .0);
+      block-room = block .0;
+      page-long = leb-true pageSize (length page) (long .0);
+      is-fine = own .0;
+      goes = all-yes 15 _ _ (own .1) tt .0;
+    }
 
 accepted-by : (n : ℕ) (o : Outcome Step) → numberOf (refusing n o) ≡ 0 → n ≡ 0
 unfolding refusing numberOf
 accepted-by zero o z = refl
 accepted-by (suc n) o z = absurd (omega arith)
 
-pub passes : (fine : Bool) (e : abstract.Endpoint) (c : Arguments) → numberOf (asked fine e c) ≡ 0 → Passes fine c
+pub passes : (fine : Bool) (page : List ℕ) (e : abstract.Endpoint) (c : Arguments) → numberOf (asked fine page e c) ≡ 0 → Passes fine (e .local) page c
 unfolding asked
-passes fine e c h =
-    let k = accepted-by (first (ownQuestions fine c)) _ h in
-    let room = all-yes 11 _ _ k tt in
-    let block = all-yes 11 _ _ (room .1) tt in
-    record { frame-room = leb-true longestFrame (c .room) (room .0); block-room = block .0; is-fine = all-yes 12 fine _ (block .1) tt .0 }
+passes fine page e c h = all-passed fine (e .local) page c (accepted-by (first (ownQuestions fine (e .local) page c)) _ h)
+
+-- the questions of a restart, 11 and 15, and what follows them
+module _ (page : List ℕ) where
+  pub restarts-short : length page < pageSize → restarting page ≡ refused 11
+  unfolding restarting refusing first when
+  restarts-short k = rw (lt-leb pageSize (length page) k) refl
+
+  module _ (l : pageSize ≤ length page) where
+    pub restarts-wrong : runs page ≡ false → restarting page ≡ refused 15
+    unfolding restarting refusing first when
+    restarts-wrong k = rw (le-leb pageSize (length page) l, k) refl
+
+    pub restarts : runs page ≡ true → restarting page ≡ ok (quiet (restarted (count page)) none)
+    unfolding restarting refusing first when
+    restarts k = rw (le-leb pageSize (length page) l, k) refl

@@ -1,10 +1,10 @@
--- The step by value: what it answers, and what it leaves in the buffers for a frame and for a block.
+-- The step by value: what it answers, and what it leaves of the page and in the buffers for a frame and for a block.
 use Prim.Native.Nat.{ℕ}
 use mathlib.Core.Path.{_≡_}
 use mathlib.Core.List.{List}
 use lib.ListN.{length}
 use Rattle.octets.specs.Test.{Outcome, refused, ok}
-use Rattle.call_spec.specs.Calls.{Arguments, asked, wire, bufferAfter}
+use Rattle.call_spec.specs.Calls.{Arguments, asked, wire, bufferAfter, pageAfter}
 use Rattle.protocol.specs.Table.{noticeNumber, Step}
 use Rattle.call_spec.specs.Answers.{blockIn, blockOf, blockPart, blockBufferAfter}
 use Rattle.endpoint.specs.declared.Endpoint.{Endpoint}
@@ -12,9 +12,9 @@ use Rattle.endpoint_step.specs.declared.StepAnswer.{StepAnswer}
 use Rattle.endpoint.specs.View.{pack, view}
 use Rattle.endpoint.specs.Sound.{sound}
 
--- what a call of the endpoint e comes to
-unfoldable pub outcomeOf : Endpoint → Arguments → Outcome Step
-outcomeOf e c = asked (sound e) (view e) c
+-- what a call of the endpoint e with this page comes to
+unfoldable pub outcomeOf : Endpoint → List ℕ → Arguments → Outcome Step
+outcomeOf e page c = asked (sound e) page (view e) c
 
 -- what it answers: a refusal leaves the record, with no notice, no frame and no block
 unfoldable pub stepAnswerOf : Endpoint → Outcome Step → StepAnswer
@@ -28,9 +28,10 @@ stepAnswerOf e (ok x) =
       block = length (blockIn (x .notice));
     }
 
--- What a call of e answers, and what it leaves of the buffers out and up; where the block handed up stands.
-pub record Advances (e : Endpoint) (c : Arguments) (out up out′ up′ : List ℕ) (r : StepAnswer) : Type 0 where
-  pub answer : r ≡ stepAnswerOf e (outcomeOf e c)
-  pub octets : out′ ≡ bufferAfter out (outcomeOf e c)
-  pub block-octets : up′ ≡ blockBufferAfter (c .call) up (outcomeOf e c)
-  pub block : blockPart (c .call) (c .octets) up′ (r .block) ≡ blockOf (outcomeOf e c)
+-- What a call of e answers, and what it leaves of the page and of the buffers out and up; where the block handed up stands.
+pub record Advances (e : Endpoint) (page : List ℕ) (c : Arguments) (out up page′ out′ up′ : List ℕ) (r : StepAnswer) : Type 0 where
+  pub answer : r ≡ stepAnswerOf e (outcomeOf e page c)
+  pub page-octets : page′ ≡ pageAfter page (outcomeOf e page c)
+  pub octets : out′ ≡ bufferAfter out (outcomeOf e page c)
+  pub block-octets : up′ ≡ blockBufferAfter (c .call) up (outcomeOf e page c)
+  pub block : blockPart (c .call) (c .octets) up′ (r .block) ≡ blockOf (outcomeOf e page c)

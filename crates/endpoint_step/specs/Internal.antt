@@ -4,7 +4,8 @@ use mathlib.Core.Path.{_≡_}
 use mathlib.Core.Bool.{true}
 use mathlib.Core.List.{List, [], _∷_, _++_}
 use lib.ListN.{length, getD, drop, replicate}
-use Rattle.octets.specs.Sizes.{longestFrame, longestBlock, queueSize}
+use Rattle.octets.specs.Sizes.{longestFrame, longestBlock, queueSize, pageSize}
+use Rattle.page.specs.Page.{goesWith}
 use Rattle.octets.specs.Octets.{put}
 use Rattle.frame.specs.Frame.{Block}
 use Rattle.frame.specs.Layout.{sendBlockAt, dataBlockAt}
@@ -27,15 +28,17 @@ joinsQueue p s = joinedBy (p .queue) sendBlockAt s
 abbrev pub joinsHeld : Plan → List ℕ → Block
 joinsHeld p s = joinedBy (p .held) dataBlockAt s
 
--- p is the plan of a call of the record e
-abbrev pub Plans : Endpoint → Arguments → Plan → Type 0
-Plans e c p =
+-- p is the plan of a call of the record e with this page
+abbrev pub Plans : Endpoint → List ℕ → Arguments → Plan → Type 0
+Plans e page c p =
     Comes (numbersOf e) (view e .queue) (view e .held) (joinsQueue p (c .octets)) (joinsHeld p (c .octets)) (placeBlock (e .lengths) (e .blocks) 0)
-    (outcomeOf e c) p
+    (outcomeOf e page c) p
 
--- and of every call of e with these octets and room enough
+-- and of every call of e with these octets, room enough, and a page that goes with it
 abbrev pub PlansAny : Endpoint → Call → List ℕ → Plan → Type 0
-PlansAny e c s p = (room : Rooms) → longestFrame ≤ room .frame → blockRoomOk c (room .block) ≡ true → Plans e (given c s room) p
+PlansAny e c s p =
+    (page : List ℕ) (room : Rooms) → longestFrame ≤ room .frame → blockRoomOk c (room .block) ≡ true → pageSize ≤ length page → goesWith (e .local) page ≡ true
+    → Plans e page (given c s room) p
 
 -- eight places of so many octets, and as many of zeros after them
 abbrev pub followed : ℕ → List ℕ → List ℕ

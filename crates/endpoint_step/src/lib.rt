@@ -11,14 +11,15 @@ ghost use mathlib.Core.List.{_++_};
 ghost use Prim.Native.Nat.{_+_, _*_, _≤_, _<_};
 ghost use lib.ListN.{length, getD, take, drop, replicate};
 ghost use Rattle.octets.specs.Sizes.{longestFrame, longestBlock, queueSize, heldSize, lastNumber};
+ghost use Rattle.octets.specs.Test.{refused};
 ghost use Rattle.octets.specs.Octets.{put};
 ghost use Rattle.call_spec.specs.declared.Call.the-variants.{Request};
 ghost use Rattle.frame.specs.Layout.{sendBlockAt, dataBlockAt};
-ghost use Rattle.call_spec.specs.Calls.{given, rooms, does, blockRoomOk};
+ghost use Rattle.call_spec.specs.Calls.{given, rooms, does, blockRoomOk, restarting};
 ghost use Rattle.step_plan.specs.Internal.{blockBy, blockOut, sentBy, Planned, Sends};
 ghost use Rattle.endpoint.specs.View.{placesSize, placeBlock};
 ghost use Rattle.endpoint.specs.Internal.{recordOf};
-ghost use Rattle.endpoint_step.specs.Calls.{Advances};
+ghost use Rattle.endpoint_step.specs.Calls.{stepAnswerOf, Advances};
 ghost use Rattle.endpoint_step.specs.Internal.{Plans, followed, placesAfter, PlaceFor, blockFrom, Handy, HandsUp, Fits, carried};
 
 // Question 11 of the buffer for a block, which is lent to the calls that make requests.
@@ -31,7 +32,7 @@ pub fn block_room_ok(call: Call, room: usize) -> bool
     }
 }
 
-// The plan of a call where 11 and 12 are passed, of a record of these numbers, whose held blocks have these lengths: s has the octets of a
+// The plan of a call where 11, 12 and 15 are passed, of a record of these numbers, whose held blocks have these lengths: s has the octets of a
 // request or of a frame.
 pub fn plan_sound(call: Call, n: Numbers, held: &[u8], s: &[u8]) -> Plan
     requires { ⌜ (n .waiting ≤ n .accepted) × ((length (now held) ≡ heldSize) × (1 ≤ getD (now held) 0 0 → n .delivered < lastNumber)) ⌝ }
@@ -43,8 +44,8 @@ pub fn plan_sound(call: Call, n: Numbers, held: &[u8], s: &[u8]) -> Plan
     }
 }
 
-// The plan of a call of the record of these numbers, lengths and blocks: s has the octets of a request or of a frame, room and block_room
-// are the lengths of the buffers for a frame out and for a block. 11 and 12 come first.
+// The plan of a call of the record of these numbers, lengths and blocks, with this page: s has the octets of a request or of a frame, room and
+// block_room are the lengths of the buffers for a frame out and for a block. 11, 12 and 15 come first. Nothing is stored.
 pub fn plan_call<'a>(
     call: Call,
     n: Numbers,
@@ -52,12 +53,13 @@ pub fn plan_call<'a>(
     blocks: &'a [u8],
     held_lengths: &'a [u8],
     held_blocks: &'a [u8],
+    page: &[u8],
     s: &[u8],
     room: usize,
     block_room: usize,
 ) -> Plan
     requires { ⌜ ((length (now blocks) ≡ placesSize) × (length (now lengths) ≡ queueSize)) × ((length (now «held_blocks») ≡ placesSize) × (length (now «held_lengths») ≡ heldSize)) ⌝ }
-    ensures { λ r. ⌜ Plans (recordOf n (now (lengths .entry)) (now (blocks .entry)) (now («held_lengths» .entry)) (now («held_blocks» .entry))) (given call (now (s .entry)) (rooms room «block_room»)) r ⌝ }
+    ensures { λ r. ⌜ Plans (recordOf n (now (lengths .entry)) (now (blocks .entry)) (now («held_lengths» .entry)) (now («held_blocks» .entry))) (now (page .entry)) (given call (now (s .entry)) (rooms room «block_room»)) r ⌝ }
 {
     if room < Endpoint::LONGEST_FRAME {
         return step_plan::refuse(n, refusal::SHORT_BUFFER);
@@ -65,8 +67,14 @@ pub fn plan_call<'a>(
     if !block_room_ok(call, block_room) {
         return step_plan::refuse(n, refusal::SHORT_BUFFER);
     }
+    if page.len() < octets::PAGE_SIZE {
+        return step_plan::refuse(n, refusal::SHORT_BUFFER);
+    }
     if !endpoint::is_sound(n, lengths, blocks, held_lengths, held_blocks) {
         return step_plan::refuse(n, refusal::UNSOUND);
+    }
+    if !page::goes_with(n.local, page) {
+        return step_plan::refuse(n, refusal::WRONG_PAGE);
     }
     plan_sound(call, n, held_lengths, s)
 }
@@ -205,10 +213,30 @@ pub struct StepAnswer {
     pub block: usize,
 }
 
-// A request, the timer call among them, or receiving, by value: s has the octets of the request or of the frame, out room for a frame, up
-// room for a block, which receiving does not need.
-pub fn step(call: Call, e: Endpoint, s: &[u8], out: &mut [u8], up: &mut [u8]) -> StepAnswer
-    ensures { λ r. ⌜ Advances e (given call (now (s .entry)) (rooms (length (now (out .entry))) (length (now (up .entry))))) (now (out .entry)) (now (up .entry)) (now (out .exit)) (now (up .exit)) r ⌝ }
+// A refusal by this number leaves the record.
+fn unchanged(e: Endpoint, number: u8) -> StepAnswer
+    ensures { λ r. ⌜ r ≡ stepAnswerOf e (refused number) ⌝ }
+{
+    StepAnswer {
+        number,
+        endpoint: e,
+        notice: step_plan::NONE,
+        sent: 0,
+        block: 0,
+    }
+}
+
+// A request, the timer call among them, or receiving, by value: page is the end's page, s has the octets of the request or of the frame, out
+// room for a frame, up room for a block, which receiving does not need. The page's one store comes before every other.
+pub fn step(
+    call: Call,
+    e: Endpoint,
+    page: &mut [u8],
+    s: &[u8],
+    out: &mut [u8],
+    up: &mut [u8],
+) -> StepAnswer
+    ensures { λ r. ⌜ Advances e (now (page .entry)) (given call (now (s .entry)) (rooms (length (now (out .entry))) (length (now (up .entry))))) (now (out .entry)) (now (up .entry)) (now (page .exit)) (now (out .exit)) (now (up .exit)) r ⌝ }
 {
     let n = endpoint::numbers_of(e);
     let p = plan_call(
@@ -218,19 +246,15 @@ pub fn step(call: Call, e: Endpoint, s: &[u8], out: &mut [u8], up: &mut [u8]) ->
         &e.blocks,
         &e.held_lengths,
         &e.held_blocks,
+        page,
         s,
         out.len(),
         up.len(),
     );
     if p.number != step_plan::ACCEPTED {
-        return StepAnswer {
-            number: p.number,
-            endpoint: e,
-            notice: step_plan::NONE,
-            sent: 0,
-            block: 0,
-        };
+        return unchanged(e, p.number);
     }
+    page::reserve(p.numbers.local, page);
     let queue = p.queue;
     let joined = step_plan::joined(queue, frame::SEND_BLOCK_AT, s);
     let sent = send(p, joined, &e.lengths, &e.blocks, out);
@@ -244,5 +268,24 @@ pub fn step(call: Call, e: Endpoint, s: &[u8], out: &mut [u8], up: &mut [u8]) ->
         notice: p.notice,
         sent,
         block,
+    }
+}
+
+// A restart by value: it looks at the page alone. A refusal gives back the record that it was to replace.
+pub fn restart(e: Endpoint, page: &[u8]) -> StepAnswer
+    ensures { λ r. ⌜ r ≡ stepAnswerOf e (restarting (now (page .entry))) ⌝ }
+{
+    if page.len() < octets::PAGE_SIZE {
+        return unchanged(e, refusal::SHORT_BUFFER);
+    }
+    if !page::is_run(page) {
+        return unchanged(e, refusal::WRONG_PAGE);
+    }
+    StepAnswer {
+        number: step_plan::ACCEPTED,
+        endpoint: Endpoint::restarted(page::count_used(page)),
+        notice: step_plan::NONE,
+        sent: 0,
+        block: 0,
     }
 }
