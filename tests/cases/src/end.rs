@@ -11,75 +11,115 @@ pub use implementation::{End, Reply};
 use crate::alter::alter;
 use crate::coverage::Coverage;
 use crate::group::{Group, Score};
+use crate::pages::Seen;
 use crate::random::Random;
 use crate::records::{any, is_of_a_block, sound};
-use crate::{near, sample};
+use crate::{near, pages, sample};
 use call::{Buffers, Call};
+use reference::page::PAGE;
 use reference::record::RECORD;
 use reference::request::TIMER;
 
-const FRESH: usize = 2_000;
+const RESTARTS: usize = 10_000;
 const REQUESTS: usize = 50_000;
 const FRAMES: usize = 100_000;
 
-/// Compares the generated calls, so many rounds of them, and reports them.
-pub fn compare<E: End>(rounds: usize) -> Score {
-    let mut coverage = Coverage::default();
-    let groups = [
-        fresh::<E>(rounds),
-        requests::<E>(rounds, &mut coverage),
-        frames::<E>(rounds, &mut coverage),
-        every_byte::<E>(),
-    ];
-    let calls = groups.iter().map(Group::report).sum();
-    let steps = coverage.report();
-    [calls, steps].into_iter().sum()
+/// What the calls met.
+struct Met {
+    /// The steps that they made.
+    steps: Coverage,
+    /// The pages that they were lent.
+    pages: Seen,
 }
 
-/// Records of any content and length are made fresh.
-fn fresh<E: End>(rounds: usize) -> Group {
-    let mut group = Group::new("fresh ends", &[0, 11]);
+impl Default for Met {
+    /// No call was made yet.
+    fn default() -> Self {
+        let calls = [
+            pages::Call::Restart,
+            pages::Call::Request,
+            pages::Call::Receive,
+        ];
+        Self {
+            steps: Coverage::default(),
+            pages: Seen::new(&calls),
+        }
+    }
+}
+
+/// Compares the generated calls, so many rounds of them, and reports them.
+pub fn compare<E: End>(rounds: usize) -> Score {
+    let mut met = Met::default();
+    let groups = [
+        restarts::<E>(rounds, &mut met),
+        requests::<E>(rounds, &mut met),
+        frames::<E>(rounds, &mut met),
+        every_byte::<E>(),
+        every_page_byte::<E>(),
+    ];
+    let calls = groups.iter().map(Group::report).sum();
+    let met = [met.steps.report(), met.pages.report()];
+    [calls].into_iter().chain(met).sum()
+}
+
+/// Ends with records of any content restart with pages of all sorts.
+fn restarts<E: End>(rounds: usize, met: &mut Met) -> Group {
+    let mut group = Group::new("restarts", &[0, 11, 15]);
     let mut random = Random::new(30);
-    for _ in 0..rounds * FRESH {
+    for _ in 0..rounds * RESTARTS {
         let record = any(&mut random);
-        let buffers = Buffers::any(&mut random, &record, &[]);
-        Call::Fresh.compare::<E>(&mut group, &buffers);
+        let page = pages::any(&mut random, &record);
+        let buffers = Buffers::any(&mut random, &record, &page, &[]);
+        let number = Call::Restart.compare::<E>(&mut group, &buffers);
+        let call = pages::Call::Restart;
+        met.pages.see(call, number, &record, &page);
     }
     group
 }
 
 /// Requests of ends with all sorts of records.
-fn requests<E: End>(rounds: usize, coverage: &mut Coverage) -> Group {
-    let mut group = Group::new("requests", &[0, 3, 4, 5, 6, 8, 9, 10, 11, 12]);
+fn requests<E: End>(rounds: usize, met: &mut Met) -> Group {
+    let mut group = Group::new("requests", &[0, 3, 4, 5, 6, 8, 9, 10, 11, 12, 15]);
     let mut random = Random::new(31);
     for _ in 0..rounds * REQUESTS {
         let record = any(&mut random);
+        let page = pages::any(&mut random, &record);
         let request = message(&mut random, &record, near::request, near::frame);
-        let buffers = Buffers::any(&mut random, &record, &request);
+        let buffers = Buffers::any(&mut random, &record, &page, &request);
         let number = Call::Request.compare::<E>(&mut group, &buffers);
-        see(coverage, number, &record, &request);
+        let call = pages::Call::Request;
+        met.pages.see(call, number, &record, &page);
+        if makes_step(number) {
+            met.steps.see(&record, &request);
+            met.pages.see_request(&record, &request);
+        }
     }
     group
 }
 
 /// Frames that reach ends with all sorts of records.
-fn frames<E: End>(rounds: usize, coverage: &mut Coverage) -> Group {
-    let mut group = Group::new("frames", &[0, 3, 4, 5, 6, 7, 11, 12]);
+fn frames<E: End>(rounds: usize, met: &mut Met) -> Group {
+    let mut group = Group::new("frames", &[0, 3, 4, 5, 6, 7, 11, 12, 15]);
     let mut random = Random::new(32);
     for _ in 0..rounds * FRAMES {
         let record = any(&mut random);
+        let page = pages::any(&mut random, &record);
         let frame = message(&mut random, &record, near::frame, near::request);
-        let buffers = Buffers::any(&mut random, &record, &frame);
+        let buffers = Buffers::any(&mut random, &record, &page, &frame);
         let number = Call::Receive.compare::<E>(&mut group, &buffers);
-        see(coverage, number, &record, &frame);
+        let call = pages::Call::Receive;
+        met.pages.see(call, number, &record, &page);
+        if makes_step(number) {
+            met.steps.see(&record, &frame);
+        }
     }
     group
 }
 
 /// Sound records with one byte altered: every value in the numbers and lengths, some values in the
-/// blocks.
+/// blocks. Their pages are right for what they were, or for what they are.
 fn every_byte<E: End>() -> Group {
-    let mut group = Group::new("records with one byte altered", &[0, 12]);
+    let mut group = Group::new("records with one byte altered", &[0, 12, 15]);
     let mut random = Random::new(33);
     let values = |place| match is_of_a_block(place) {
         true => vec![0, 1, 128, 255],
@@ -88,9 +128,28 @@ fn every_byte<E: End>() -> Group {
     for place in 0..RECORD {
         for byte in values(place) {
             let mut record = sound(&mut random);
+            let before = pages::right(&record);
             record[place] = byte;
-            let buffers = Buffers::exact(&mut random, &record, &[TIMER]);
+            let page = random.pick(&[before, pages::right(&record)]);
+            let buffers = Buffers::exact(&mut random, &record, &page, &[TIMER]);
             Call::Request.compare::<E>(&mut group, &buffers);
+        }
+    }
+    group
+}
+
+/// Right pages with one byte altered, in every place.
+fn every_page_byte<E: End>() -> Group {
+    let mut group = Group::new("pages with one byte altered", &[0, 15]);
+    let mut random = Random::new(34);
+    for place in 0..PAGE {
+        for byte in [0x00, 0x01, 0x80, 0xfe, 0xff] {
+            let record = sound(&mut random);
+            let mut page = pages::right(&record);
+            page[place] = byte;
+            let buffers = Buffers::exact(&mut random, &record, &page, &[TIMER]);
+            Call::Request.compare::<E>(&mut group, &buffers);
+            Call::Restart.compare::<E>(&mut group, &buffers);
         }
     }
     group
@@ -120,9 +179,7 @@ fn edges(random: &mut Random) -> [u32; 3] {
     [(); 3].map(|()| random.pick(&sample::EDGES))
 }
 
-/// A call that answered this number made a step, if its buffers and record were right.
-fn see(coverage: &mut Coverage, number: u8, record: &[u8], message: &[u8]) {
-    if !matches!(number, 11 | 12) {
-        coverage.see(record, message);
-    }
+/// Did a call that answered this number make a step, if its message was right?
+pub fn makes_step(number: u8) -> bool {
+    !matches!(number, 11 | 12 | 15)
 }

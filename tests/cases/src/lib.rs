@@ -9,6 +9,7 @@ pub mod group;
 pub mod guarded;
 pub mod hex;
 pub mod near;
+pub mod pages;
 pub mod random;
 pub mod records;
 pub mod sample;

@@ -11,8 +11,11 @@ use reference::frame::LONGEST_FRAME;
 use reference::record::RECORD;
 use reference::State::{Calling, Closed, Listening};
 
+/// A call on a record and a page; gives its number.
+type Call = fn(&mut [u8], &mut [u8]) -> u8;
+
 /// Each call that is lent a page.
-const CALLS: [fn(&mut [u8], &mut [u8]) -> u8; 5] = [
+const CALLS: [Call; 5] = [
     |record, page| timed(record, page),
     |record, page| called(record, page),
     |record, page| call::standing(record, page).number,
