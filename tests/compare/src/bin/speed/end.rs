@@ -131,9 +131,9 @@ pub fn measure(measure: &mut impl Measure) {
         compare(measure, name, record, frame, RECEIVE);
     }
     for (name, record, kind) in [
-        ("closed: connect that reserves the first byte", fresh, 0x40),
-        ("closed: connect that reserves none", closed, 0x40),
-        ("closed: connect that reserves a middle byte", half, 0x40),
+        ("closed: connect, first byte reserved", fresh, 0x40),
+        ("closed: connect, none reserved", closed, 0x40),
+        ("closed: connect, middle byte reserved", half, 0x40),
         ("closed: connect with the last number", last, 0x40),
         ("closed: connect refused by 9", used_up, 0x40),
         ("calling: close with D = 0", calling, 0x43),
