@@ -20,7 +20,7 @@ const RESTARTED: usize = 8;
 /// So many lines has each session with faults whose book is not filled.
 const LINES: usize = 800;
 /// So many steps of the step table are met at least. Others need frames that no end sends.
-const STEPS: usize = 247;
+const STEPS: usize = 249;
 /// So many sorts of frames come after a hang-up. No end sends others.
 const LATE: usize = 29;
 
