@@ -10,9 +10,8 @@ mod tests;
 pub use implementation::{Bench, Lent, Named, Reply, Shown};
 pub use scene::deliver;
 
-use crate::coverage::Coverage;
-use crate::end::makes_step;
 use crate::group::{Group, Score};
+use crate::met::{makes_step, Met};
 use crate::pages::{self, Role, Seen};
 use crate::random::Random;
 use call::Buffers;
@@ -31,37 +30,22 @@ const RESTARTS: usize = 40;
 const ASKED: usize = 100;
 const QUESTIONS: usize = 3;
 
-/// What the calls met.
-struct Met {
-    /// The steps that they made.
-    steps: Coverage,
-    /// The pages that they were lent.
-    pages: Seen,
-}
-
-impl Default for Met {
-    /// No call was made yet.
-    fn default() -> Self {
-        let roles = [Role::Restarted, Role::Beside, Role::Asked];
-        let calls = [
-            roles.map(pages::Call::Line),
-            roles.map(pages::Call::LineWithFullBook),
-        ];
-        let calls = [calls.as_flattened(), &[pages::Call::Question]].concat();
-        Self {
-            steps: Coverage::default(),
-            pages: Seen::new(&calls),
-        }
-    }
+/// Nothing is met yet by the calls of a bench.
+fn nothing_met() -> Met {
+    let roles = [Role::Restarted, Role::Beside, Role::Asked];
+    let lines = [
+        roles.map(pages::Call::Line),
+        roles.map(pages::Call::LineWithFullBook),
+    ];
+    Met::new(&[lines.as_flattened(), &[pages::Call::Question]].concat())
 }
 
 /// Compares the generated calls, so many rounds of more than 10,000, and reports them. Eight
 /// rounds make every step.
 pub fn compare<B: Bench>(rounds: usize) -> Score {
-    let mut met = Met::default();
+    let mut met = nothing_met();
     let calls = calls::<B>(rounds, &mut met);
-    let met = [met.steps.report(), met.pages.report()];
-    [calls].into_iter().chain(met).sum()
+    [calls, met.report()].into_iter().sum()
 }
 
 /// As `compare`, without a report of what the calls met, which is noted.
@@ -136,9 +120,9 @@ fn meet<B: Bench>(
 ) {
     let buffers = Buffers::any(random, scene, line);
     let number = buffers.compare_line::<B>(group);
-    met.see_pages(number, scene, line);
+    see_pages(&mut met.pages, number, scene, line);
     if makes_step(number) {
-        met.see_step(scene, line);
+        see_step(met, scene, line);
     }
 }
 
@@ -165,32 +149,29 @@ fn questions<B: Bench>(rounds: usize, met: &mut Met) -> [Group; 2] {
     groups
 }
 
-impl Met {
-    /// A line that answered this number met the pages of this scene.
-    fn see_pages(&mut self, number: u8, scene: &Scene, line: &[u8]) {
-        let restarted = restarted(line);
-        for side in Side::BOTH {
-            let role = match restarted {
-                Some(end) if end == side => Role::Restarted,
-                Some(_) => Role::Beside,
-                None => Role::Asked,
-            };
-            let call = match scene.count {
-                book::PLACES => pages::Call::LineWithFullBook(role),
-                _ => pages::Call::Line(role),
-            };
-            let end = side.index();
-            let (record, page) = (&scene.records[end], &scene.pages[end]);
-            self.pages.see(call, number, record, page);
-        }
+/// A line that answered this number met the pages of this scene.
+fn see_pages(pages: &mut Seen, number: u8, scene: &Scene, line: &[u8]) {
+    let restarted = restarted(line);
+    for side in Side::BOTH {
+        let role = match restarted {
+            Some(end) if end == side => Role::Restarted,
+            Some(_) => Role::Beside,
+            None => Role::Asked,
+        };
+        let call = match scene.count {
+            book::PLACES => pages::Call::LineWithFullBook(role),
+            _ => pages::Call::Line(role),
+        };
+        let end = side.index();
+        pages.see(call, number, &scene.records[end], &scene.pages[end]);
     }
+}
 
-    /// Notes the step that this line makes, if it makes one.
-    fn see_step(&mut self, scene: &Scene, line: &[u8]) {
-        if let Some((side, message)) = meeting(scene.used(), line) {
-            let record = &scene.records[side.index()];
-            self.steps.see(record, &message);
-            self.pages.see_request(record, &message);
-        }
+/// Notes the step that this line makes, if it makes one.
+fn see_step(met: &mut Met, scene: &Scene, line: &[u8]) {
+    if let Some((side, message)) = meeting(scene.used(), line) {
+        let record = &scene.records[side.index()];
+        met.steps.see(record, &message);
+        met.pages.see_request(record, &message);
     }
 }

@@ -9,9 +9,8 @@ mod tests;
 pub use implementation::{End, Reply};
 
 use crate::alter::alter;
-use crate::coverage::Coverage;
 use crate::group::{Group, Score};
-use crate::pages::Seen;
+use crate::met::{makes_step, Met};
 use crate::random::Random;
 use crate::records::{any, is_of_a_block, sound};
 use crate::{near, pages, sample};
@@ -24,32 +23,18 @@ const RESTARTS: usize = 10_000;
 const REQUESTS: usize = 50_000;
 const FRAMES: usize = 100_000;
 
-/// What the calls met.
-struct Met {
-    /// The steps that they made.
-    steps: Coverage,
-    /// The pages that they were lent.
-    pages: Seen,
-}
-
-impl Default for Met {
-    /// No call was made yet.
-    fn default() -> Self {
-        let calls = [
-            pages::Call::Restart,
-            pages::Call::Request,
-            pages::Call::Receive,
-        ];
-        Self {
-            steps: Coverage::default(),
-            pages: Seen::new(&calls),
-        }
-    }
+/// Nothing is met yet by the calls of an end.
+fn nothing_met() -> Met {
+    Met::new(&[
+        pages::Call::Restart,
+        pages::Call::Request,
+        pages::Call::Receive,
+    ])
 }
 
 /// Compares the generated calls, so many rounds of them, and reports them.
 pub fn compare<E: End>(rounds: usize) -> Score {
-    let mut met = Met::default();
+    let mut met = nothing_met();
     let groups = [
         restarts::<E>(rounds, &mut met),
         requests::<E>(rounds, &mut met),
@@ -58,8 +43,7 @@ pub fn compare<E: End>(rounds: usize) -> Score {
         every_page_byte::<E>(),
     ];
     let calls = groups.iter().map(Group::report).sum();
-    let met = [met.steps.report(), met.pages.report()];
-    [calls].into_iter().chain(met).sum()
+    [calls, met.report()].into_iter().sum()
 }
 
 /// Ends with records of any content restart with pages of all sorts.
@@ -177,9 +161,4 @@ fn message(random: &mut Random, record: &[u8; RECORD], mostly: Maker, seldom: Ma
 /// Three numbers at the edges.
 fn edges(random: &mut Random) -> [u32; 3] {
     [(); 3].map(|()| random.pick(&sample::EDGES))
-}
-
-/// Did a call that answered this number make a step, if its message was right?
-pub fn makes_step(number: u8) -> bool {
-    !matches!(number, 11 | 12 | 15)
 }

@@ -8,6 +8,7 @@ pub mod end;
 pub mod group;
 pub mod guarded;
 pub mod hex;
+mod met;
 pub mod near;
 pub mod pages;
 pub mod random;

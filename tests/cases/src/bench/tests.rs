@@ -4,7 +4,7 @@ mod hanging_up;
 mod held;
 mod restart;
 
-use super::{calls, compare, lines, questions, Bench, Lent, Met, Named, Reply, Shown};
+use super::{calls, compare, lines, nothing_met, questions, Bench, Lent, Named, Reply, Shown};
 use crate::group::Group;
 use crate::records::{self, HELD_LENGTHS};
 use crate::{pages, Reference};
@@ -130,17 +130,17 @@ fn the_reference_equals_itself_and_keeps_its_promises() {
 
 /// How many calls of one round fail.
 fn failed<B: Bench>() -> u64 {
-    calls::<B>(1, &mut Met::default()).failed
+    calls::<B>(1, &mut nothing_met()).failed
 }
 
 /// How many lines of four rounds fail: a fault that few lines show needs more of them.
 fn failed_lines<B: Bench>() -> u64 {
-    lines::<B>(4, &mut Met::default()).report().failed
+    lines::<B>(4, &mut nothing_met()).report().failed
 }
 
 /// How many questions of four rounds fail.
 fn failed_questions<B: Bench>() -> u64 {
-    let groups = questions::<B>(4, &mut Met::default());
+    let groups = questions::<B>(4, &mut nothing_met());
     groups
         .iter()
         .map(Group::report)

@@ -5,7 +5,7 @@ mod held;
 mod page;
 mod rejection;
 
-use super::{compare, frames, requests, End, Met, Reply};
+use super::{compare, frames, nothing_met, requests, End, Reply};
 use crate::Reference;
 use reference::frame::LONGEST_FRAME;
 use reference::record::{Record, RECORD};
@@ -89,13 +89,13 @@ fn the_reference_equals_itself_and_keeps_its_promises() {
 
 /// How many requests of an implementation fail.
 fn failed_requests<E: End>() -> u64 {
-    let group = requests::<E>(1, &mut Met::default());
+    let group = requests::<E>(1, &mut nothing_met());
     group.report().failed
 }
 
 /// How many frames of an implementation fail.
 fn failed_frames<E: End>() -> u64 {
-    let group = frames::<E>(1, &mut Met::default());
+    let group = frames::<E>(1, &mut nothing_met());
     group.report().failed
 }
 

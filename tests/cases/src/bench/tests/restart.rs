@@ -1,8 +1,8 @@
 //! What is wrong about restarts and pages on a bench is found.
 
-use super::super::{restarted, restarts};
+use super::super::{nothing_met, restarted, restarts};
 use super::{failed, failed_lines, failed_questions};
-use crate::bench::{Bench, Lent, Met, Named, Reply, Shown};
+use crate::bench::{Bench, Lent, Named, Reply, Shown};
 use crate::pages;
 use crate::Reference;
 use reference::bench::book::PLACES;
@@ -12,7 +12,7 @@ use reference::record::{ask_sound, RECORD};
 
 /// How many lines of a round that restart or nearly do fail.
 fn failed_restarts<B: Bench>() -> u64 {
-    restarts::<B>(1, &mut Met::default()).report().failed
+    restarts::<B>(1, &mut nothing_met()).report().failed
 }
 
 /// The reference, whose faults have to do with a line 53.

@@ -1,6 +1,6 @@
 //! What is wrong about pages and restarts is found.
 
-use super::super::{restarts, End, Met, Reply};
+use super::super::{nothing_met, restarts, End, Reply};
 use super::{failed_frames, failed_requests};
 use crate::pages::{self, Sort};
 use crate::records::Numbers;
@@ -10,7 +10,7 @@ use reference::record::RECORD;
 
 /// How many restarts of an implementation fail.
 fn failed_restarts<E: End>() -> u64 {
-    restarts::<E>(1, &mut Met::default()).report().failed
+    restarts::<E>(1, &mut nothing_met()).report().failed
 }
 
 /// The reference that takes pages of this sort for right, in every call.
