@@ -84,23 +84,26 @@ impl Sort {
 
     /// How this page stands beside this L.
     pub fn of(page: &[u8; PAGE], local: u32) -> Self {
-        let count = reserved(page);
-        let rest = &page[count..];
-        let right = page::reserved(local);
-        if rest.iter().any(|byte| !matches!(byte, 0x00 | 0xff)) {
-            Self::OtherByte
-        } else if rest.contains(&0x00) {
-            Self::Gap
-        } else if local > LAST_NUMBER {
-            Self::NumberTooHigh
-        } else if count == right {
-            Self::Right
-        } else if count + 1 == right {
-            Self::OneTooFew
-        } else if count == right + 1 {
-            Self::OneTooMany
-        } else {
-            Self::OtherCount
+        let count = page.partition_point(|&byte| byte == 0x00);
+        if page != page::of(count) {
+            return Self::of_no_run(page);
+        }
+        if local > LAST_NUMBER {
+            return Self::NumberTooHigh;
+        }
+        match count as i64 - page::reserved(local) as i64 {
+            0 => Self::Right,
+            -1 => Self::OneTooFew,
+            1 => Self::OneTooMany,
+            _ => Self::OtherCount,
+        }
+    }
+
+    /// The sort of a page that is no run.
+    fn of_no_run(page: &[u8; PAGE]) -> Self {
+        match page.iter().any(|byte| !matches!(byte, 0x00 | 0xff)) {
+            true => Self::OtherByte,
+            false => Self::Gap,
         }
     }
 }
