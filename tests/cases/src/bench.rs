@@ -7,11 +7,12 @@ mod scene;
 #[cfg(test)]
 mod tests;
 
-pub use implementation::{Bench, Lent, Named, Reply};
+pub use implementation::{Bench, Lent, Named, Reply, Shown};
 pub use scene::deliver;
 
-use crate::coverage::Coverage;
 use crate::group::{Group, Score};
+use crate::met::{makes_step, Met};
+use crate::pages::{self, Role, Seen};
 use crate::random::Random;
 use call::Buffers;
 use reference::bench::book::{self, Place};
@@ -22,23 +23,38 @@ use scene::Scene;
 /// So many scenes meet lines in a round, and so many lines each.
 const SCENES: usize = 250;
 const LINES: usize = 40;
+/// So many scenes meet restarts in a round, and so many each.
+const RESTARTED: usize = 60;
+const RESTARTS: usize = 40;
 /// Of so many scenes the question is asked in a round, of each so often.
 const ASKED: usize = 100;
 const QUESTIONS: usize = 3;
 
+/// Nothing is met yet by the calls of a bench.
+fn nothing_met() -> Met {
+    let roles = [Role::Restarted, Role::Beside, Role::Asked];
+    let lines = [
+        roles.map(pages::Call::Line),
+        roles.map(pages::Call::LineWithFullBook),
+    ];
+    Met::new(&[lines.as_flattened(), &[pages::Call::Question]].concat())
+}
+
 /// Compares the generated calls, so many rounds of more than 10,000, and reports them. Eight
 /// rounds make every step.
 pub fn compare<B: Bench>(rounds: usize) -> Score {
-    let mut coverage = Coverage::default();
-    let calls = calls::<B>(rounds, &mut coverage);
-    [calls, coverage.report()].into_iter().sum()
+    let mut met = nothing_met();
+    let calls = calls::<B>(rounds, &mut met);
+    [calls, met.report()].into_iter().sum()
 }
 
-/// As `compare`, without a report of the steps, which are noted.
-fn calls<B: Bench>(rounds: usize, coverage: &mut Coverage) -> Score {
-    let lines = lines::<B>(rounds, coverage);
-    let [named, none] = questions::<B>(rounds);
-    [lines, named, none].iter().map(Group::report).sum()
+/// As `compare`, without a report of what the calls met, which is noted.
+fn calls<B: Bench>(rounds: usize, met: &mut Met) -> Score {
+    let lines = lines::<B>(rounds, met);
+    let restarts = restarts::<B>(rounds, met);
+    let [named, none] = questions::<B>(rounds, met);
+    let groups = [lines, restarts, named, none];
+    groups.iter().map(Group::report).sum()
 }
 
 /// The end that a bench with these places in use calls with this line, and the message for it.
@@ -50,33 +66,71 @@ pub fn meeting(used: &[Place], line: &[u8]) -> Option<(Side, Vec<u8>)> {
             let (sender, frame) = book::find(used, number).ok()?;
             Some((sender.other(), frame.to_vec()))
         }
+        Order::Restart(_) => None,
+    }
+}
+
+/// The end that this line restarts, if it does.
+pub fn restarted(line: &[u8]) -> Option<Side> {
+    let bytes = line::read(line).ok()?;
+    match Order::read(&bytes).ok()? {
+        Order::Restart(side) => Some(side),
+        _ => None,
     }
 }
 
 /// Lines of all sorts that benches of all sorts meet.
-fn lines<B: Bench>(rounds: usize, coverage: &mut Coverage) -> Group {
-    let expected = &[0, 1, 2, 3, 4, 5, 6, 7, 8, 9, 10, 11, 12, 13, 14];
+fn lines<B: Bench>(rounds: usize, met: &mut Met) -> Group {
+    let expected = &[0, 1, 2, 3, 4, 5, 6, 7, 8, 9, 10, 11, 12, 13, 14, 15];
     let mut group = Group::new("bench lines", expected);
     let mut random = Random::new(40);
     for _ in 0..rounds * SCENES {
         let scene = Scene::any(&mut random);
         for _ in 0..LINES {
             let line = scene.line(&mut random);
-            let buffers = Buffers::any(&mut random, &scene, &line);
-            let number = buffers.compare_line::<B>(&mut group);
-            if !matches!(number, 11 | 12) {
-                see(coverage, &scene, &line);
-            }
+            let scene = scene.damaged(&mut random, 12);
+            meet::<B>(&mut random, &mut group, met, &scene, &line);
         }
     }
     group
 }
 
+/// Lines that restart an end, or nearly do, on benches whose records and pages are often damaged.
+fn restarts<B: Bench>(rounds: usize, met: &mut Met) -> Group {
+    let mut group = Group::new("bench restarts", &[0, 1, 2, 3, 4, 11, 12, 15]);
+    let mut random = Random::new(42);
+    for _ in 0..rounds * RESTARTED {
+        let scene = Scene::any(&mut random);
+        for _ in 0..RESTARTS {
+            let line = scene::restart_line(&mut random);
+            let scene = scene.damaged(&mut random, 2);
+            meet::<B>(&mut random, &mut group, met, &scene, &line);
+        }
+    }
+    group
+}
+
+/// This scene meets this line.
+fn meet<B: Bench>(
+    random: &mut Random,
+    group: &mut Group,
+    met: &mut Met,
+    scene: &Scene,
+    line: &[u8],
+) {
+    let buffers = Buffers::any(random, scene, line);
+    let number = buffers.compare_line::<B>(group);
+    see_pages(&mut met.pages, number, scene, line);
+    if makes_step(number) {
+        see_step(met, scene, line);
+    }
+}
+
 /// The question, asked where there is a frame to name, and where there is none or it is refused.
-fn questions<B: Bench>(rounds: usize) -> [Group; 2] {
+fn questions<B: Bench>(rounds: usize, met: &mut Met) -> [Group; 2] {
     let mut groups = [
         Group::new("questions with a frame to name", &[0]),
-        Group::new("questions with none", &[0, 11, 12]),
+        Group::new("questions with none", &[0, 11, 12, 15]),
     ];
     let mut random = Random::new(41);
     for _ in 0..rounds * ASKED {
@@ -84,16 +138,40 @@ fn questions<B: Bench>(rounds: usize) -> [Group; 2] {
         let left = random.pick(&[0, 1, 2, book::PLACES]);
         scene.thin(&mut random, left);
         for _ in 0..QUESTIONS {
+            let scene = scene.damaged(&mut random, 6);
             let buffers = Buffers::any(&mut random, &scene, &[]);
-            buffers.compare_question::<B>(&mut groups);
+            let number = buffers.compare_question::<B>(&mut groups);
+            for (record, page) in scene.records.iter().zip(&scene.pages) {
+                met.pages.see(pages::Call::Question, number, record, page);
+            }
         }
     }
     groups
 }
 
+/// A line that answered this number met the pages of this scene.
+fn see_pages(pages: &mut Seen, number: u8, scene: &Scene, line: &[u8]) {
+    let restarted = restarted(line);
+    for side in Side::BOTH {
+        let role = match restarted {
+            Some(end) if end == side => Role::Restarted,
+            Some(_) => Role::Beside,
+            None => Role::Asked,
+        };
+        let call = match scene.count {
+            book::PLACES => pages::Call::LineWithFullBook(role),
+            _ => pages::Call::Line(role),
+        };
+        let end = side.index();
+        pages.see(call, number, &scene.records[end], &scene.pages[end]);
+    }
+}
+
 /// Notes the step that this line makes, if it makes one.
-fn see(coverage: &mut Coverage, scene: &Scene, line: &[u8]) {
+fn see_step(met: &mut Met, scene: &Scene, line: &[u8]) {
     if let Some((side, message)) = meeting(scene.used(), line) {
-        coverage.see(&scene.records[side.index()], &message);
+        let record = &scene.records[side.index()];
+        met.steps.see(record, &message);
+        met.pages.see_request(record, &message);
     }
 }

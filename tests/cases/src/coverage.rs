@@ -9,8 +9,9 @@ use reference::request::CLOSE;
 use reference::{Frame, Message, Request, State};
 use std::cmp::Ordering;
 use std::collections::BTreeSet;
+use std::fmt::Debug;
 
-/// So many steps that were never made are printed.
+/// So many of those that were never seen are printed.
 const SHOWN: usize = 5;
 
 /// A readable request or frame in some state.
@@ -88,16 +89,7 @@ impl Coverage {
 
     /// Prints how many steps were made. Each one that was never made is a failed case.
     pub fn report(&self) -> Score {
-        let all = Step::all();
-        let unseen: Vec<_> = all.iter().filter(|step| !self.0.contains(step)).collect();
-        println!("steps: {} of {} seen", all.len() - unseen.len(), all.len());
-        for step in unseen.iter().take(SHOWN) {
-            println!("steps: {step:?} was never seen");
-        }
-        Score {
-            passed: 0,
-            failed: unseen.len() as u64,
-        }
+        report("steps", &Step::all(), &self.0)
     }
 
     /// Prints how many steps were made. Each one that is missing to this many is a failed case.
@@ -108,6 +100,19 @@ impl Coverage {
             passed: 0,
             failed: least.saturating_sub(seen) as u64,
         }
+    }
+}
+
+/// Prints how many of all these were seen. Each one that was never seen is a failed case.
+pub fn report<T: Ord + Debug>(name: &str, all: &[T], seen: &BTreeSet<T>) -> Score {
+    let unseen: Vec<_> = all.iter().filter(|one| !seen.contains(one)).collect();
+    println!("{name}: {} of {} seen", all.len() - unseen.len(), all.len());
+    for one in unseen.iter().take(SHOWN) {
+        println!("{name}: {one:?} was never seen");
+    }
+    Score {
+        passed: 0,
+        failed: unseen.len() as u64,
     }
 }
 
@@ -150,15 +155,21 @@ impl Step {
     /// The same of a frame.
     fn with_frame(record: &[u8; RECORD], frame: &Frame) -> Option<Self> {
         let numbers = Numbers::of(record);
-        if (frame.sender, frame.quoted) != (numbers.remote, numbers.local) {
+        if frame.quoted != numbers.local {
             return None;
         }
-        match frame.body {
-            Body::Data { sequence, .. } => {
+        let sender = frame.sender.cmp(&numbers.remote);
+        match (frame.body, sender) {
+            (Body::Data { sequence, .. }, Ordering::Equal) => {
                 let above = Above::of(sequence, numbers.handed_up);
                 Some(Self::data(held(record), above))
             }
-            Body::Signal(Signal::Dr) => Self::leave(held(record), Signal::Dr as u8),
+            (Body::Signal(Signal::Dr), Ordering::Equal) => {
+                Self::leave(held(record), Signal::Dr as u8)
+            }
+            (Body::Signal(Signal::Rej), Ordering::Equal | Ordering::Greater) => {
+                Self::leave(held(record), Signal::Rej as u8)
+            }
             _ => None,
         }
     }
@@ -216,7 +227,8 @@ impl Step {
         let collects = both
             .into_iter()
             .flat_map(move |next| both.map(|later| Self::Collect { next, later }));
-        let leaving = [CLOSE, Signal::Dr as u8].map(|kind| Self::Leave { kind });
+        let leaving = [CLOSE, Signal::Dr as u8, Signal::Rej as u8];
+        let leaving = leaving.map(|kind| Self::Leave { kind });
         kept.chain(others).chain(collects).chain(leaving)
     }
 
@@ -270,14 +282,14 @@ mod tests {
     use reference::request::{COLLECT, TIMER};
 
     #[test]
-    fn there_are_42_steps_of_requests_260_of_frames_25_with_held_blocks_and_2_hang_ups() {
+    fn there_are_42_steps_of_requests_260_of_frames_26_with_held_blocks_and_2_hang_ups() {
         let all = Step::all();
         let count = |is_one: fn(&&Step) -> bool| all.iter().filter(is_one).count();
         assert_eq!(count(|step| matches!(step, Step::Request { .. })), 42);
         assert_eq!(count(|step| matches!(step, Step::Frame { .. })), 260);
-        assert_eq!(Step::all_with_held().count(), 25);
+        assert_eq!(Step::all_with_held().count(), 26);
         assert_eq!(count(|step| matches!(step, Step::HangUp { .. })), 2);
-        assert_eq!(all.len(), 329);
+        assert_eq!(all.len(), 330);
         let different: BTreeSet<_> = all.iter().collect();
         assert_eq!(different.len(), all.len());
     }
@@ -289,9 +301,9 @@ mod tests {
         coverage.see(&closed, &[0x40]);
         coverage.see(&closed, &[0x40]);
         coverage.see(&closed, &[0x40, 0x00]);
-        assert_eq!(coverage.report().failed, 328);
+        assert_eq!(coverage.report().failed, 329);
         coverage.see(&closed, &[1, 0, 0, 0, 7, 0, 0, 0, 0]);
-        assert_eq!(coverage.report().failed, 327);
+        assert_eq!(coverage.report().failed, 328);
         assert_eq!(coverage.report_least(2).failed, 0);
         assert_eq!(coverage.report_least(5).failed, 3);
     }
@@ -331,6 +343,9 @@ mod tests {
         let dr = |s, r| message(Signal::Dr as u8, &[s, r], &[]);
         assert_eq!(shown(&[vec![COLLECT], vec![CLOSE], dr(3, 5)]), 3);
         assert_eq!(shown(&[vec![TIMER], dr(4, 5), dr(3, 6)]), 0);
+        let rej = |s, r| message(Signal::Rej as u8, &[s, r], &[]);
+        assert_eq!(shown(&[rej(3, 5), rej(4, 5)]), 1);
+        assert_eq!(shown(&[rej(2, 5), rej(3, 6)]), 0);
     }
 
     /// The hang-ups that a close shows at an end of this state with this D.

@@ -9,77 +9,101 @@ mod tests;
 pub use implementation::{End, Reply};
 
 use crate::alter::alter;
-use crate::coverage::Coverage;
 use crate::group::{Group, Score};
+use crate::met::{makes_step, Met};
 use crate::random::Random;
 use crate::records::{any, is_of_a_block, sound};
-use crate::{near, sample};
+use crate::{near, pages, sample};
 use call::{Buffers, Call};
+use reference::page::PAGE;
 use reference::record::RECORD;
 use reference::request::TIMER;
 
-const FRESH: usize = 2_000;
+const RESTARTS: usize = 10_000;
 const REQUESTS: usize = 50_000;
 const FRAMES: usize = 100_000;
 
-/// Compares the generated calls, so many rounds of them, and reports them.
-pub fn compare<E: End>(rounds: usize) -> Score {
-    let mut coverage = Coverage::default();
-    let groups = [
-        fresh::<E>(rounds),
-        requests::<E>(rounds, &mut coverage),
-        frames::<E>(rounds, &mut coverage),
-        every_byte::<E>(),
-    ];
-    let calls = groups.iter().map(Group::report).sum();
-    let steps = coverage.report();
-    [calls, steps].into_iter().sum()
+/// Nothing is met yet by the calls of an end.
+fn nothing_met() -> Met {
+    Met::new(&[
+        pages::Call::Restart,
+        pages::Call::Request,
+        pages::Call::Receive,
+    ])
 }
 
-/// Records of any content and length are made fresh.
-fn fresh<E: End>(rounds: usize) -> Group {
-    let mut group = Group::new("fresh ends", &[0, 11]);
+/// Compares the generated calls, so many rounds of them, and reports them.
+pub fn compare<E: End>(rounds: usize) -> Score {
+    let mut met = nothing_met();
+    let groups = [
+        restarts::<E>(rounds, &mut met),
+        requests::<E>(rounds, &mut met),
+        frames::<E>(rounds, &mut met),
+        every_byte::<E>(),
+        every_page_byte::<E>(),
+    ];
+    let calls = groups.iter().map(Group::report).sum();
+    [calls, met.report()].into_iter().sum()
+}
+
+/// Ends with records of any content restart with pages of all sorts.
+fn restarts<E: End>(rounds: usize, met: &mut Met) -> Group {
+    let mut group = Group::new("restarts", &[0, 11, 15]);
     let mut random = Random::new(30);
-    for _ in 0..rounds * FRESH {
+    for _ in 0..rounds * RESTARTS {
         let record = any(&mut random);
-        let buffers = Buffers::any(&mut random, &record, &[]);
-        Call::Fresh.compare::<E>(&mut group, &buffers);
+        let page = pages::any(&mut random, &record);
+        let buffers = Buffers::any(&mut random, &record, &page, &[]);
+        let number = Call::Restart.compare::<E>(&mut group, &buffers);
+        let call = pages::Call::Restart;
+        met.pages.see(call, number, &record, &page);
     }
     group
 }
 
 /// Requests of ends with all sorts of records.
-fn requests<E: End>(rounds: usize, coverage: &mut Coverage) -> Group {
-    let mut group = Group::new("requests", &[0, 3, 4, 5, 6, 8, 9, 10, 11, 12]);
+fn requests<E: End>(rounds: usize, met: &mut Met) -> Group {
+    let mut group = Group::new("requests", &[0, 3, 4, 5, 6, 8, 9, 10, 11, 12, 15]);
     let mut random = Random::new(31);
     for _ in 0..rounds * REQUESTS {
         let record = any(&mut random);
+        let page = pages::any(&mut random, &record);
         let request = message(&mut random, &record, near::request, near::frame);
-        let buffers = Buffers::any(&mut random, &record, &request);
+        let buffers = Buffers::any(&mut random, &record, &page, &request);
         let number = Call::Request.compare::<E>(&mut group, &buffers);
-        see(coverage, number, &record, &request);
+        let call = pages::Call::Request;
+        met.pages.see(call, number, &record, &page);
+        if makes_step(number) {
+            met.steps.see(&record, &request);
+            met.pages.see_request(&record, &request);
+        }
     }
     group
 }
 
 /// Frames that reach ends with all sorts of records.
-fn frames<E: End>(rounds: usize, coverage: &mut Coverage) -> Group {
-    let mut group = Group::new("frames", &[0, 3, 4, 5, 6, 7, 11, 12]);
+fn frames<E: End>(rounds: usize, met: &mut Met) -> Group {
+    let mut group = Group::new("frames", &[0, 3, 4, 5, 6, 7, 11, 12, 15]);
     let mut random = Random::new(32);
     for _ in 0..rounds * FRAMES {
         let record = any(&mut random);
+        let page = pages::any(&mut random, &record);
         let frame = message(&mut random, &record, near::frame, near::request);
-        let buffers = Buffers::any(&mut random, &record, &frame);
+        let buffers = Buffers::any(&mut random, &record, &page, &frame);
         let number = Call::Receive.compare::<E>(&mut group, &buffers);
-        see(coverage, number, &record, &frame);
+        let call = pages::Call::Receive;
+        met.pages.see(call, number, &record, &page);
+        if makes_step(number) {
+            met.steps.see(&record, &frame);
+        }
     }
     group
 }
 
 /// Sound records with one byte altered: every value in the numbers and lengths, some values in the
-/// blocks.
+/// blocks. Their pages are right for what they were, or for what they are.
 fn every_byte<E: End>() -> Group {
-    let mut group = Group::new("records with one byte altered", &[0, 12]);
+    let mut group = Group::new("records with one byte altered", &[0, 12, 15]);
     let mut random = Random::new(33);
     let values = |place| match is_of_a_block(place) {
         true => vec![0, 1, 128, 255],
@@ -88,9 +112,28 @@ fn every_byte<E: End>() -> Group {
     for place in 0..RECORD {
         for byte in values(place) {
             let mut record = sound(&mut random);
+            let before = pages::right(&record);
             record[place] = byte;
-            let buffers = Buffers::exact(&mut random, &record, &[TIMER]);
+            let page = random.pick(&[before, pages::right(&record)]);
+            let buffers = Buffers::exact(&mut random, &record, &page, &[TIMER]);
             Call::Request.compare::<E>(&mut group, &buffers);
+        }
+    }
+    group
+}
+
+/// Right pages with one byte altered, in every place.
+fn every_page_byte<E: End>() -> Group {
+    let mut group = Group::new("pages with one byte altered", &[0, 15]);
+    let mut random = Random::new(34);
+    for place in 0..PAGE {
+        for byte in [0x00, 0x01, 0x80, 0xfe, 0xff] {
+            let record = sound(&mut random);
+            let mut page = pages::right(&record);
+            page[place] = byte;
+            let buffers = Buffers::exact(&mut random, &record, &page, &[TIMER]);
+            Call::Request.compare::<E>(&mut group, &buffers);
+            Call::Restart.compare::<E>(&mut group, &buffers);
         }
     }
     group
@@ -118,11 +161,4 @@ fn message(random: &mut Random, record: &[u8; RECORD], mostly: Maker, seldom: Ma
 /// Three numbers at the edges.
 fn edges(random: &mut Random) -> [u32; 3] {
     [(); 3].map(|()| random.pick(&sample::EDGES))
-}
-
-/// A call that answered this number made a step, if its buffers and record were right.
-fn see(coverage: &mut Coverage, number: u8, record: &[u8], message: &[u8]) {
-    if !matches!(number, 11 | 12) {
-        coverage.see(record, message);
-    }
 }

@@ -6,11 +6,14 @@ pub mod unsound;
 use crate::random::Random;
 use crate::sample::{block, number};
 use reference::block::LONGEST_BLOCK;
+use reference::page::{LAST_NUMBER, PAGE, STRETCH};
 use reference::record::RECORD;
 use reference::State;
 
 /// Where the numbers L, D, t and e stand in a record.
 const NUMBERS: [usize; 4] = [1, 5, 9, 13];
+/// Where L stands.
+const LOCAL: usize = NUMBERS[0];
 /// Where e stands.
 const HANDED_UP: usize = NUMBERS[3];
 /// Where w stands.
@@ -91,10 +94,16 @@ pub fn is_of_a_block(place: usize) -> bool {
     (BLOCKS..HELD_LENGTHS).contains(&place) || place >= HELD_BLOCKS
 }
 
-/// A record: mostly sound, else unsound by one field or of random bytes.
+/// A record: mostly sound, else with an L too high for a page, unsound by one field, or of random
+/// bytes.
 pub fn any(random: &mut Random) -> [u8; RECORD] {
     match random.within(0..=15) {
         0 => [(); RECORD].map(|()| random.byte()),
+        3 => {
+            let mut record = sound(random);
+            put(&mut record, LOCAL, &too_high(random).to_be_bytes());
+            record
+        }
         1 | 2 => {
             let mut record = sound(random);
             spoil(random, &mut record);
@@ -104,15 +113,16 @@ pub fn any(random: &mut Random) -> [u8; RECORD] {
     }
 }
 
-/// A sound record, often with numbers at their limits. Open ends, which differ most, are frequent.
+/// A sound record, often with numbers at their limits, whose L a page can have reserved. Open ends,
+/// which differ most, are frequent.
 pub fn sound(random: &mut Random) -> [u8; RECORD] {
     let state = match random.within(0..=3) {
         0 => State::Open,
         _ => random.pick(&State::ALL),
     };
     let local = match state {
-        State::Closed => limit(random, 0),
-        _ => limit(random, 1),
+        State::Closed => local(random),
+        _ => local(random).max(1),
     };
     let remote = match state {
         State::Closed | State::Listening => 0,
@@ -128,6 +138,32 @@ pub fn sound(random: &mut Random) -> [u8; RECORD] {
     match state {
         State::Open => open(random, numbers),
         _ => numbers.record(state, &[]),
+    }
+}
+
+/// An L that a page can have reserved: a small one, one at the edge of a page byte, one of the last,
+/// or any.
+fn local(random: &mut Random) -> u32 {
+    match random.within(0..=4) {
+        0 => random.within(0..=40) as u32,
+        1 => {
+            let byte = random.within(0..=PAGE) as u32;
+            let near = byte * STRETCH + random.within(0..=2) as u32;
+            near.saturating_sub(1).min(LAST_NUMBER)
+        }
+        2 => LAST_NUMBER - random.within(0..=2) as u32,
+        3 => LAST_NUMBER - random.within(0..=40) as u32,
+        _ => random.within(0..=LAST_NUMBER as usize) as u32,
+    }
+}
+
+/// An L that no page can have reserved; some are low where only their last bytes are looked at.
+fn too_high(random: &mut Random) -> u32 {
+    match random.within(0..=3) {
+        0 => LAST_NUMBER + random.within(1..=17) as u32,
+        1 => random.pick(&[1 << 17, 1 << 24, 1 << 31, 1 << 20 | 16, u32::MAX - 15]),
+        2 => random.pick(&[u32::MAX, u32::MAX - 1]),
+        _ => (random.bits() as u32).max(LAST_NUMBER + 1),
     }
 }
 
@@ -244,6 +280,31 @@ mod tests {
         }
         assert!(states.iter().all(|&times| times > 100));
         assert!(counts.iter().all(|&times| times > 10));
+    }
+
+    #[test]
+    fn sound_records_have_an_l_at_the_edges_of_page_bytes_and_none_too_high() {
+        let mut random = Random::new(4);
+        let mut within_byte = [0; 16];
+        let mut last = [0; 3];
+        for _ in 0..5_000 {
+            let local = Numbers::of(&sound(&mut random)).local;
+            within_byte[local as usize % 16] += 1;
+            if let Some(below) = [65_536, 65_535, 65_534].iter().position(|&l| l == local) {
+                last[below] += 1;
+            }
+            assert!(local <= 65_536);
+        }
+        assert!(
+            within_byte.iter().all(|&times| times > 50),
+            "{within_byte:?}"
+        );
+        assert!(last.iter().all(|&times| times > 100), "{last:?}");
+        let too_high = (0..5_000).filter(|_| {
+            let record = any(&mut random);
+            is_sound(&record) && Numbers::of(&record).local > 65_536
+        });
+        assert!(too_high.count() > 200);
     }
 
     #[test]

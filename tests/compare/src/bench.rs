@@ -2,7 +2,7 @@
 
 use crate::end::untold;
 use crate::proved::Proved;
-use cases::bench::{Bench, Lent, Named, Reply};
+use cases::bench::{Bench, Lent, Named, Reply, Shown};
 
 /// The number that names no frame.
 const NO_FRAME: usize = 512;
@@ -13,6 +13,10 @@ extern "C" {
         a_len: usize,
         b: *mut u8,
         b_len: usize,
+        a_page: *mut u8,
+        a_page_len: usize,
+        b_page: *mut u8,
+        b_page_len: usize,
         book: *mut u8,
         book_len: usize,
         count: *mut usize,
@@ -37,6 +41,10 @@ extern "C" {
         a_len: usize,
         b: *const u8,
         b_len: usize,
+        a_page: *const u8,
+        a_page_len: usize,
+        b_page: *const u8,
+        b_page_len: usize,
         book: *const u8,
         book_len: usize,
         count: usize,
@@ -49,6 +57,7 @@ extern "C" {
 impl Bench for Proved {
     fn line(lent: Lent, line: &[u8]) -> Reply {
         let [a, b] = lent.records;
+        let [a_page, b_page] = lent.pages;
         let mut reply = Reply {
             side: u8::MAX,
             end: untold(),
@@ -61,6 +70,10 @@ impl Bench for Proved {
                 a.len(),
                 b.as_mut_ptr(),
                 b.len(),
+                a_page.as_mut_ptr(),
+                a_page.len(),
+                b_page.as_mut_ptr(),
+                b_page.len(),
                 lent.book.as_mut_ptr(),
                 lent.book.len(),
                 &mut reply.count,
@@ -84,8 +97,9 @@ impl Bench for Proved {
         reply
     }
 
-    fn some_frame(records: [&[u8]; 2], book: &[u8], count: usize) -> Named {
-        let [a, b] = records;
+    fn some_frame(shown: Shown) -> Named {
+        let [a, b] = shown.records;
+        let [a_page, b_page] = shown.pages;
         let mut frame = usize::MAX;
         let number = unsafe {
             dock_some_frame(
@@ -93,9 +107,13 @@ impl Bench for Proved {
                 a.len(),
                 b.as_ptr(),
                 b.len(),
-                book.as_ptr(),
-                book.len(),
-                count,
+                a_page.as_ptr(),
+                a_page.len(),
+                b_page.as_ptr(),
+                b_page.len(),
+                shown.book.as_ptr(),
+                shown.book.len(),
+                shown.count,
                 &mut frame,
             )
         };

@@ -7,11 +7,13 @@ use cases::end::{End, Reply};
 const BLOCK_START: usize = 14;
 
 extern "C" {
-    fn dock_fresh(record: *mut u8, record_len: usize) -> u8;
+    fn dock_restart(record: *mut u8, record_len: usize, page: *const u8, page_len: usize) -> u8;
 
     fn dock_request(
         record: *mut u8,
         record_len: usize,
+        page: *mut u8,
+        page_len: usize,
         request: *const u8,
         request_len: usize,
         out: *mut u8,
@@ -29,6 +31,8 @@ extern "C" {
     fn dock_receive(
         record: *mut u8,
         record_len: usize,
+        page: *const u8,
+        page_len: usize,
         frame: *const u8,
         frame_len: usize,
         out: *mut u8,
@@ -45,16 +49,24 @@ extern "C" {
 // SAFETY of all calls: each pointer comes from a reference that lives as long as the call, and
 // each length is that of its slice.
 impl End for Proved {
-    fn fresh(record: &mut [u8]) -> u8 {
-        unsafe { dock_fresh(record.as_mut_ptr(), record.len()) }
+    fn restart(record: &mut [u8], page: &[u8]) -> u8 {
+        unsafe { dock_restart(record.as_mut_ptr(), record.len(), page.as_ptr(), page.len()) }
     }
 
-    fn request(record: &mut [u8], request: &[u8], out: &mut [u8], up: &mut [u8]) -> Reply {
+    fn request(
+        record: &mut [u8],
+        page: &mut [u8],
+        request: &[u8],
+        out: &mut [u8],
+        up: &mut [u8],
+    ) -> Reply {
         let mut reply = untold();
         reply.number = unsafe {
             dock_request(
                 record.as_mut_ptr(),
                 record.len(),
+                page.as_mut_ptr(),
+                page.len(),
                 request.as_ptr(),
                 request.len(),
                 out.as_mut_ptr(),
@@ -72,12 +84,14 @@ impl End for Proved {
         reply
     }
 
-    fn receive(record: &mut [u8], frame: &[u8], out: &mut [u8]) -> Reply {
+    fn receive(record: &mut [u8], page: &[u8], frame: &[u8], out: &mut [u8]) -> Reply {
         let mut reply = untold();
         reply.number = unsafe {
             dock_receive(
                 record.as_mut_ptr(),
                 record.len(),
+                page.as_ptr(),
+                page.len(),
                 frame.as_ptr(),
                 frame.len(),
                 out.as_mut_ptr(),

@@ -1,5 +1,6 @@
 //! An end's record by its fields.
 
+use reference::page::{self, PAGE};
 use reference::record::RECORD;
 use reference::State;
 use std::array;
@@ -73,6 +74,11 @@ impl End {
         put_blocks(&mut record, [LENGTHS, BLOCKS], &self.waiting);
         put_blocks(&mut record, [HELD_LENGTHS, HELD_BLOCKS], &self.held);
         record
+    }
+
+    /// The right page for the end.
+    pub fn page(&self) -> [u8; PAGE] {
+        *page::of(page::reserved(self.local))
     }
 
     /// t − w, the number of the oldest waiting block, or of the next one if none waits.

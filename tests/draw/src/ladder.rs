@@ -33,7 +33,7 @@ pub struct Ladder {
     lines: &'static str,
 }
 
-pub const LADDERS: [Ladder; 3] = [
+pub const LADDERS: [Ladder; 4] = [
     Ladder {
         file: "opening.svg",
         title: "A call that opens",
@@ -48,6 +48,11 @@ pub const LADDERS: [Ladder; 3] = [
         file: "hung-up.svg",
         title: "A call that is hung up",
         lines: "5140 5040 520000 5043 520003 520004",
+    },
+    Ladder {
+        file: "restarted.svg",
+        title: "A partner that restarts",
+        lines: "5141 5040 520000 520001 520002 5351 5044026f6b 520003 520004",
     },
 ];
 
@@ -336,6 +341,18 @@ mod tests {
         assert_eq!(count("hung-up.svg", "marker-end"), 3);
         let last = last_event("hung-up.svg");
         assert_eq!((last.side, last.notice), (Side::A, "4 close finished"));
+        assert_eq!(last.left, "closed, L = 1, D = 0");
+    }
+
+    #[test]
+    fn the_partner_that_restarts_rejects_a_block_and_the_other_end_closes_with_notice_3() {
+        assert_eq!(count("restarted.svg", ">lost<"), 0);
+        assert_eq!(count("restarted.svg", ">power lost, restart<"), 1);
+        assert_eq!(count("restarted.svg", ">DATA(1,1,0)<"), 1);
+        assert_eq!(count("restarted.svg", ">REJ(16,1)<"), 1);
+        assert_eq!(count("restarted.svg", ">closed, L = 16, D = 0<"), 2);
+        let last = last_event("restarted.svg");
+        assert_eq!((last.side, last.notice), (Side::A, "3 closed by partner"));
         assert_eq!(last.left, "closed, L = 1, D = 0");
     }
 

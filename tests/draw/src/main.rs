@@ -95,6 +95,7 @@ mod tests {
             "opening.svg",
             "refused-call.svg",
             "hung-up.svg",
+            "restarted.svg",
         ];
         assert_eq!(names, expected.map(|name| Some(name.as_ref())));
         let (_, document) = &once[1];

@@ -116,11 +116,12 @@ impl Probe {
     fn ask(sample: Sample) -> Result<Option<Self>, String> {
         let message = sample.message();
         let mut record = sample.end.write();
+        let mut page = sample.end.page();
         let mut out = [0; LONGEST_FRAME];
         let mut up = [0; LONGEST_BLOCK];
         let answer = match sample.kind.form.is_request() {
-            true => call::request(&mut record, &message, &mut out, &mut up),
-            false => call::receive(&mut record, &message, &mut out),
+            true => call::request(&mut record, &mut page, &message, &mut out, &mut up),
+            false => call::receive(&mut record, &page, &message, &mut out),
         };
         let step = match answer.number {
             0 => Some(Step::of(&answer, End::read(&record)?, &out)),
@@ -226,7 +227,8 @@ fn held_blocks(above: &[usize]) -> Held {
 
 /// Is the record sound? The reference says so: question 12 comes before the kind of a frame.
 fn is_sound(end: &End) -> bool {
-    call::receive(&mut end.write(), &[], &mut [0; LONGEST_FRAME]).number != UNSOUND
+    let out = &mut [0; LONGEST_FRAME];
+    call::receive(&mut end.write(), &end.page(), &[], out).number != UNSOUND
 }
 
 /// Frames of this kind for the end: s above, equal to and below D, r equal to L or not.

@@ -13,6 +13,9 @@ use reference::{line, Frame, Refusal, Request};
 /// The first byte of an answer line after the end's, if the line is not refused.
 const SUCCESS: u8 = 0x80;
 
+/// What a restart is called.
+const RESTART: &str = "power lost, restart";
+
 /// A run, line by line.
 #[derive(Clone, Debug)]
 pub struct Run {
@@ -21,12 +24,12 @@ pub struct Run {
     pub flights: Vec<Flight>,
 }
 
-/// What happens at a line: a request, or the delivery of a frame.
+/// What happens at a line: a request, a restart, or the delivery of a frame.
 #[derive(Clone, Debug, PartialEq, Eq)]
 pub struct Event {
     /// The end at which it happens.
     pub side: Side,
-    /// The request, if it is one.
+    /// The request or the restart, if it is one.
     pub request: Option<String>,
     /// State, L and D that it leaves.
     pub left: String,
@@ -94,6 +97,7 @@ impl Bench {
                 self.book[number].deliveries.push(self.events.len());
                 None
             }
+            Order::Restart(_) => Some(RESTART.to_string()),
         };
         if self.program.used().len() > self.book.len() {
             self.book.push(self.sent()?);
@@ -230,6 +234,18 @@ mod tests {
             ("REJ(0,1)", 2, None, false),
         ];
         assert_eq!(ways, expected);
+    }
+
+    #[test]
+    fn a_restart_leaves_a_closed_end_with_the_last_number_reserved() {
+        let run = Run::of("5040 5350").unwrap();
+        let event = Event {
+            side: Side::A,
+            request: Some("power lost, restart".to_string()),
+            left: "closed, L = 16, D = 0".to_string(),
+            notice: "",
+        };
+        assert_eq!(run.events[1], event);
     }
 
     #[test]

@@ -4,6 +4,7 @@ use crate::handed_up::HandedUp;
 use crate::hung_up::HungUp;
 use crate::program::{self, Run};
 use crate::reference_program::ReferenceProgram;
+use crate::restarted::Restarted;
 use crate::script::Script;
 use crate::stood::Stood;
 use cases::coverage::Coverage;
@@ -21,6 +22,7 @@ pub struct Comparison<P> {
     pub coverage: Coverage,
     pub handed_up: HandedUp,
     pub hung_up: HungUp,
+    pub restarted: Restarted,
     pub stood: Stood,
     reference: PhantomData<P>,
 }
@@ -33,6 +35,7 @@ impl<P: ReferenceProgram> Comparison<P> {
             coverage: Coverage::default(),
             handed_up: HandedUp::default(),
             hung_up: HungUp::default(),
+            restarted: Restarted::default(),
             stood: Stood::default(),
             reference: PhantomData,
         }
@@ -81,8 +84,12 @@ impl<P: ReferenceProgram> Comparison<P> {
         }
     }
 
-    /// The answer of the reference. The step that it makes is noted.
+    /// The answer of the reference. The step or the restart that it makes is noted.
     fn answer(&mut self, reference: &mut P, line: &[u8]) -> Vec<u8> {
+        if let Some((side, record)) = reference.restarting(line) {
+            self.restarted.see(side, record);
+            self.hung_up.restart(side);
+        }
         let meeting = reference.meeting(line);
         let answer = reference.answer(line);
         let number = P::number(&answer);

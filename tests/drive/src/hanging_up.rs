@@ -8,7 +8,7 @@ use cases::sample::{block, message};
 use reference::request::{CLOSE, CONNECT, END_LISTENING, LISTEN, SEND, TIMER};
 use reference::State;
 
-const SESSIONS: u64 = 30;
+const SESSIONS: u64 = 60;
 /// So many calls have the two ends of each.
 const CALLS: usize = 500;
 

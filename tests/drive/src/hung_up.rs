@@ -3,6 +3,7 @@
 use crate::reference_program::Meeting;
 use cases::group::Score;
 use cases::records::Numbers;
+use reference::bench::Side;
 use reference::{Frame, Message, Request, State};
 use std::collections::BTreeSet;
 
@@ -54,6 +55,11 @@ impl HungUp {
     /// So many sorts of frames there are: nine kinds that quote the call or not, after two sorts of
     /// hang-ups.
     pub const SORTS: usize = 36;
+
+    /// This end restarts: it is closed without having hung up.
+    pub fn restart(&mut self, side: Side) {
+        self.last[side.index()] = None;
+    }
 
     /// A program starts: its ends are fresh.
     pub fn start(&mut self) {

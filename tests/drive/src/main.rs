@@ -1,13 +1,16 @@
 //! Runs a line program on generated scripts, and compares its answers with those of the reference,
 //! byte for byte.
 //!
-//! The command line names the program. Number 9 is never expected: no script is long enough to
-//! use up the numbers of an end that starts fresh.
+//! The command line names the program. Numbers from 11 on are never expected: the program has its
+//! end and its page to itself, and no book.
 
 use cases::group::{Group, Score};
 use drive::comparison::Comparison;
 use drive::hung_up::HungUp;
-use drive::{altered, empty_lines, hanging_up, nearby, odd, overtaking, program, sessions, typed};
+use drive::{
+    altered, empty_lines, hanging_up, nearby, odd, overtaking, program, restarting, sessions,
+    typed, used_up,
+};
 use reference::program::LineProgram;
 use std::process::ExitCode;
 
@@ -27,6 +30,8 @@ fn main() -> ExitCode {
         comparison.group("sessions", &[0, 8, 10], sessions::scripts()),
         comparison.group("overtaking", &[0, 10], overtaking::scripts()),
         comparison.group("hanging up", &[0, 8], hanging_up::scripts()),
+        comparison.group("partner restarts", &[0, 8, 10], restarting::scripts()),
+        comparison.group("numbers used up", &[0, 8, 9], used_up::scripts()),
         comparison.group("numbers nearby", &[0, 7, 8, 10], nearby::scripts()),
         comparison.group(
             "altered lines",

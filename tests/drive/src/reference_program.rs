@@ -2,12 +2,18 @@
 
 #[cfg(test)]
 use crate::script::Script;
+#[cfg(test)]
+use cases::records::Numbers;
 use reference::bench::program::BenchProgram;
 use reference::bench::Side;
+#[cfg(test)]
+use reference::frame::Signal;
 use reference::line;
 use reference::program::LineProgram;
 use reference::record::RECORD;
 use reference::stream::Lines;
+#[cfg(test)]
+use reference::{Frame, State};
 
 /// A message that an end is about to meet.
 pub struct Meeting {
@@ -28,6 +34,9 @@ pub trait ReferenceProgram: Lines + Default {
 
     /// What an end is about to meet with this line, if anything.
     fn meeting(&self, line: &[u8]) -> Option<Meeting>;
+
+    /// The end that this line restarts, if it does, and its record before.
+    fn restarting(&self, line: &[u8]) -> Option<(Side, &[u8; RECORD])>;
 
     /// The answer to this line.
     fn answer(&mut self, line: &[u8]) -> Vec<u8> {
@@ -67,6 +76,10 @@ impl ReferenceProgram for LineProgram {
             message: message.to_vec(),
         })
     }
+
+    fn restarting(&self, _: &[u8]) -> Option<(Side, &[u8; RECORD])> {
+        None
+    }
 }
 
 impl ReferenceProgram for BenchProgram {
@@ -84,6 +97,11 @@ impl ReferenceProgram for BenchProgram {
             message,
         })
     }
+
+    fn restarting(&self, line: &[u8]) -> Option<(Side, &[u8; RECORD])> {
+        let side = cases::bench::restarted(line)?;
+        Some((side, self.record(side)))
+    }
 }
 
 /// What the ends of a program meet with this script, each with the number of its answer.
@@ -96,6 +114,26 @@ pub fn meetings<P: ReferenceProgram>(script: &Script) -> Vec<(Meeting, u8)> {
         meeting.map(|meeting| (meeting, number))
     });
     lines.collect()
+}
+
+/// How often in these scripts a REJ closes an open end: with s = D, and with s above D, which tells
+/// of a restart.
+#[cfg(test)]
+pub fn told_by_rej<P: ReferenceProgram>(scripts: impl Iterator<Item = Script>) -> [usize; 2] {
+    let mut times = [0; 2];
+    for (meeting, number) in scripts.flat_map(|script| meetings::<P>(&script)) {
+        let Ok(frame) = Frame::read(&meeting.message) else {
+            continue;
+        };
+        let numbers = Numbers::of(&meeting.record);
+        let is_open = meeting.record[0] == State::Open as u8;
+        let is_rej = frame.signal() == Some(Signal::Rej);
+        let is_ours = frame.quoted == numbers.local && frame.sender >= numbers.remote;
+        if number == 0 && is_open && is_rej && is_ours {
+            times[usize::from(frame.sender > numbers.remote)] += 1;
+        }
+    }
+    times
 }
 
 #[cfg(test)]
@@ -122,12 +160,24 @@ mod tests {
 
     #[test]
     fn a_bench_meets_requests_and_frames_of_the_book() {
-        let lines = ["520000", "5140", "520000", "520001", "zz", "53"];
+        let lines = ["520000", "5140", "520000", "520001", "zz", "5351"];
         let found = messages::<BenchProgram>(&lines);
         let crao = vec![1, 0, 0, 0, 1, 0, 0, 0, 0];
         let rej = vec![4, 0, 0, 0, 0, 0, 0, 0, 1];
         let right = [None, Some(vec![0x40]), Some(crao), Some(rej), None, None];
         assert_eq!(found, right);
+    }
+
+    #[test]
+    fn a_bench_restarts_an_end_and_one_end_never_does() {
+        let mut program = BenchProgram::default();
+        program.answer(b"5140");
+        let called = *program.record(Side::B);
+        assert_eq!(program.restarting(b"5351"), Some((Side::B, &called)));
+        for line in [&b"53"[..], b"5352", b"535150", b"5140", b"zz"] {
+            assert_eq!(program.restarting(line), None);
+        }
+        assert_eq!(LineProgram::default().restarting(b"5350"), None);
     }
 
     #[test]

@@ -35,26 +35,38 @@ pub fn session_of(seed: u64, calls: usize, request: Requests) -> [Script; 2] {
     let [mut a, mut b] = [Party::default(), Party::default()];
     let deliveries = random.within(3..=8);
     for _ in 0..calls {
-        let (party, partner) = match random.within(0..=1) {
-            0 => (&mut a, &b.end),
-            _ => (&mut b, &a.end),
-        };
-        let message = if random.within(1..=10) <= deliveries && !partner.sent.is_empty() {
-            let number = party.taken.next(&mut random, partner.sent.len());
-            partner.sent[number].clone()
-        } else {
-            request(&mut random, party.end.state())
-        };
-        party.end.call(&message);
+        match random.within(0..=1) {
+            0 => a.call(&mut random, &b, deliveries, request),
+            _ => b.call(&mut random, &a, deliveries, request),
+        }
     }
     [a.end.script, b.end.script]
 }
 
 /// One of the two in a session: its end, and how far its partner's frames have come.
 #[derive(Default)]
-struct Party {
-    end: End,
+pub struct Party {
+    pub end: End,
     taken: Taken,
+}
+
+impl Party {
+    /// Takes a frame of its partner in so many cases of ten, else makes such a request.
+    pub fn call(
+        &mut self,
+        random: &mut Random,
+        partner: &Self,
+        deliveries: usize,
+        request: Requests,
+    ) {
+        let sent = &partner.end.sent;
+        let message = if random.within(1..=10) <= deliveries && !sent.is_empty() {
+            sent[self.taken.next(random, sent.len())].clone()
+        } else {
+            request(random, self.end.state())
+        };
+        self.end.call(&message);
+    }
 }
 
 /// The partner's frames before this number have reached the end or are late.

@@ -5,15 +5,17 @@ mod order;
 pub mod program;
 mod side;
 
-pub use order::{Order, DELIVER, REQUEST_A, REQUEST_B};
+pub use order::{Order, DELIVER, REQUEST_A, REQUEST_B, RESTART};
 pub use side::Side;
 
 use crate::block::LONGEST_BLOCK;
 use crate::buffer::{put, start, start_mut};
 use crate::call;
 use crate::frame::LONGEST_FRAME;
-use crate::record::{ask_sound, Record, RECORD};
-use crate::{line, Block, Refusal};
+use crate::page::{self, PAGE};
+use crate::record::{self, ask_sound, Record, RECORD};
+use crate::step::{self, Outcome};
+use crate::{line, Block, Frame, Refusal, Request};
 use book::{Place, BOOK, PLACE, PLACES};
 
 /// What a bench line is answered.
@@ -28,10 +30,11 @@ pub struct Answer<'a> {
     pub count: usize,
 }
 
-/// A bench line, without its line feed: questions 11, 12, 1 to 10, 13 and 14, then its step. Where
-/// it is refused before it names an end, the answer is about A.
+/// A bench line, without its line feed: questions 11, 12, 15, 1 to 10, 13 and 14, then its step.
+/// Where it is refused before it names an end, the answer is about A.
 pub fn line<'a>(
     mut records: [&mut [u8]; 2],
+    pages: [&mut [u8]; 2],
     book: &'a mut [u8],
     count: usize,
     line: &[u8],
@@ -39,7 +42,7 @@ pub fn line<'a>(
     up: &'a mut [u8],
 ) -> Answer<'a> {
     let [a, b] = &mut records;
-    make([a, b], book, count, line, out, up).unwrap_or_else(|refusal| Answer {
+    make([a, b], pages, book, count, line, out, up).unwrap_or_else(|refusal| Answer {
         side: Side::A,
         end: call::Answer::refused(records[0], refusal),
         count,
@@ -47,26 +50,33 @@ pub fn line<'a>(
 }
 
 /// The number of the first frame in the book whose delivery now would be accepted and change the
-/// receiver's record, if there is one. Questions 11 and 12 come first.
+/// receiver's record, if there is one. Questions 11, 12 and 15 come first.
 pub fn some_frame(
     records: [&[u8]; 2],
+    pages: [&[u8]; 2],
     book: &[u8],
     count: usize,
 ) -> Result<Option<usize>, Refusal> {
-    let bench = Bench::new(records, book, count)?;
+    let bench = Bench::new(records, pages, book, count)?;
     let mut changing = bench.changing();
     Ok(changing.next())
 }
 
 /// The numbers of all such frames, in their order.
-pub fn changing(records: [&[u8]; 2], book: &[u8], count: usize) -> Result<Vec<usize>, Refusal> {
-    let bench = Bench::new(records, book, count)?;
+pub fn changing(
+    records: [&[u8]; 2],
+    pages: [&[u8]; 2],
+    book: &[u8],
+    count: usize,
+) -> Result<Vec<usize>, Refusal> {
+    let bench = Bench::new(records, pages, book, count)?;
     Ok(bench.changing().collect())
 }
 
 /// All questions in their order, then the step. A refusal that is told here has named no end.
 fn make<'a>(
     records: [&mut [u8]; 2],
+    pages: [&mut [u8]; 2],
     book: &'a mut [u8],
     count: usize,
     line: &[u8],
@@ -75,29 +85,71 @@ fn make<'a>(
 ) -> Result<Answer<'a>, Refusal> {
     let [a, b] = records;
     let mut records = [start_mut::<RECORD>(a)?, start_mut::<RECORD>(b)?];
+    let [a, b] = pages;
+    let pages = [start_mut::<PAGE>(a)?, start_mut::<PAGE>(b)?];
     let (places, _) = start_mut::<BOOK>(book)?.as_chunks_mut::<PLACE>();
     let out = start_mut::<LONGEST_FRAME>(out)?;
     let up = start_mut::<LONGEST_BLOCK>(up)?;
     let (used, free) = places.split_at_mut_checked(count).ok_or(Refusal::Unsound)?;
-    for record in &mut records {
-        Record::read(record)?;
-    }
+    let bytes = line::read(line);
+    let order = match &bytes {
+        Ok(bytes) => Order::read(bytes),
+        Err(refusal) => Err(*refusal),
+    };
+    ask_ends(&mut records, pages.each_ref(), order)?;
     let bench = Bench {
         records: records.each_ref().map(|record| &**record),
         used,
     };
-    let bytes = line::read(line)?;
-    let step = bench.step(Order::read(&bytes)?)?;
+    let step = match order? {
+        Order::Request(side, request) => bench.request(side, request),
+        Order::Delivery(number) => bench.delivery(number)?,
+        Order::Restart(side) => return restart(records, pages, side, count),
+    };
     let mut answer = Answer {
         side: step.side,
         end: step.end,
         count,
     };
     if answer.end.number == 0 {
-        answer.count += step.store(records, free, out);
+        answer.count += step.store(records, pages, free, out);
         answer.end.block = answer.end.block.or(step.collected(up));
     }
     Ok(answer)
+}
+
+/// Questions 12 and 15 of both ends. Of an end that the line restarts they are not asked here: its
+/// record is not looked at, and its page by the restart itself.
+fn ask_ends(
+    records: &mut [&mut [u8; RECORD]; 2],
+    pages: [&&mut [u8; PAGE]; 2],
+    order: Result<Order, Refusal>,
+) -> Result<(), Refusal> {
+    let is_asked = |side: &Side| order != Ok(Order::Restart(*side));
+    let asked = Side::BOTH.into_iter().filter(is_asked).map(Side::index);
+    for end in asked.clone() {
+        Record::read(records[end])?;
+    }
+    for end in asked {
+        page::ask(pages[end], record::local(records[end]))?;
+    }
+    Ok(())
+}
+
+/// This end restarts on its page; the book and the other end stay as they are.
+fn restart<'a>(
+    records: [&mut [u8; RECORD]; 2],
+    pages: [&mut [u8; PAGE]; 2],
+    side: Side,
+    count: usize,
+) -> Result<Answer<'a>, Refusal> {
+    let record = &mut records[side.index()][..];
+    call::restart(record, pages[side.index()])?;
+    Ok(Answer {
+        side,
+        end: call::Answer::silent(record, 0),
+        count,
+    })
 }
 
 /// A sound bench, which is only read.
@@ -113,6 +165,8 @@ struct Step<'a> {
     side: Side,
     /// Its answer, without the block that is collected.
     end: call::Answer<'a>,
+    /// The byte to reserve of its page, if there is one.
+    reserving: Option<usize>,
     /// Its record after the step.
     record: [u8; RECORD],
     /// Starts with the frame to send, if there is one.
@@ -122,34 +176,36 @@ struct Step<'a> {
 }
 
 impl<'r, 'a> Bench<'r, 'a> {
-    /// Questions 11 and 12 of a bench that is only read.
-    fn new(records: [&'r [u8]; 2], book: &'a [u8], count: usize) -> Result<Self, Refusal> {
+    /// Questions 11, 12 and 15 of a bench that is only read.
+    fn new(
+        records: [&'r [u8]; 2],
+        pages: [&[u8]; 2],
+        book: &'a [u8],
+        count: usize,
+    ) -> Result<Self, Refusal> {
         let [a, b] = records;
         let records = [start(a)?, start(b)?];
+        let [a, b] = pages;
+        let pages = [start(a)?, start(b)?];
         let (places, _) = start::<BOOK>(book)?.as_chunks();
         let used = places.get(..count).ok_or(Refusal::Unsound)?;
         for record in records {
             ask_sound(record)?;
         }
-        Ok(Self { records, used })
-    }
-
-    /// The step of this line; it may be refused.
-    fn step(&self, order: Order) -> Result<Step<'a>, Refusal> {
-        match order {
-            Order::Request(side, request) => Ok(self.request(side, request)),
-            Order::Delivery(number) => self.delivery(number),
+        for (page, record) in pages.into_iter().zip(records) {
+            page::ask(page, record::local(record))?;
         }
+        Ok(Self { records, used })
     }
 
     /// The step of this end's request. A block that it collects is kept aside: 14 may refuse it.
     fn request(&self, side: Side, request: &[u8]) -> Step<'a> {
         let mut collected = Vec::new();
-        let step = self.end(side, |record, out| {
+        let step = self.end(side, |record| {
             let mut up = [0; LONGEST_BLOCK];
-            let answer = call::request(record, request, out, &mut up);
-            collected.extend(answer.block.map_or(&[][..], Block::bytes));
-            answer.without_block()
+            let outcome = step::request(record, Request::read(request)?, &mut up)?;
+            collected.extend(outcome.block.map_or(&[][..], Block::bytes));
+            Ok(outcome.without_block())
         });
         Step { collected, ..step }
     }
@@ -157,31 +213,41 @@ impl<'r, 'a> Bench<'r, 'a> {
     /// Question 13, then the step of the end that did not send the frame.
     fn delivery(&self, number: usize) -> Result<Step<'a>, Refusal> {
         let (sender, frame) = book::find(self.used, number)?;
-        Ok(self.end(sender.other(), |record, out| {
-            call::receive(record, frame, out)
+        Ok(self.end(sender.other(), |record| {
+            Ok(step::receive(record, Frame::read(frame)?))
         }))
     }
 
-    /// The step that this call makes at this end, then question 14.
+    /// The step that is made so at this end, then question 14.
     fn end(
         &self,
         side: Side,
-        call: impl FnOnce(&mut [u8], &mut [u8]) -> call::Answer<'a>,
+        step: impl FnOnce(&mut Record) -> Result<Outcome<'a>, Refusal>,
     ) -> Step<'a> {
         let before = self.records[side.index()];
         let mut record = *before;
         let mut frame = [0; LONGEST_FRAME];
-        let mut end = call(&mut record, &mut frame);
-        if end.sent > 0 && self.used.len() >= PLACES {
-            end = call::Answer::refused(before, Refusal::BookFull);
-        }
+        let made = Record::read(&mut record)
+            .and_then(|record| call::make(record, &mut frame, step))
+            .and_then(|made| self.ask_place(made));
+        let told = if made.is_ok() { &record } else { before };
         Step {
             side,
-            end,
+            end: call::answer(told, made),
+            reserving: made.ok().and_then(|(outcome, _)| outcome.reserving),
             record,
             frame,
             collected: Vec::new(),
         }
+    }
+
+    /// Question 14: if the step sends a frame, has the book a place for it?
+    fn ask_place(&self, made: (Outcome<'a>, usize)) -> call::Made<'a> {
+        let (_, sent) = made;
+        if sent > 0 && self.used.len() >= PLACES {
+            return Err(Refusal::BookFull);
+        }
+        Ok(made)
     }
 
     /// The numbers of the frames whose delivery would be accepted and change the receiver's
@@ -199,15 +265,21 @@ impl<'r, 'a> Bench<'r, 'a> {
 }
 
 impl Step<'_> {
-    /// Stores a step that is accepted: the record and, if a frame is sent, the frame and the next
-    /// place of the book. Gives how many frames are sent.
+    /// Stores a step that is accepted: first the byte of the page, if one is reserved, then the
+    /// record and, if a frame is sent, the frame and the next place of the book. Gives how many
+    /// frames are sent.
     fn store(
         &self,
         records: [&mut [u8; RECORD]; 2],
+        pages: [&mut [u8; PAGE]; 2],
         free: &mut [Place],
         out: &mut [u8; LONGEST_FRAME],
     ) -> usize {
-        *records[self.side.index()] = self.record;
+        let own = self.side.index();
+        if let Some(place) = self.reserving {
+            page::reserve(pages[own], place);
+        }
+        *records[own] = self.record;
         if self.end.sent == 0 {
             return 0;
         }

@@ -13,6 +13,7 @@ mod held;
 pub mod line;
 pub mod message;
 pub mod notice;
+pub mod page;
 mod part;
 pub mod program;
 pub mod record;

@@ -1,10 +1,11 @@
-//! The line program: one end, asked line by line.
+//! The line program: one fresh end with a new page, asked line by line.
 
 use crate::block::LONGEST_BLOCK;
-use crate::call::{either, standing, Answer};
+use crate::call::{either, restart, standing, Answer};
 use crate::frame::LONGEST_FRAME;
 use crate::line;
-use crate::record::{self, RECORD};
+use crate::page::{self, PAGE};
+use crate::record::RECORD;
 use crate::stream::Lines;
 
 /// The first byte of an answer line for number 0.
@@ -13,14 +14,16 @@ const SUCCESS: u8 = 0x80;
 /// The line program, which holds one end.
 pub struct LineProgram {
     record: [u8; RECORD],
+    page: [u8; PAGE],
 }
 
 impl Default for LineProgram {
-    /// A program with a fresh end.
+    /// A program with a new page and a fresh end.
     fn default() -> Self {
-        let mut record = [0; RECORD];
-        record::make_fresh(&mut record);
-        Self { record }
+        Self {
+            record: fresh(),
+            page: page::NEW,
+        }
     }
 }
 
@@ -36,7 +39,13 @@ impl LineProgram {
         let mut up = [0; LONGEST_BLOCK];
         let bytes = line::read(line);
         let answer = match &bytes {
-            Ok(message) => either(&mut self.record, message, &mut frame, &mut up),
+            Ok(message) => either(
+                &mut self.record,
+                &mut self.page,
+                message,
+                &mut frame,
+                &mut up,
+            ),
             Err(refusal) => Answer::refused(&self.record, *refusal),
         };
         append_answer(&answer, &frame, output);
@@ -46,15 +55,17 @@ impl LineProgram {
 impl Lines for LineProgram {
     fn line(&mut self, line: &[u8], output: &mut Vec<u8>) {
         match line {
-            [] => append_standing(&self.record, output),
+            [] => append_answer(&standing(&self.record, &self.page), &[], output),
             _ => self.call(line, output),
         }
     }
 }
 
-/// Appends the answer to an empty line: how the end with this record stands.
-pub fn append_standing(record: &[u8], output: &mut Vec<u8>) {
-    append_answer(&standing(record), &[], output);
+/// The record of a fresh end, which a restart makes with a new page.
+pub fn fresh() -> [u8; RECORD] {
+    let mut record = [0; RECORD];
+    restart(&mut record, &page::NEW).expect("a new page is right");
+    record
 }
 
 /// Appends the answer line and, if a frame is sent, its line.
@@ -187,6 +198,8 @@ mod tests {
             ("4g", 2),
             ("0a", 3),
             ("47", 3),
+            ("53", 3),
+            ("5350", 3),
             ("4A", 3),
             ("5040", 3),
             ("520000", 3),

@@ -1,5 +1,6 @@
 //! The record of an end.
 
+use crate::buffer::put;
 use crate::held::{Held, HELD};
 use crate::waiting::{Waiting, WAITING};
 use crate::{Refusal, State};
@@ -8,6 +9,8 @@ use crate::{Refusal, State};
 pub const RECORD: usize = HEAD + WAITING + HELD;
 /// The bytes before the waiting blocks: state, L, D, t, e.
 const HEAD: usize = 17;
+/// Where L stands.
+const LOCAL: usize = 1;
 
 /// A sound record: its numbers by value, its blocks where they stand.
 pub struct Record<'a> {
@@ -38,7 +41,7 @@ impl<'a> Record<'a> {
         let held = held.try_into().expect("the rest is the held blocks");
         let record = Self {
             state: State::of(head[0]).ok_or(Refusal::Unsound)?,
-            local: number(head, 1),
+            local: number(head, LOCAL),
             remote: number(head, 5),
             accepted: number(head, 9),
             handed_up: number(head, 13),
@@ -116,9 +119,14 @@ impl<'a> Record<'a> {
 /// The state byte, L and D of a record as it stands, sound or not; zeros if it is too short.
 pub fn summary(record: &[u8]) -> (u8, u32, u32) {
     match record.first_chunk::<RECORD>() {
-        Some(record) => (record[0], number(record, 1), number(record, 5)),
+        Some(record) => (record[0], local(record), number(record, 5)),
         None => (0, 0, 0),
     }
+}
+
+/// L of a record.
+pub fn local(record: &[u8; RECORD]) -> u32 {
+    number(record, LOCAL)
 }
 
 /// Question 12 of a record that is only read.
@@ -126,9 +134,10 @@ pub fn ask_sound(record: &[u8; RECORD]) -> Result<(), Refusal> {
     Record::read(&mut record.clone()).map(drop)
 }
 
-/// Makes the record that of a fresh end: closed, with both numbers 0.
-pub fn make_fresh(record: &mut [u8; RECORD]) {
+/// Makes the record that of an end which restarts with this L: closed, all else 0.
+pub fn restart(record: &mut [u8; RECORD], local: u32) {
     record.fill(0);
+    put(&mut record[LOCAL..], &local.to_be_bytes());
 }
 
 /// The number in these 4 bytes.
@@ -312,11 +321,13 @@ mod tests {
     }
 
     #[test]
-    fn a_fresh_record_is_all_zeros_and_sound() {
-        let mut bytes = [7; RECORD];
-        make_fresh(&mut bytes);
-        assert_eq!(bytes, [0; RECORD]);
-        assert!(Record::read(&mut bytes).is_ok());
+    fn a_record_that_restarts_is_closed_and_sound_with_zeros_beside_l() {
+        for local in [0, 16, 0x0001_0000] {
+            let mut found = [7; RECORD];
+            restart(&mut found, local);
+            assert_eq!(found, bytes(0, [local, 0, 0, 0], 0));
+            assert!(Record::read(&mut found).is_ok());
+        }
     }
 
     #[test]

@@ -32,6 +32,8 @@ pub enum Refusal {
     Absent = 13,
     /// The book has no place left for the frame to send.
     BookFull = 14,
+    /// A page is not a run of 00 followed only by FF, or has not as many 00 as L asks for.
+    Page = 15,
 }
 
 impl Refusal {
@@ -56,5 +58,6 @@ mod tests {
         assert_eq!(number::<()>(Err(Refusal::LineLength)), 1);
         assert_eq!(number::<()>(Err(Refusal::Buffer)), 11);
         assert_eq!(number::<()>(Err(Refusal::BookFull)), 14);
+        assert_eq!(number::<()>(Err(Refusal::Page)), 15);
     }
 }

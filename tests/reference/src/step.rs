@@ -18,6 +18,8 @@ pub struct Outcome<'a> {
     pub sending: Option<Sending>,
     /// The block handed up: part of the received frame, or collected into the buffer lent for it.
     pub block: Option<Block<'a>>,
+    /// The byte of the page to reserve before anything else is stored.
+    pub reserving: Option<usize>,
 }
 
 /// A frame to send. Its sender's number is the end's own.
@@ -37,6 +39,7 @@ impl Outcome<'_> {
         notice: Notice::None,
         sending: None,
         block: None,
+        reserving: None,
     };
 
     /// This frame is sent.
@@ -55,6 +58,21 @@ impl Outcome<'_> {
     /// The same with this notice.
     fn with(self, notice: Notice) -> Self {
         Self { notice, ..self }
+    }
+
+    /// The same with this byte of the page to reserve, if any.
+    fn reserve(self, reserving: Option<usize>) -> Self {
+        Self { reserving, ..self }
+    }
+
+    /// The same without its block, so that nothing is borrowed.
+    pub fn without_block(self) -> Outcome<'static> {
+        Outcome {
+            block: None,
+            notice: self.notice,
+            sending: self.sending,
+            reserving: self.reserving,
+        }
     }
 }
 

@@ -1,13 +1,11 @@
 //! One call, the buffers lent to it, and what it answers and leaves there.
 
-use super::implementation::{Bench, Lent, Named, Reply};
+use super::implementation::{Bench, Lent, Named, Reply, Shown};
 use super::scene::Scene;
 use crate::group::Group;
 use crate::guarded::Guarded;
 use crate::random::Random;
-use crate::records;
 use crate::Reference;
-use reference::bench;
 use reference::bench::book::PLACES;
 use reference::block::LONGEST_BLOCK;
 use reference::frame::LONGEST_FRAME;
@@ -31,19 +29,16 @@ pub struct Buffers {
     count: usize,
     line: Guarded,
     records: [Guarded; 2],
+    pages: [Guarded; 2],
     book: Guarded,
     out: Guarded,
     up: Guarded,
 }
 
 impl Buffers {
-    /// Buffers with this scene and line: mostly as they are, else with a wrong record or count,
-    /// or shorter or longer than needed.
+    /// Buffers with this scene and line: mostly as they are, else with a wrong count, or shorter or
+    /// longer than needed.
     pub fn any(random: &mut Random, scene: &Scene, line: &[u8]) -> Self {
-        let mut records = scene.records;
-        if random.within(0..=11) == 0 {
-            records[random.within(0..=1)] = records::any(random);
-        }
         let count = match random.within(0..=23) {
             0 => random.pick(&TOO_MANY),
             _ => scene.count,
@@ -53,7 +48,12 @@ impl Buffers {
         Self {
             count,
             line: Guarded::of(random, line),
-            records: records.map(|record| Guarded::resized(random, record.to_vec())),
+            records: scene
+                .records
+                .map(|record| Guarded::resized(random, record.to_vec())),
+            pages: scene
+                .pages
+                .map(|page| Guarded::resized(random, page.to_vec())),
             book: Guarded::resized(random, scene.book.clone()),
             out: Guarded::resized(random, frame),
             up: Guarded::resized(random, block),
@@ -70,8 +70,8 @@ impl Buffers {
     }
 
     /// One case, in the group `named` if there is a frame to name, else in `none`: what this
-    /// implementation names is right.
-    pub fn compare_question<B: Bench>(&self, [named, none]: &mut [Group; 2]) {
+    /// implementation names is right. Gives the right number.
+    pub fn compare_question<B: Bench>(&self, [named, none]: &mut [Group; 2]) -> u8 {
         let found = self.after(Self::some_frame::<B>);
         let mut right = self.after(Self::some_frame::<Reference>);
         let group = match right.reply.frame {
@@ -81,13 +81,14 @@ impl Buffers {
         if self.is_right(found.reply.frame) {
             right.reply.frame = found.reply.frame;
         }
-        group.check(self, right.reply.number, &found, &right);
+        let number = right.reply.number;
+        group.check(self, number, &found, &right);
+        number
     }
 
     /// Is it the number of a frame whose delivery now would be accepted and change a record?
     fn is_right(&self, frame: Option<usize>) -> bool {
-        let records = self.records.each_ref().map(Guarded::bytes);
-        let changing = bench::changing(records, self.book.bytes(), self.count).unwrap_or_default();
+        let changing = self.shown().changing().unwrap_or_default();
         frame.is_some_and(|frame| changing.contains(&frame))
     }
 
@@ -106,6 +107,7 @@ impl Buffers {
     fn line<B: Bench>(&mut self) -> Reply {
         let lent = Lent {
             records: self.records.each_mut().map(Guarded::bytes_mut),
+            pages: self.pages.each_mut().map(Guarded::bytes_mut),
             book: self.book.bytes_mut(),
             count: self.count,
             out: self.out.bytes_mut(),
@@ -116,8 +118,17 @@ impl Buffers {
 
     /// The question, asked of this implementation.
     fn some_frame<B: Bench>(&mut self) -> Named {
-        let records = self.records.each_ref().map(Guarded::bytes);
-        B::some_frame(records, self.book.bytes(), self.count)
+        B::some_frame(self.shown())
+    }
+
+    /// What the question is lent.
+    fn shown(&self) -> Shown<'_> {
+        Shown {
+            records: self.records.each_ref().map(Guarded::bytes),
+            pages: self.pages.each_ref().map(Guarded::bytes),
+            book: self.book.bytes(),
+            count: self.count,
+        }
     }
 }
 
@@ -140,10 +151,14 @@ impl<R: Debug> Debug for After<'_, R> {
         let (before, after) = (self.before, &self.after);
         let [a, b] = &after.records;
         let [a_before, b_before] = &before.records;
+        let [a_page, b_page] = &after.pages;
+        let [a_page_before, b_page_before] = &before.pages;
         out.debug_struct("After")
             .field("reply", &self.reply)
             .field("a", &a.changed(a_before))
             .field("b", &b.changed(b_before))
+            .field("a_page", &a_page.changed(a_page_before))
+            .field("b_page", &b_page.changed(b_page_before))
             .field("book", &after.book.changed(&before.book))
             .field("out", &after.out.changed(&before.out))
             .field("up", &after.up.changed(&before.up))

@@ -3,7 +3,7 @@
 use crate::end;
 use crate::Reference;
 use reference::bench;
-use reference::refusal;
+use reference::{refusal, Refusal};
 
 /// One implementation of a bench.
 pub trait Bench {
@@ -11,13 +11,15 @@ pub trait Bench {
     fn line(lent: Lent, line: &[u8]) -> Reply;
     /// The question: names some frame in the book whose delivery now would be accepted and change
     /// the receiver's record.
-    fn some_frame(records: [&[u8]; 2], book: &[u8], count: usize) -> Named;
+    fn some_frame(shown: Shown) -> Named;
 }
 
 /// What is lent to a bench line.
 pub struct Lent<'a> {
     /// The records of A and B.
     pub records: [&'a mut [u8]; 2],
+    /// Their pages.
+    pub pages: [&'a mut [u8]; 2],
     pub book: &'a mut [u8],
     /// How many frames the book holds.
     pub count: usize,
@@ -25,6 +27,25 @@ pub struct Lent<'a> {
     pub out: &'a mut [u8],
     /// For a block that is collected.
     pub up: &'a mut [u8],
+}
+
+/// What is lent to the question.
+#[derive(Clone, Copy)]
+pub struct Shown<'a> {
+    /// The records of A and B.
+    pub records: [&'a [u8]; 2],
+    /// Their pages.
+    pub pages: [&'a [u8]; 2],
+    pub book: &'a [u8],
+    /// How many frames the book holds.
+    pub count: usize,
+}
+
+impl Shown<'_> {
+    /// The numbers of all frames that may be named.
+    pub fn changing(self) -> Result<Vec<usize>, Refusal> {
+        bench::changing(self.records, self.pages, self.book, self.count)
+    }
 }
 
 /// What a bench line is answered.
@@ -52,13 +73,14 @@ impl Bench for Reference {
     fn line(lent: Lent, line: &[u8]) -> Reply {
         let Lent {
             records,
+            pages,
             book,
             count,
             out,
             up,
         } = lent;
         let buffers = [book.as_ptr_range(), up.as_ptr_range()];
-        let answer = bench::line(records, book, count, line, out, up);
+        let answer = bench::line(records, pages, book, count, line, out, up);
         Reply {
             side: answer.side as u8,
             end: end::Reply::of(&answer.end, &buffers),
@@ -66,8 +88,8 @@ impl Bench for Reference {
         }
     }
 
-    fn some_frame(records: [&[u8]; 2], book: &[u8], count: usize) -> Named {
-        let named = bench::some_frame(records, book, count);
+    fn some_frame(shown: Shown) -> Named {
+        let named = bench::some_frame(shown.records, shown.pages, shown.book, shown.count);
         Named {
             number: refusal::number(named),
             frame: named.ok().flatten(),

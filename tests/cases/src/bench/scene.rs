@@ -1,15 +1,17 @@
-//! Scenes: two sound records and a book, right or damaged, and lines for them.
+//! Scenes: two sound records with their pages and a book, right or damaged, and lines for them.
 
+use super::implementation::Shown;
 use crate::alter::{alter, capitals, damage};
-use crate::near;
 use crate::random::Random;
-use crate::records::sound;
+use crate::records::{self, sound};
 use crate::sample::{hex_digits, FRAME_KINDS};
+use crate::{near, pages};
 use reference::bench::book::{self, Place, BOOK, HEAD, PLACE, PLACES};
-use reference::bench::{self, Side, DELIVER};
+use reference::bench::{self, Side, DELIVER, RESTART};
 use reference::block::LONGEST_BLOCK;
 use reference::frame::LONGEST_FRAME;
 use reference::line;
+use reference::page::{self, PAGE};
 use reference::record::RECORD;
 
 /// A session has so many lines at most.
@@ -18,9 +20,11 @@ const SESSION: usize = 900;
 /// looked at.
 const LENGTHS: [usize; 8] = [154, 155, 156, 157, 158, 160, 256 + 6, (1 << 16) + 6];
 
-/// Two records, the book and its count.
+/// Two records with their pages, the book and its count.
+#[derive(Clone)]
 pub struct Scene {
     pub records: [[u8; RECORD]; 2],
+    pub pages: [[u8; PAGE]; 2],
     pub book: Vec<u8>,
     pub count: usize,
 }
@@ -45,12 +49,14 @@ impl Scene {
     fn session(random: &mut Random) -> Self {
         let mut scene = Self {
             records: [[0; RECORD]; 2],
+            pages: [page::NEW; 2],
             book: vec![0; BOOK],
             count: 0,
         };
         for _ in 0..random.within(0..=SESSION) {
-            let bytes = match random.within(0..=1) {
-                0 => scene.request(random),
+            let bytes = match random.within(0..=120) {
+                0 => restart(random),
+                1..=60 => scene.request(random),
                 _ => scene.delivery(random),
             };
             scene.take(&line::write(&bytes));
@@ -61,9 +67,11 @@ impl Scene {
     /// Takes a line.
     fn take(&mut self, line: &[u8]) {
         let [a, b] = &mut self.records;
+        let [a_page, b_page] = &mut self.pages;
+        let pages = [&mut a_page[..], &mut b_page[..]];
         let out = &mut [0; LONGEST_FRAME];
         let up = &mut [0; LONGEST_BLOCK];
-        let answer = bench::line([a, b], &mut self.book, self.count, line, out, up);
+        let answer = bench::line([a, b], pages, &mut self.book, self.count, line, out, up);
         self.count = answer.count;
     }
 
@@ -91,9 +99,35 @@ impl Scene {
             _ => random.within(0..=PLACES),
         };
         Self {
+            pages: records.each_ref().map(pages::right),
             records,
             book,
             count,
+        }
+    }
+
+    /// The same, where one of so many has a wrong record, and one a wrong page.
+    pub fn damaged(&self, random: &mut Random, one_of: usize) -> Self {
+        let mut scene = self.clone();
+        if random.within(1..=one_of) == 1 {
+            let end = random.within(0..=1);
+            scene.records[end] = records::any(random);
+            scene.pages[end] = pages::right(&scene.records[end]);
+        }
+        if random.within(1..=one_of) == 1 {
+            let end = random.within(0..=1);
+            pages::damage(random, &mut scene.pages[end]);
+        }
+        scene
+    }
+
+    /// What is lent to the question.
+    pub fn shown(&self) -> Shown<'_> {
+        Shown {
+            records: self.records.each_ref().map(|record| &record[..]),
+            pages: self.pages.each_ref().map(|page| &page[..]),
+            book: &self.book,
+            count: self.count,
         }
     }
 
@@ -104,9 +138,8 @@ impl Scene {
 
     /// Damages frames until the delivery of this many at most would change a record.
     pub fn thin(&mut self, random: &mut Random, left: usize) {
-        let records = self.records.each_ref().map(|record| &record[..]);
-        let changing = bench::changing(records, &self.book, self.count);
-        let mut changing = changing.expect("the records are sound");
+        let changing = self.shown().changing();
+        let mut changing = changing.expect("the records are sound and the pages right");
         while changing.len() > left {
             let number = changing.swap_remove(random.within(0..=changing.len() - 1));
             let place = &mut self.places_mut()[number];
@@ -119,23 +152,10 @@ impl Scene {
         }
     }
 
-    /// A line for this scene, in a fifth of the cases with capitals, now and then with wrong
-    /// characters or a wrong length.
+    /// A line for this scene.
     pub fn line(&self, random: &mut Random) -> Vec<u8> {
-        let mut line = line::write(&self.bytes(random));
-        capitals(random, &mut line);
-        match random.within(0..=31) {
-            0 | 1 => damage(random, &mut line),
-            2 => line.truncate(random.within(0..=line.len())),
-            3 => line.extend(random.bytes_within(1..=3)),
-            4 => line = random.bytes_within(0..=200),
-            5 => {
-                let length = random.pick(&LENGTHS);
-                line = hex_digits(random, length);
-            }
-            _ => {}
-        }
-        line
+        let bytes = self.bytes(random);
+        written(random, &bytes)
     }
 
     /// The bytes of a line: mostly of a request or a delivery, else of one with a fault.
@@ -154,6 +174,8 @@ impl Scene {
             6 | 7 => deliver(self.number_beyond(random)),
             8..=12 => self.altered_request(random),
             13..=18 => self.request(random),
+            19 => restart(random),
+            20 => altered_restart(random),
             _ => self.delivery(random),
         }
     }
@@ -211,6 +233,58 @@ pub fn deliver(number: usize) -> Vec<u8> {
     vec![DELIVER, high, low]
 }
 
+/// The line of these bytes, in a fifth of the cases with capitals, now and then with wrong
+/// characters or a wrong length.
+fn written(random: &mut Random, bytes: &[u8]) -> Vec<u8> {
+    let mut line = line::write(bytes);
+    capitals(random, &mut line);
+    match random.within(0..=31) {
+        0 | 1 => damage(random, &mut line),
+        2 => line.truncate(random.within(0..=line.len())),
+        3 => line.extend(random.bytes_within(1..=3)),
+        4 => line = random.bytes_within(0..=200),
+        5 => {
+            let length = random.pick(&LENGTHS);
+            line = hex_digits(random, length);
+        }
+        _ => {}
+    }
+    line
+}
+
+/// A line that restarts an end, in a third of the cases with a fault.
+pub fn restart_line(random: &mut Random) -> Vec<u8> {
+    let bytes = match random.within(0..=2) {
+        0 => altered_restart(random),
+        _ => restart(random),
+    };
+    written(random, &bytes)
+}
+
+/// The bytes of a line that restarts some end.
+fn restart(random: &mut Random) -> Vec<u8> {
+    vec![RESTART, random.pick(&Side::BOTH).lead()]
+}
+
+/// The bytes of a line that nearly restarts an end: without an end byte, with another one, or with
+/// more after it.
+fn altered_restart(random: &mut Random) -> Vec<u8> {
+    let other = match random.within(0..=1) {
+        0 => random.pick(&[0x00, 0x40, 0x4f, 0x52, 0x53, 0xff]),
+        _ => random.byte(),
+    };
+    let more = match random.within(0..=1) {
+        0 => vec![random.pick(&[0x00, 0x40, 0x50, 0x51])],
+        _ => random.bytes_within(1..=76),
+    };
+    match random.within(0..=3) {
+        0 => vec![RESTART],
+        1 => vec![RESTART, other],
+        2 => [&[RESTART, other], &more[..]].concat(),
+        _ => [&restart(random)[..], &more].concat(),
+    }
+}
+
 /// Damages a place: its sender, its length, what follows its frame, its frame, or all of it.
 fn damage_place(random: &mut Random, place: &mut Place) {
     let length = usize::from(place[1]).min(LONGEST_FRAME);
@@ -249,6 +323,7 @@ mod tests {
             for record in &mut scene.records {
                 assert!(Record::read(record).is_ok());
             }
+            assert_eq!(scene.pages, scene.records.each_ref().map(pages::right));
             match scene.count {
                 0 => empty += 1,
                 511 => last += 1,
@@ -265,8 +340,7 @@ mod tests {
         for left in [0, 1, 2].repeat(30) {
             let mut scene = Scene::any(&mut random);
             scene.thin(&mut random, left);
-            let records = scene.records.each_ref().map(|record| &record[..]);
-            let changing = bench::changing(records, &scene.book, scene.count).unwrap();
+            let changing = scene.shown().changing().unwrap();
             assert!(changing.len() <= left, "{changing:?}");
         }
     }

@@ -2,17 +2,18 @@
 
 mod hanging_up;
 mod held;
+mod restart;
 
-use super::{calls, compare, lines, questions, Bench, Lent, Named, Reply};
-use crate::coverage::Coverage;
+use super::{calls, compare, lines, nothing_met, questions, Bench, Lent, Named, Reply, Shown};
 use crate::group::Group;
 use crate::records::{self, HELD_LENGTHS};
-use crate::Reference;
+use crate::{pages, Reference};
 use reference::bench::book::{self, Place, BOOK, HEAD, PLACE, PLACES};
-use reference::bench::{self, Order, Side};
+use reference::bench::{Order, Side};
 use reference::block::LONGEST_BLOCK;
 use reference::frame::LONGEST_FRAME;
 use reference::line;
+use reference::page::{self, PAGE};
 use reference::record::{Record, RECORD};
 use reference::Frame;
 
@@ -23,22 +24,23 @@ impl Bench for Checked {
     fn line(lent: Lent, line: &[u8]) -> Reply {
         let Lent {
             records: [a, b],
+            pages: [a_page, b_page],
             book,
             count,
             out,
             up,
         } = lent;
-        let before = [&*a, &*b, &*book, &*out, &*up].map(<[u8]>::to_vec);
-        let records = [&mut *a, &mut *b];
+        let before = [&*a, &*b, &*book, &*out, &*up, &*a_page, &*b_page].map(<[u8]>::to_vec);
         let again = Lent {
-            records,
+            records: [&mut *a, &mut *b],
+            pages: [&mut *a_page, &mut *b_page],
             book: &mut *book,
             count,
             out: &mut *out,
             up: &mut *up,
         };
         let reply = Reference::line(again, line);
-        let after = [&*a, &*b, &*book, &*out, &*up].map(<[u8]>::to_vec);
+        let after = [&*a, &*b, &*book, &*out, &*up, &*a_page, &*b_page].map(<[u8]>::to_vec);
         match reply.end.number {
             0 => assert_accepted(&before, &after, count, &reply),
             _ => assert_refused(&before, &after, count, &reply),
@@ -46,18 +48,19 @@ impl Bench for Checked {
         reply
     }
 
-    fn some_frame(records: [&[u8]; 2], book: &[u8], count: usize) -> Named {
-        let named = Reference::some_frame(records, book, count);
+    fn some_frame(shown: Shown) -> Named {
+        let named = Reference::some_frame(shown);
         match named.number {
-            0 => assert_named(records, book, count, named.frame),
+            0 => assert_named(shown, named.frame),
             _ => assert_eq!(named.frame, None),
         }
         named
     }
 }
 
-/// The records of A and B, the book, the buffers for the frame and for a collected block.
-type All = [Vec<u8>; 5];
+/// The records of A and B, the book, the buffers for the frame and for a collected block, the pages
+/// of A and B.
+type All = [Vec<u8>; 7];
 
 /// A refusal leaves all bytes and the count, and tells nothing.
 fn assert_refused(before: &All, after: &All, count: usize, reply: &Reply) {
@@ -67,7 +70,7 @@ fn assert_refused(before: &All, after: &All, count: usize, reply: &Reply) {
     assert_eq!((end.notice, end.sent, end.block.len()), (0, 0, 0));
 }
 
-/// A success leaves sound records, the other end's as it was; what it sends is a readable frame,
+/// A success leaves a sound record with the right page, and the other end's as they were; what it sends is a readable frame,
 /// written to the buffer and, whole, to the next place; a block that is not part of the book was
 /// held, and is written to the buffer for it; all other bytes stay.
 fn assert_accepted(before: &All, after: &All, count: usize, reply: &Reply) {
@@ -77,6 +80,7 @@ fn assert_accepted(before: &All, after: &All, count: usize, reply: &Reply) {
     let record = *after[own].first_chunk::<RECORD>().unwrap();
     assert!(Record::read(&mut record.clone()).is_ok());
     right[own][..RECORD].copy_from_slice(&record);
+    right[5 + own][..PAGE].copy_from_slice(&pages::right(&record));
     let sent = reply.end.sent;
     if sent > 0 {
         let frame = &after[3][..sent];
@@ -97,16 +101,22 @@ fn assert_accepted(before: &All, after: &All, count: usize, reply: &Reply) {
 }
 
 /// Deliveries say the same: all frames up to the one named change nothing, and that one does.
-fn assert_named(records: [&[u8]; 2], book: &[u8], count: usize, frame: Option<usize>) {
+fn assert_named(shown: Shown, frame: Option<usize>) {
     let changes = |number: usize| {
-        let [mut a, mut b] = records.map(<[u8]>::to_vec);
-        let (out, up) = (&mut [0; LONGEST_FRAME], &mut [0; LONGEST_BLOCK]);
-        let line = format!("52{number:04x}");
-        let mut book = book.to_vec();
-        let answer = bench::line([&mut a, &mut b], &mut book, count, line.as_bytes(), out, up);
-        answer.end.number == 0 && [a, b] != records.map(<[u8]>::to_vec)
+        let [mut a, mut b] = shown.records.map(<[u8]>::to_vec);
+        let [mut a_page, mut b_page] = shown.pages.map(<[u8]>::to_vec);
+        let lent = Lent {
+            records: [&mut a, &mut b],
+            pages: [&mut a_page, &mut b_page],
+            book: &mut shown.book.to_vec(),
+            count: shown.count,
+            out: &mut [0; LONGEST_FRAME],
+            up: &mut [0; LONGEST_BLOCK],
+        };
+        let reply = Reference::line(lent, format!("52{number:04x}").as_bytes());
+        reply.end.number == 0 && [a, b] != shown.records.map(<[u8]>::to_vec)
     };
-    let last = frame.map_or(count, |frame| frame + 1);
+    let last = frame.map_or(shown.count, |frame| frame + 1);
     let first_change = (last.saturating_sub(20)..last).find(|&number| changes(number));
     assert_eq!(first_change, frame);
 }
@@ -120,17 +130,17 @@ fn the_reference_equals_itself_and_keeps_its_promises() {
 
 /// How many calls of one round fail.
 fn failed<B: Bench>() -> u64 {
-    calls::<B>(1, &mut Coverage::default()).failed
+    calls::<B>(1, &mut nothing_met()).failed
 }
 
 /// How many lines of four rounds fail: a fault that few lines show needs more of them.
 fn failed_lines<B: Bench>() -> u64 {
-    lines::<B>(4, &mut Coverage::default()).report().failed
+    lines::<B>(4, &mut nothing_met()).report().failed
 }
 
 /// How many questions of four rounds fail.
 fn failed_questions<B: Bench>() -> u64 {
-    let groups = questions::<B>(4);
+    let groups = questions::<B>(4, &mut nothing_met());
     groups
         .iter()
         .map(Group::report)
@@ -146,8 +156,8 @@ impl Bench for Last {
         Reference::line(lent, line)
     }
 
-    fn some_frame(records: [&[u8]; 2], book: &[u8], count: usize) -> Named {
-        match bench::changing(records, book, count) {
+    fn some_frame(shown: Shown) -> Named {
+        match shown.changing() {
             Ok(changing) => Named {
                 number: 0,
                 frame: changing.last().copied(),
@@ -190,12 +200,14 @@ impl<const FAULT: u8> Bench for Broken<FAULT> {
     fn line(lent: Lent, line: &[u8]) -> Reply {
         let Lent {
             records: [a, b],
+            pages: [a_page, b_page],
             book,
             count,
             out,
             up,
         } = lent;
         let before = book.to_vec();
+        let mut new = page::NEW;
         let mut fresh = [0; RECORD];
         let forgets_b = FAULT == FORGETS_THE_OTHER_RECORD && line.starts_with(b"50");
         let forgets_length = FAULT == FORGETS_THE_BOOKS_LENGTH && book.len() < BOOK;
@@ -205,6 +217,7 @@ impl<const FAULT: u8> Bench for Broken<FAULT> {
         };
         let broken = Lent {
             records: [&mut *a, if forgets_b { &mut fresh } else { &mut *b }],
+            pages: [a_page, if forgets_b { &mut new } else { b_page }],
             book: if forgets_length {
                 &mut longer
             } else {
@@ -236,8 +249,8 @@ impl<const FAULT: u8> Bench for Broken<FAULT> {
         reply
     }
 
-    fn some_frame(records: [&[u8]; 2], book: &[u8], count: usize) -> Named {
-        Reference::some_frame(records, book, count)
+    fn some_frame(shown: Shown) -> Named {
+        Reference::some_frame(shown)
     }
 }
 
@@ -365,8 +378,8 @@ impl<const FAULT: u8> Bench for Misreading<FAULT> {
         reply
     }
 
-    fn some_frame(records: [&[u8]; 2], book: &[u8], count: usize) -> Named {
-        Reference::some_frame(records, book, count)
+    fn some_frame(shown: Shown) -> Named {
+        Reference::some_frame(shown)
     }
 }
 
@@ -404,8 +417,15 @@ impl<const FAULT: u8> Bench for Misnaming<FAULT> {
         Reference::line(lent, line)
     }
 
-    fn some_frame(records: [&[u8]; 2], book: &[u8], count: usize) -> Named {
-        let right = Reference::some_frame(records, book, count);
+    fn some_frame(shown: Shown) -> Named {
+        let right = Reference::some_frame(shown);
+        let count = shown.count;
+        let fewer = || {
+            Reference::some_frame(Shown {
+                count: count - 1,
+                ..shown
+            })
+        };
         match (FAULT, right.number) {
             (NEVER_REFUSES, _) => Named { number: 0, ..right },
             (_, 1..) => right,
@@ -414,12 +434,8 @@ impl<const FAULT: u8> Bench for Misnaming<FAULT> {
                 frame: right.frame.map(|frame| frame + 1),
                 ..right
             },
-            (NAMES_WHAT_14_REFUSES, _) if count == PLACES => {
-                Reference::some_frame(records, book, count - 1)
-            }
-            (LOOKS_AT_ONE_TOO_FEW, _) if count > 0 => {
-                Reference::some_frame(records, book, count - 1)
-            }
+            (NAMES_WHAT_14_REFUSES, _) if count == PLACES => fewer(),
+            (LOOKS_AT_ONE_TOO_FEW, _) if count > 0 => fewer(),
             (NAMES_WHAT_ONLY_SENDS, _) if right.frame.is_none() && count > 0 => Named {
                 frame: Some(0),
                 ..right

@@ -1,17 +1,23 @@
 //! The calls that an implementation of an end offers.
 
 use crate::Reference;
-use reference::{call, Answer, Block};
+use reference::{call, refusal, Answer, Block};
 use std::ops::Range;
 
 /// One implementation of an end.
 pub trait End {
-    /// Makes the record that of a fresh end; answers 0, or the number of the refusal.
-    fn fresh(record: &mut [u8]) -> u8;
+    /// Makes the record anew from the page; answers 0, or the number of the refusal.
+    fn restart(record: &mut [u8], page: &[u8]) -> u8;
     /// A request of the host; a block that it collects goes up.
-    fn request(record: &mut [u8], request: &[u8], out: &mut [u8], up: &mut [u8]) -> Reply;
+    fn request(
+        record: &mut [u8],
+        page: &mut [u8],
+        request: &[u8],
+        out: &mut [u8],
+        up: &mut [u8],
+    ) -> Reply;
     /// A frame that arrives.
-    fn receive(record: &mut [u8], frame: &[u8], out: &mut [u8]) -> Reply;
+    fn receive(record: &mut [u8], page: &[u8], frame: &[u8], out: &mut [u8]) -> Reply;
 }
 
 /// What a call answers.
@@ -30,18 +36,24 @@ pub struct Reply {
 }
 
 impl End for Reference {
-    fn fresh(record: &mut [u8]) -> u8 {
-        call::fresh(record)
+    fn restart(record: &mut [u8], page: &[u8]) -> u8 {
+        refusal::number(call::restart(record, page))
     }
 
-    fn request(record: &mut [u8], request: &[u8], out: &mut [u8], up: &mut [u8]) -> Reply {
+    fn request(
+        record: &mut [u8],
+        page: &mut [u8],
+        request: &[u8],
+        out: &mut [u8],
+        up: &mut [u8],
+    ) -> Reply {
         let buffer = up.as_ptr_range();
-        Reply::of(&call::request(record, request, out, up), &[buffer])
+        Reply::of(&call::request(record, page, request, out, up), &[buffer])
     }
 
-    fn receive(record: &mut [u8], frame: &[u8], out: &mut [u8]) -> Reply {
+    fn receive(record: &mut [u8], page: &[u8], frame: &[u8], out: &mut [u8]) -> Reply {
         let buffer = frame.as_ptr_range();
-        Reply::of(&call::receive(record, frame, out), &[buffer])
+        Reply::of(&call::receive(record, page, frame, out), &[buffer])
     }
 }
 

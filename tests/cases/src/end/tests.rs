@@ -2,9 +2,10 @@
 
 mod hanging_up;
 mod held;
+mod page;
+mod rejection;
 
-use super::{compare, requests, End, Reply};
-use crate::coverage::Coverage;
+use super::{compare, frames, nothing_met, requests, End, Reply};
 use crate::Reference;
 use reference::frame::LONGEST_FRAME;
 use reference::record::{Record, RECORD};
@@ -14,29 +15,45 @@ use reference::Frame;
 struct Checked;
 
 impl End for Checked {
-    fn fresh(record: &mut [u8]) -> u8 {
-        Reference::fresh(record)
+    fn restart(record: &mut [u8], page: &[u8]) -> u8 {
+        let before = record.to_vec();
+        let number = Reference::restart(record, page);
+        match number {
+            0 => assert_eq!(record[RECORD..], before[RECORD..]),
+            _ => assert_eq!(record, before),
+        }
+        number
     }
 
-    fn request(record: &mut [u8], request: &[u8], out: &mut [u8], up: &mut [u8]) -> Reply {
+    fn request(
+        record: &mut [u8],
+        page: &mut [u8],
+        request: &[u8],
+        out: &mut [u8],
+        up: &mut [u8],
+    ) -> Reply {
         let before = up.to_vec();
+        let page_before = page.to_vec();
         let reply = checked(record, out, |record, out| {
-            Reference::request(record, request, out, up)
+            Reference::request(record, page, request, out, up)
         });
+        assert!(reply.number == 0 || page == page_before);
+        let stored = page.iter().zip(&page_before).filter(|(a, b)| a != b);
+        assert!(stored.count() <= 1);
         assert_eq!(reply.block.start, 0);
         assert_eq!(up[reply.block.end..], before[reply.block.end..]);
         reply
     }
 
-    fn receive(record: &mut [u8], frame: &[u8], out: &mut [u8]) -> Reply {
+    fn receive(record: &mut [u8], page: &[u8], frame: &[u8], out: &mut [u8]) -> Reply {
         checked(record, out, |record, out| {
-            Reference::receive(record, frame, out)
+            Reference::receive(record, page, frame, out)
         })
     }
 }
 
 /// Makes the call. A refusal leaves all bytes; a success leaves a sound record, an L not below
-/// the one before, a readable frame, a block with notice 5 alone, and all other bytes.
+/// the one before and not above the last number, a readable frame, a block with notice 5 alone, and all other bytes.
 fn checked(
     record: &mut [u8],
     out: &mut [u8],
@@ -49,6 +66,7 @@ fn checked(
         let (sound, rest) = record.split_first_chunk_mut::<RECORD>().unwrap();
         assert!(Record::read(sound).is_ok());
         assert!(sound[1..5] >= record_before[1..5]);
+        assert!(reply.local <= 65_536);
         assert_eq!(rest, &record_before[RECORD..]);
         let (frame, rest) = out.split_at(reply.sent);
         assert_eq!(rest, &out_before[reply.sent..]);
@@ -71,14 +89,20 @@ fn the_reference_equals_itself_and_keeps_its_promises() {
 
 /// How many requests of an implementation fail.
 fn failed_requests<E: End>() -> u64 {
-    let group = requests::<E>(1, &mut Coverage::default());
+    let group = requests::<E>(1, &mut nothing_met());
+    group.report().failed
+}
+
+/// How many frames of an implementation fail.
+fn failed_frames<E: End>() -> u64 {
+    let group = frames::<E>(1, &mut nothing_met());
     group.report().failed
 }
 
 /// The reference with a fault.
 struct Broken<const FAULT: u8>;
 
-const FRESH_WRITES_ONE_MORE: u8 = 0;
+const RESTART_WRITES_ONE_MORE: u8 = 0;
 const WRITES_PAST_THE_FRAME: u8 = 1;
 const WRITES_THE_WHOLE_FRAME_BUFFER: u8 = 2;
 const WRITES_AS_IT_REFUSES: u8 = 3;
@@ -118,24 +142,30 @@ impl<const FAULT: u8> Broken<FAULT> {
 }
 
 impl<const FAULT: u8> End for Broken<FAULT> {
-    fn fresh(record: &mut [u8]) -> u8 {
-        let number = Reference::fresh(record);
+    fn restart(record: &mut [u8], page: &[u8]) -> u8 {
+        let number = Reference::restart(record, page);
         match record.get_mut(RECORD) {
-            Some(next) if FAULT == FRESH_WRITES_ONE_MORE => *next = !*next,
+            Some(next) if FAULT == RESTART_WRITES_ONE_MORE => *next = !*next,
             _ => {}
         }
         number
     }
 
-    fn request(record: &mut [u8], request: &[u8], out: &mut [u8], up: &mut [u8]) -> Reply {
+    fn request(
+        record: &mut [u8],
+        page: &mut [u8],
+        request: &[u8],
+        out: &mut [u8],
+        up: &mut [u8],
+    ) -> Reply {
         Self::call(record, out, |record, out| {
-            Reference::request(record, request, out, up)
+            Reference::request(record, page, request, out, up)
         })
     }
 
-    fn receive(record: &mut [u8], frame: &[u8], out: &mut [u8]) -> Reply {
+    fn receive(record: &mut [u8], page: &[u8], frame: &[u8], out: &mut [u8]) -> Reply {
         Self::call(record, out, |record, out| {
-            Reference::receive(record, frame, out)
+            Reference::receive(record, page, frame, out)
         })
     }
 }
@@ -143,7 +173,7 @@ impl<const FAULT: u8> End for Broken<FAULT> {
 #[test]
 fn every_fault_is_found() {
     let failed = [
-        compare::<Broken<FRESH_WRITES_ONE_MORE>>(1),
+        compare::<Broken<RESTART_WRITES_ONE_MORE>>(1),
         compare::<Broken<WRITES_PAST_THE_FRAME>>(1),
         compare::<Broken<WRITES_THE_WHOLE_FRAME_BUFFER>>(1),
         compare::<Broken<WRITES_AS_IT_REFUSES>>(1),

@@ -5,7 +5,7 @@ use crate::hanging_up::request;
 use crate::script::Script;
 use cases::random::Random;
 
-const SCRIPTS: u64 = 30;
+const SCRIPTS: u64 = 60;
 /// So many lines has each.
 const LINES: usize = 500;
 

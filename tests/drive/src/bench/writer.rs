@@ -9,8 +9,9 @@ use cases::records::waiting;
 use cases::sample::message;
 use reference::bench::book::PLACES;
 use reference::bench::program::BenchProgram;
-use reference::bench::Side;
-use reference::request::{CONNECT, END_LISTENING, SEND, TIMER};
+use reference::bench::{Side, RESTART};
+use reference::page::STRETCH;
+use reference::request::{CONNECT, END_LISTENING, LISTEN, SEND, TIMER};
 use reference::State;
 
 /// A bench, all that it was asked, and how far each end's deliveries have come.
@@ -28,6 +29,8 @@ pub struct Manner {
     pub deliveries: usize,
     /// So many deliveries of ten are of any frame, however old.
     pub old: usize,
+    /// So many lines of a thousand restart an end.
+    pub restarts: usize,
     pub request: Requests,
 }
 
@@ -37,6 +40,7 @@ impl Manner {
         Self {
             deliveries: random.within(3..=8),
             old: random.pick(&[0, 0, 1, 4, 10]),
+            restarts: 0,
             request,
         }
     }
@@ -58,11 +62,27 @@ impl Writer {
         self.line(&deliver(number))
     }
 
+    /// The restart of this end; gives its number.
+    pub fn restart(&mut self, side: Side) -> u8 {
+        self.line(&[RESTART, side.lead()])
+    }
+
+    /// This end restarts, and listens in vain until its next number is the last of its page byte.
+    pub fn listen_to_the_edge(&mut self, side: Side) {
+        self.restart(side);
+        for _ in 1..STRETCH {
+            self.request(side, &[LISTEN]);
+            self.request(side, &[END_LISTENING]);
+        }
+    }
+
     /// So many lines of a session of this manner.
     pub fn session(&mut self, random: &mut Random, manner: Manner, lines: usize) {
         for _ in 0..lines {
             let side = random.pick(&Side::BOTH);
-            if random.within(1..=10) <= manner.deliveries {
+            if manner.restarts > 0 && random.within(1..=1_000) <= manner.restarts {
+                self.restart(side);
+            } else if random.within(1..=10) <= manner.deliveries {
                 let number = self.frame_for(random, manner, side);
                 self.deliver(number);
             } else {

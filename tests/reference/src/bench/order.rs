@@ -9,6 +9,8 @@ pub const REQUEST_A: u8 = 0x50;
 pub const REQUEST_B: u8 = 0x51;
 /// The first byte of a line that delivers a frame.
 pub const DELIVER: u8 = 0x52;
+/// The first byte of a line that restarts an end.
+pub const RESTART: u8 = 0x53;
 
 /// A bench line.
 #[derive(Clone, Copy, Debug, PartialEq, Eq)]
@@ -17,16 +19,20 @@ pub enum Order<'a> {
     Request(Side, &'a [u8]),
     /// The delivery of the frame of this number.
     Delivery(usize),
+    /// The restart of this end.
+    Restart(Side),
 }
 
 impl<'a> Order<'a> {
-    /// Questions 3 and 4 of the line, as far as they concern its first byte and a delivery.
+    /// Questions 3 and 4 of the line, as far as they concern its first byte, a delivery and a
+    /// restart.
     pub fn read(line: &'a [u8]) -> Result<Self, Refusal> {
         let (kind, rest) = part::kind(line)?;
         match kind {
             REQUEST_A => Ok(Self::Request(Side::A, rest)),
             REQUEST_B => Ok(Self::Request(Side::B, rest)),
             DELIVER => number(rest).map(Self::Delivery),
+            RESTART => end(rest).map(Self::Restart),
             _ => Err(Refusal::Kind),
         }
     }
@@ -36,6 +42,15 @@ impl<'a> Order<'a> {
 fn number(bytes: &[u8]) -> Result<usize, Refusal> {
     let bytes = bytes.try_into().map_err(|_| Refusal::FixedPart)?;
     Ok(usize::from(u16::from_be_bytes(bytes)))
+}
+
+/// Questions 3 and 4 of a restart: is its end byte 50 or 51, and is there nothing more? Without any
+/// end byte its fixed part is not whole.
+fn end(bytes: &[u8]) -> Result<Side, Refusal> {
+    let (&lead, rest) = bytes.split_first().ok_or(Refusal::FixedPart)?;
+    let side = Side::of_lead(lead).ok_or(Refusal::Kind)?;
+    part::end(rest)?;
+    Ok(side)
 }
 
 #[cfg(test)]
@@ -63,9 +78,32 @@ mod tests {
     }
 
     #[test]
+    fn a_restart_has_an_end_byte() {
+        assert_eq!(Order::read(&[0x53, 0x50]), Ok(Order::Restart(Side::A)));
+        assert_eq!(Order::read(&[0x53, 0x51]), Ok(Order::Restart(Side::B)));
+        assert_eq!(Order::read(&[0x53]), Err(Refusal::FixedPart));
+        for lead in [0x50, 0x51] {
+            for more in [&[0][..], &[0x50], &[0x51], &[0, 0], &[0x40]] {
+                let line = [&[0x53, lead], more].concat();
+                assert_eq!(Order::read(&line), Err(Refusal::FixedPart));
+            }
+        }
+    }
+
+    #[test]
+    fn another_end_byte_is_not_known_whatever_follows() {
+        for lead in (0..=0x4f).chain(0x52..=0xff) {
+            for more in [&[][..], &[0], &[0x50], &[0, 0]] {
+                let line = [&[0x53, lead], more].concat();
+                assert_eq!(Order::read(&line), Err(Refusal::Kind));
+            }
+        }
+    }
+
+    #[test]
     fn other_kinds_are_not_known() {
         assert_eq!(Order::read(&[]), Err(Refusal::Kind));
-        for kind in (0..=0x4f).chain(0x53..=0xff) {
+        for kind in (0..=0x4f).chain(0x54..=0xff) {
             assert_eq!(Order::read(&[kind]), Err(Refusal::Kind));
             assert_eq!(Order::read(&[kind, 0, 0]), Err(Refusal::Kind));
         }

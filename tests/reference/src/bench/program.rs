@@ -1,26 +1,29 @@
-//! The bench program: two fresh ends and an empty book, asked line by line.
+//! The bench program: two fresh ends with new pages and an empty book, asked line by line.
 
 use super::book::{Place, BOOK, PLACE};
 use super::Side;
 use crate::block::LONGEST_BLOCK;
 use crate::frame::LONGEST_FRAME;
 use crate::line;
-use crate::program::append_answer;
+use crate::page::{self, PAGE};
+use crate::program::{append_answer, fresh};
 use crate::record::RECORD;
 use crate::stream::Lines;
 
 /// The bench program, which holds a bench.
 pub struct BenchProgram {
     records: [[u8; RECORD]; 2],
+    pages: [[u8; PAGE]; 2],
     book: Vec<u8>,
     count: usize,
 }
 
 impl Default for BenchProgram {
-    /// A program with fresh ends and an empty book.
+    /// A program with new pages, fresh ends and an empty book.
     fn default() -> Self {
         Self {
-            records: [[0; RECORD]; 2],
+            records: [fresh(); 2],
+            pages: [page::NEW; 2],
             book: vec![0; BOOK],
             count: 0,
         }
@@ -31,6 +34,11 @@ impl BenchProgram {
     /// The record of this end.
     pub fn record(&self, side: Side) -> &[u8; RECORD] {
         &self.records[side.index()]
+    }
+
+    /// The page of this end.
+    pub fn page(&self, side: Side) -> &[u8; PAGE] {
+        &self.pages[side.index()]
     }
 
     /// The places of the book that are in use.
@@ -49,8 +57,16 @@ impl Lines for BenchProgram {
         let mut frame = [0; LONGEST_FRAME];
         let mut up = [0; LONGEST_BLOCK];
         let [a, b] = &mut self.records;
-        let book = &mut self.book;
-        let answer = super::line([a, b], book, self.count, line, &mut frame, &mut up);
+        let [a_page, b_page] = &mut self.pages;
+        let answer = super::line(
+            [a, b],
+            [a_page, b_page],
+            &mut self.book,
+            self.count,
+            line,
+            &mut frame,
+            &mut up,
+        );
         line::append(&[answer.side.lead()], output);
         append_answer(&answer.end, &frame, output);
         self.count = answer.count;
@@ -112,13 +128,16 @@ mod tests {
                 include_str!("../../../../examples/hang-up-full-book.in"),
                 include_str!("../../../../examples/hang-up-full-book.out"),
             ),
-            (
-                include_str!("../../../../crates/bench/stdin"),
-                include_str!("../../../../crates/bench/stdout"),
-            ),
         ] {
             assert_eq!(output(input), answers);
         }
+    }
+
+    #[test]
+    fn the_stored_run_beside_the_program() {
+        let input = include_str!("../../../../crates/bench/stdin");
+        let answers = include_str!("../../../../crates/bench/stdout");
+        assert_eq!(output(input), answers);
     }
 
     #[test]
@@ -154,7 +173,18 @@ mod tests {
             ("5152", "5183"),
             ("5101", "5183"),
             ("5147", "5183"),
-            ("53", "5083"),
+            ("53", "5084"),
+            ("5352", "5083"),
+            ("5340", "5083"),
+            ("535200", "5083"),
+            ("535050", "5084"),
+            ("535150", "5084"),
+            ("53510000", "5084"),
+            ("5350", "5080"),
+            ("5351", "5180"),
+            ("54", "5083"),
+            ("5153", "5183"),
+            ("515351", "5183"),
             ("52", "5084"),
             ("5200", "5084"),
             ("52000000", "5084"),
@@ -175,6 +205,27 @@ mod tests {
         ] {
             assert_eq!(start_of_answer(line), right, "line {line:?}");
         }
+    }
+
+    #[test]
+    fn an_end_that_restarts_tells_its_partner_by_rej() {
+        let opening = "5141\n5040\n520000\n520001\n520002\n";
+        let input = format!("{opening}5351\n504403616263\n520003\n520004\n5140\n");
+        let answers = output(&input);
+        let answers: Vec<_> = answers.lines().skip(8).collect();
+        assert_eq!(
+            answers,
+            [
+                "518000000000001000000000",
+                "508004000000000100000001",
+                "0800000001000000010000000003616263",
+                "518000000000001000000000",
+                "040000001000000001",
+                "508000030000000100000000",
+                "518002000000001100000000",
+                "010000001100000000",
+            ]
+        );
     }
 
     #[test]
@@ -200,6 +251,7 @@ mod tests {
             book::place(Side::A, &[1, 0, 0, 0, 1, 0, 0, 0, 0])
         );
         let records = Side::BOTH.map(|side| &program.record(side)[..]);
-        assert_eq!(changing(records, program.book(), 512), Ok(vec![]));
+        let pages = Side::BOTH.map(|side| &program.page(side)[..]);
+        assert_eq!(changing(records, pages, program.book(), 512), Ok(vec![]));
     }
 }

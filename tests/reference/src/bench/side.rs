@@ -36,6 +36,11 @@ impl Side {
         }
     }
 
+    /// The end of this byte at the start of a line with a request, if it is 50 or 51.
+    pub fn of_lead(lead: u8) -> Option<Self> {
+        Self::BOTH.into_iter().find(|side| side.lead() == lead)
+    }
+
     /// Which of two things is this end's.
     pub fn index(self) -> usize {
         self as usize
@@ -67,5 +72,10 @@ mod tests {
     #[test]
     fn leads_are_50_and_51() {
         assert_eq!(Side::BOTH.map(Side::lead), [0x50, 0x51]);
+        for byte in 0..=u8::MAX {
+            let side = Side::of_lead(byte);
+            assert_eq!(side.is_some(), (0x50..=0x51).contains(&byte));
+            assert!(side.is_none_or(|side| side.lead() == byte));
+        }
     }
 }

@@ -21,12 +21,14 @@ pub fn make<'a>(record: &mut Record, frame: Frame<'a>) -> Outcome<'a> {
     }
 }
 
+/// What belongs to a connection is rejected, so that a partner that still has one is told.
 fn closed<'a>(frame: Frame) -> Outcome<'a> {
     let s = frame.sender;
-    match frame.signal() {
-        Some(Crao | Crpo) => Outcome::signal(Rej, s),
-        Some(Dr) => Outcome::signal(Drack, s),
-        _ => Outcome::SILENT,
+    match frame.body {
+        Body::Signal(Crao | Crpo | Crack) => Outcome::signal(Rej, s),
+        Body::Data { .. } | Body::Ack { .. } => Outcome::signal(Rej, s),
+        Body::Signal(Dr) => Outcome::signal(Drack, s),
+        Body::Signal(Rej | Reset | Drack) => Outcome::SILENT,
     }
 }
 
@@ -93,10 +95,18 @@ fn answering<'a>(record: &mut Record, frame: Frame) -> Outcome<'a> {
     }
 }
 
-/// Only frames of this connection count.
+/// Only frames of this connection count, and a REJ of it, which a partner that restarted sends with
+/// a higher number.
 fn open<'a>(record: &mut Record, frame: Frame<'a>) -> Outcome<'a> {
     let s = frame.sender;
-    if s != record.remote || frame.quoted != record.local {
+    if frame.quoted != record.local {
+        return Outcome::SILENT;
+    }
+    if frame.signal() == Some(Rej) {
+        record.enter(State::Closed);
+        return Outcome::SILENT.with(Notice::ClosedByPartner);
+    }
+    if s != record.remote {
         return Outcome::SILENT;
     }
     match frame.body {

@@ -4,7 +4,7 @@ use super::{close_finished, hand_up, Outcome, Sending};
 use crate::block::LONGEST_BLOCK;
 use crate::frame::Signal;
 use crate::record::Record;
-use crate::{Block, Refusal, Request, State};
+use crate::{page, Block, Refusal, Request, State};
 
 /// Questions 8 to 10 of a request; then its step. A block that is collected is copied up.
 pub fn make<'a>(
@@ -24,13 +24,13 @@ pub fn make<'a>(
 }
 
 fn connect<'a>(record: &mut Record) -> Result<Outcome<'a>, Refusal> {
-    begin(record, State::Calling)?;
-    Ok(Outcome::signal(Signal::Crao, 0))
+    let reserving = begin(record, State::Calling)?;
+    Ok(Outcome::signal(Signal::Crao, 0).reserve(reserving))
 }
 
 fn listen<'a>(record: &mut Record) -> Result<Outcome<'a>, Refusal> {
-    begin(record, State::Listening)?;
-    Ok(Outcome::SILENT)
+    let reserving = begin(record, State::Listening)?;
+    Ok(Outcome::SILENT.reserve(reserving))
 }
 
 fn end_listening<'a>(record: &mut Record) -> Result<Outcome<'a>, Refusal> {
@@ -53,7 +53,7 @@ fn close<'a>(record: &mut Record) -> Result<Outcome<'a>, Refusal> {
 
 fn send<'a>(record: &mut Record, block: Block) -> Result<Outcome<'a>, Refusal> {
     ask_state(record, State::Open)?;
-    let accepted = next(record.accepted)?;
+    let accepted = next(record.accepted, u32::MAX)?;
     let place = record.waiting.count();
     record.waiting.push(block)?;
     record.accepted = accepted;
@@ -85,12 +85,15 @@ fn collect<'a>(
     Ok(hand_up(record, block))
 }
 
-/// A closed end begins a new incarnation in this state.
-fn begin(record: &mut Record, state: State) -> Result<(), Refusal> {
+/// A closed end, which has nothing to clear, begins a new incarnation in this state. Gives the byte
+/// of the page to reserve, if its number needs one; no byte of the record is written before.
+fn begin(record: &mut Record, state: State) -> Result<Option<usize>, Refusal> {
     ask_state(record, State::Closed)?;
-    record.local = next(record.local)?;
-    record.enter(state);
-    Ok(())
+    let number = next(record.local, page::LAST_NUMBER)?;
+    let reserving = page::next(record.local);
+    record.local = number;
+    record.state = state;
+    Ok(reserving)
 }
 
 /// Question 8: is the end in this state?
@@ -101,7 +104,10 @@ fn ask_state(record: &Record, state: State) -> Result<(), Refusal> {
     Ok(())
 }
 
-/// Question 9: is a number left? Success gives it.
-fn next(number: u32) -> Result<u32, Refusal> {
-    number.checked_add(1).ok_or(Refusal::NumbersUsedUp)
+/// Question 9: is a number left up to the last one? Success gives it.
+fn next(number: u32, last: u32) -> Result<u32, Refusal> {
+    if number >= last {
+        return Err(Refusal::NumbersUsedUp);
+    }
+    Ok(number + 1)
 }

@@ -1,12 +1,15 @@
 //! Bench lines on lent buffers: the order of the questions, and every byte written.
 
-use crate::sample::{ack, data, end, holding, open, send, signal, Held, Record, FRESH, LAST};
+use crate::sample::{
+    ack, data, end, holding, open, page_of, send, signal, Held, Page, Record, FRESH, LAST,
+};
 use reference::bench::book::{place, Place, BOOK, HEAD, PLACE, PLACES};
 use reference::bench::{self, Side};
 use reference::block::LONGEST_BLOCK;
 use reference::frame::Signal::{Crack, Crao, Crpo, Dr, Drack, Rej, Reset};
 use reference::frame::LONGEST_FRAME;
 use reference::line;
+use reference::page::PAGE;
 use reference::record::RECORD;
 use reference::State::{Answering, Calling, Closed, Closing, Listening};
 
@@ -17,6 +20,7 @@ const UNTOUCHED: u8 = 0xee;
 #[derive(Clone, Debug, PartialEq)]
 pub struct Lent {
     pub records: [Vec<u8>; 2],
+    pub pages: [Vec<u8>; 2],
     pub book: Vec<u8>,
     pub count: usize,
     pub out: Vec<u8>,
@@ -25,15 +29,15 @@ pub struct Lent {
 
 /// What a line was answered.
 #[derive(Debug, PartialEq)]
-struct Told {
-    number: u8,
-    side: Side,
-    state: u8,
-    notice: u8,
-    local: u32,
-    remote: u32,
-    block: Vec<u8>,
-    sent: usize,
+pub struct Told {
+    pub number: u8,
+    pub side: Side,
+    pub state: u8,
+    pub notice: u8,
+    pub local: u32,
+    pub remote: u32,
+    pub block: Vec<u8>,
+    pub sent: usize,
 }
 
 impl Lent {
@@ -43,6 +47,7 @@ impl Lent {
         let mut book = places.as_flattened().to_vec();
         book.resize(BOOK, UNTOUCHED);
         Self {
+            pages: records.map(|record| right_page(&record).to_vec()),
             records: records.map(|record| record.to_vec()),
             book,
             count: frames.len(),
@@ -51,14 +56,17 @@ impl Lent {
         }
     }
 
-    /// All buffers: the records, the book, those for a frame and for a block.
-    fn buffers(&mut self) -> [&mut Vec<u8>; 5] {
+    /// All buffers: the records, the pages, the book, those for a frame and for a block.
+    pub fn buffers(&mut self) -> [&mut Vec<u8>; 7] {
         let [a, b] = &mut self.records;
-        [a, b, &mut self.book, &mut self.out, &mut self.up]
+        let [a_page, b_page] = &mut self.pages;
+        let rest = [&mut self.book, &mut self.out, &mut self.up];
+        let [book, out, up] = rest;
+        [a, b, a_page, b_page, book, out, up]
     }
 
     /// The same with so many bytes more at the end of each buffer.
-    fn longer(mut self, by: usize) -> Self {
+    pub fn longer(mut self, by: usize) -> Self {
         for buffer in self.buffers() {
             buffer.resize(buffer.len() + by, UNTOUCHED);
         }
@@ -74,17 +82,22 @@ impl Lent {
         self
     }
 
+    /// Takes the line, on these buffers.
+    fn answer(&mut self, line: &[u8]) -> bench::Answer<'_> {
+        let count = self.count;
+        let [a, b, a_page, b_page, book, out, up] = self.buffers();
+        bench::line([a, b], [a_page, b_page], book, count, line, out, up)
+    }
+
     /// Takes a line of these bytes.
-    fn line(&mut self, bytes: &[u8]) -> Told {
+    pub fn line(&mut self, bytes: &[u8]) -> Told {
         self.text(&line::write(bytes))
     }
 
     /// Takes the line; a refusal must leave everything and tell nothing.
     fn text(&mut self, line: &[u8]) -> Told {
         let before = self.clone();
-        let [a, b] = &mut self.records;
-        let (book, out, up) = (&mut self.book, &mut self.out, &mut self.up);
-        let answer = bench::line([a, b], book, self.count, line, out, up);
+        let answer = self.answer(line);
         let (side, end, count) = (answer.side, answer.end, answer.count);
         let told = Told {
             number: end.number,
@@ -111,25 +124,33 @@ impl Lent {
     }
 
     /// The number of a line of these bytes, and the end that is told of.
-    fn asked(&self, bytes: &[u8]) -> (u8, Side) {
+    pub fn asked(&self, bytes: &[u8]) -> (u8, Side) {
         self.asked_text(&line::write(bytes))
     }
 
     /// The number of a line, and the end that is told of.
-    fn asked_text(&self, line: &[u8]) -> (u8, Side) {
+    pub fn asked_text(&self, line: &[u8]) -> (u8, Side) {
         let told = self.clone().text(line);
         (told.number, told.side)
     }
 }
 
-const UNSOUND: Record = [0xff; RECORD];
+/// The right page for a record, or a new one if its L is too high for a page.
+fn right_page(record: &Record) -> Page {
+    match record[1..5] {
+        [0, 0, _, _] | [0, 1, 0, 0] => page_of(record),
+        _ => [0xff; PAGE],
+    }
+}
+
+pub const UNSOUND: Record = [0xff; RECORD];
 use Side::{A, B};
 
 #[test]
 fn buffers_are_asked_before_soundness_and_soundness_before_the_line() {
     let wrong = Lent::new([UNSOUND, UNSOUND], &[]).filled(1);
     for line in [&b""[..], &[0xff], &[0x51, 0x40], &[0x52, 0, 0]] {
-        for short in 0..5 {
+        for short in 0..7 {
             let mut lent = wrong.clone();
             lent.buffers()[short].pop();
             assert_eq!(lent.asked(line), (11, A));
@@ -198,7 +219,7 @@ fn requests_are_asked_3_to_14() {
 #[test]
 fn a_line_without_an_end_is_not_known() {
     let lent = Lent::new([FRESH; 2], &[]);
-    for line in [&[0x40][..], &[0x44, 0], &[0x53], &[0x4f, 0x40]] {
+    for line in [&[0x40][..], &[0x44, 0], &[0x54], &[0x4f, 0x40]] {
         assert_eq!(lent.asked(line), (3, A));
     }
     assert_eq!(lent.asked(&signal(Crao, 1, 0)), (3, A));
@@ -317,6 +338,7 @@ fn the_last_place_is_used_and_no_byte_after_it() {
     let mut right = before;
     right.count = 512;
     right.records[1][..RECORD].copy_from_slice(&end(Calling, 1, 0));
+    right.pages[1][0] = 0;
     right.out[..9].copy_from_slice(&crao);
     right.book[511 * PLACE..BOOK].copy_from_slice(&place(B, &crao));
     assert_eq!(lent, right);
@@ -331,6 +353,7 @@ fn what_sends_nothing_writes_the_record_alone() {
     assert_eq!(lent.line(&[0x50, 0x41]).number, 0);
     let mut right = before;
     right.records[0][..RECORD].copy_from_slice(&end(Listening, 1, 0));
+    right.pages[0][0] = 0;
     assert_eq!(lent, right);
 }
 
@@ -348,9 +371,7 @@ fn the_block_handed_up_is_part_of_the_book() {
     let frames = [(A, signal(Crao, 1, 0)), (A, data(3, 5, 0, b"block"))];
     let mut lent = Lent::new([FRESH, open(0, 0, &[])], &frames);
     let book = lent.book.as_ptr_range();
-    let [a, b] = &mut lent.records;
-    let (book_bytes, out, up) = (&mut lent.book, &mut lent.out, &mut lent.up);
-    let answer = bench::line([a, b], book_bytes, 2, b"520001", out, up);
+    let answer = lent.answer(b"520001");
     let block = answer.end.block.unwrap().bytes();
     assert_eq!(block, b"block");
     let place = block.as_ptr().addr() - book.start.addr();
@@ -384,9 +405,7 @@ fn a_collected_block_stands_at_the_start_of_the_second_buffer() {
     let held = holding(open(0, 6, &[]), &[(0, &[7; 64])]);
     let mut lent = Lent::new([held, FRESH], &[]).longer(2);
     let start = lent.up.as_ptr();
-    let [a, b] = &mut lent.records;
-    let (book, out, up) = (&mut lent.book, &mut lent.out, &mut lent.up);
-    let answer = bench::line([a, b], book, 0, b"5046", out, up);
+    let answer = lent.answer(b"5046");
     let block = answer.end.block.unwrap().bytes();
     assert_eq!((block.as_ptr(), block), (start, &[7; 64][..]));
 }

@@ -1,20 +1,30 @@
 //! Lent buffers, the order of the questions, and refusals that leave everything untouched.
 
-use crate::sample::{data, end, holding, open, LAST};
+use crate::sample::{data, end, holding, open, page, page_of, Page, LAST};
 use reference::block::LONGEST_BLOCK;
-use reference::call::{self, fresh};
+use reference::call::{self, restart};
 use reference::frame::LONGEST_FRAME;
+use reference::page::PAGE;
 use reference::record::RECORD;
-use reference::{Answer, State};
+use reference::{Answer, Refusal, State};
 
-type Call = for<'a> fn(&mut [u8], &'a [u8], &mut [u8], &'a mut [u8]) -> Answer<'a>;
+type Call = for<'a> fn(&mut [u8], &mut [u8], &'a [u8], &mut [u8], &'a mut [u8]) -> Answer<'a>;
 
 /// A request.
-const REQUEST: Call = |record, request, out, up| call::request(record, request, out, up);
+const REQUEST: Call =
+    |record, page, request, out, up| call::request(record, page, request, out, up);
 /// A frame that arrives, which is lent no second buffer.
-const RECEIVE: Call = |record, frame, out, _| call::receive(record, frame, out);
+const RECEIVE: Call = |record, page, frame, out, _| call::receive(record, page, frame, out);
 /// Either of them.
 const EITHER: Call = call::either;
+
+/// The right page for a record, or a full one if the record has none.
+fn right_page(record: &[u8]) -> Page {
+    match shown(record) {
+        (_, 0..=65_536, _) if record.len() >= RECORD => page_of(record),
+        _ => page(PAGE),
+    }
+}
 
 /// The number of a call on a copy of the record, with so much room for a frame and enough for a
 /// block.
@@ -22,17 +32,22 @@ fn number(call: Call, record: &[u8], message: &[u8], room: usize) -> u8 {
     number_in(call, record, message, [room, LONGEST_BLOCK])
 }
 
-/// The number of a call on a copy of the record, with so much room for a frame and for a block;
-/// what is refused must change and answer nothing.
+/// The number of a call on a copy of the record, with so much room for a frame and for a block.
 fn number_in(call: Call, record: &[u8], message: &[u8], rooms: [usize; 2]) -> u8 {
-    let mut after = record.to_vec();
+    number_with(call, record, &right_page(record), message, rooms)
+}
+
+/// The number of a call on copies of the record and the page, with so much room for a frame and for
+/// a block; what is refused must change and answer nothing.
+fn number_with(call: Call, record: &[u8], page: &[u8], message: &[u8], rooms: [usize; 2]) -> u8 {
+    let (mut after, mut page_after) = (record.to_vec(), page.to_vec());
     let [mut out, mut up] = rooms.map(|room| vec![0xee; room]);
-    let answer = call(&mut after, message, &mut out, &mut up);
+    let answer = call(&mut after, &mut page_after, message, &mut out, &mut up);
     let number = answer.number;
     if number != 0 {
         assert_eq!((answer.notice, answer.sent, answer.block), (0, 0, None));
         assert_eq!((answer.state, answer.local, answer.remote), shown(record));
-        assert_eq!(after, record);
+        assert_eq!((&after[..], &page_after[..]), (record, page));
         assert_eq!([out, up], rooms.map(|room| vec![0xee; room]));
     }
     number
@@ -120,19 +135,28 @@ fn the_call_that_knows_both_asks_the_same() {
 }
 
 #[test]
-fn how_an_end_stands_is_told_after_11_and_12() {
+fn how_an_end_stands_is_told_after_11_12_and_15() {
     let busy = holding(open(9, 2, &[b"b".as_slice(); 8]), &[(3, b"held")]);
     let longer = [&busy[..], &[7]].concat();
     let unsound = [0xff; RECORD];
-    let records: [(&[u8], u8); 6] = [
-        (&[], 11),
-        (&busy[1..], 11),
-        (&unsound[1..], 11),
-        (&unsound, 12),
-        (&busy, 0),
-        (&longer, 0),
+    let right = page_of(&busy);
+    let wrong = page(2);
+    let longer_page = [&right[..], &[7]].concat();
+    let lent: [(&[u8], &[u8], u8); 12] = [
+        (&[], &[], 11),
+        (&busy[1..], &right, 11),
+        (&unsound[1..], &right, 11),
+        (&busy, &right[1..], 11),
+        (&unsound, &[], 11),
+        (&unsound, &right, 12),
+        (&unsound, &wrong, 12),
+        (&busy, &wrong, 15),
+        (&busy, &page(0), 15),
+        (&busy, &right, 0),
+        (&longer, &right, 0),
+        (&longer, &longer_page, 0),
     ];
-    for (record, number) in records {
+    for (record, page, number) in lent {
         let (state, local, remote) = shown(record);
         let right = Answer {
             number,
@@ -143,7 +167,7 @@ fn how_an_end_stands_is_told_after_11_and_12() {
             sent: 0,
             block: None,
         };
-        assert_eq!(call::standing(record), right);
+        assert_eq!(call::standing(record, page), right);
     }
 }
 
@@ -191,7 +215,8 @@ fn each_call_that_makes_requests_asks_for_a_second_buffer_of_64_bytes() {
 fn the_block_handed_up_is_part_of_the_received_frame() {
     let mut record = open(0, 0, &[]);
     let frame = data(3, 5, 0, b"block");
-    let answer = call::receive(&mut record, &frame, &mut [0; LONGEST_FRAME]);
+    let page = page_of(&record);
+    let answer = call::receive(&mut record, &page, &frame, &mut [0; LONGEST_FRAME]);
     let block = answer.block.unwrap().bytes();
     assert_eq!(block.as_ptr_range(), frame[14..].as_ptr_range());
 }
@@ -202,7 +227,8 @@ fn a_collected_block_is_a_copy_at_the_start_of_the_second_buffer() {
         let mut record = holding(open(0, 0, &[]), &[(0, &vec![7; length])]);
         let mut up = [0xee; LONGEST_BLOCK + 2];
         let place = up[..length].as_ptr_range();
-        let answer = call::request(&mut record, &[0x46], &mut [0; LONGEST_FRAME], &mut up);
+        let (mut page, mut out) = (page_of(&record), [0; LONGEST_FRAME]);
+        let answer = call::request(&mut record, &mut page, &[0x46], &mut out, &mut up);
         let block = answer.block.unwrap().bytes();
         assert_eq!(block.as_ptr_range(), place);
         let (block, rest) = up.split_at(length);
@@ -212,11 +238,47 @@ fn a_collected_block_is_a_copy_at_the_start_of_the_second_buffer() {
 }
 
 #[test]
-fn fresh_needs_1058_bytes_and_writes_no_more() {
+fn a_page_needs_4096_bytes_and_is_asked_after_12_and_before_3() {
+    let closed = end(State::Closed, 1, 0);
+    let unsound = [0xff; RECORD];
+    let crao = [1, 0, 0, 0, 7, 0, 0, 0, 0];
+    let (right, wrong) = (page(1), page(2));
+    let longer = [&right[..], &[0x33; 2]].concat();
+    for (call, message) in [
+        (REQUEST, &[0x40][..]),
+        (RECEIVE, &crao),
+        (EITHER, &[0x41]),
+        (EITHER, &crao),
+    ] {
+        let asked = |record: &[u8], page: &[u8], message: &[u8]| {
+            number_with(call, record, page, message, [78, 64])
+        };
+        for message in [message, &[], &[0xff]] {
+            assert_eq!(asked(&closed, &[], message), 11);
+            assert_eq!(asked(&closed, &right[1..], message), 11);
+            assert_eq!(asked(&closed, &right[..4095], message), 11);
+            assert_eq!(asked(&unsound, &wrong[1..], message), 11);
+            assert_eq!(asked(&unsound, &wrong, message), 12);
+            assert_eq!(asked(&closed, &wrong, message), 15);
+        }
+        assert_eq!(asked(&closed, &right, &[]), 3);
+        assert_eq!(asked(&closed, &right, message), 0);
+        assert_eq!(asked(&closed, &longer, message), 0);
+    }
+}
+
+#[test]
+fn a_restart_needs_1058_and_4096_bytes_and_writes_no_more() {
+    let page = page(3);
+    let longer = [&page[..], &[0x33; 2]].concat();
     let mut record = [7; 1060];
-    assert_eq!(fresh(&mut record[..1057]), 11);
-    assert_eq!(record, [7; 1060]);
-    assert_eq!(fresh(&mut record), 0);
-    assert_eq!(record[..1058], [0; 1058]);
-    assert_eq!(record[1058..], [7; 2]);
+    for (length, page) in [(1057, &page[..]), (0, &page), (1060, &page[..4095])] {
+        assert_eq!(restart(&mut record[..length], page), Err(Refusal::Buffer));
+        assert_eq!(record, [7; 1060]);
+    }
+    for page in [&page[..], &longer] {
+        assert_eq!(restart(&mut record, page), Ok(()));
+        assert_eq!(record[..1058], end(State::Closed, 48, 0));
+        assert_eq!(record[1058..], [7; 2]);
+    }
 }

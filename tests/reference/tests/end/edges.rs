@@ -1,6 +1,6 @@
 //! The document's edges that concern one end.
 
-use crate::sample::{ack, data, end, holding, open, receive, request, send, signal, Effect, LAST};
+use crate::sample::{ack, data, end, holding, open, receive, request, send, signal, Effect};
 use reference::frame::Signal::{Crack, Crao, Rej, Reset};
 use reference::State::{Answering, Calling, Closed, Closing, Listening};
 
@@ -41,12 +41,12 @@ fn the_eleven_proved_cases() {
             Effect::silent(holding(open(0, 0, &[]), &[(1, b"a")])).frame(ack(5, 3, 0)),
         ),
         (
-            request(end(Closed, LAST - 1, 0), &[0x40]),
-            Effect::silent(end(Calling, LAST, 0)).frame(signal(Crao, LAST, 0)),
+            request(end(Closed, 65_535, 0), &[0x40]),
+            Effect::silent(end(Calling, 65_536, 0)).frame(signal(Crao, 65_536, 0)),
         ),
         (
-            request(end(Closed, LAST, 0), &[0x40]),
-            Effect::refused(end(Closed, LAST, 0), 9),
+            request(end(Closed, 65_536, 0), &[0x40]),
+            Effect::refused(end(Closed, 65_536, 0), 9),
         ),
         (
             request(open(7, 0, seven), &send(b"b")),

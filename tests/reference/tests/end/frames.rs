@@ -18,6 +18,7 @@ const TABLE: &str = "
                     | s = D, r other | s = D, r = L   | s > D, r other | s > D, r = L
     closed CRAO     |                |                | REJ            | REJ
     closed CRPO     |                |                | REJ            | REJ
+    closed CRACK    |                |                | REJ            | REJ
     closed DR       |                |                | DRACK          | DRACK
     listening CRAO  |                |                | answering CRPO | answering CRPO
     listening CRPO  |                |                | RESET          | RESET
@@ -35,6 +36,7 @@ const TABLE: &str = "
     answering DR    | DRACK          | closed 3 DRACK | DRACK          | closed 3 DRACK
     open CRAO       |                | CRACK          |                |
     open CRPO       |                | CRACK          |                |
+    open REJ        |                | closed 3       |                | closed 3
     open DR         |                | closed 3 DRACK |                |
     closing CRAO    |                |                | closed 4       | closed 4
     closing CRPO    |                |                | closed 4       | closed 4
@@ -135,7 +137,7 @@ fn frames_older_than_the_partner_are_passed_over() {
 }
 
 #[test]
-fn data_and_ack_count_only_in_the_open_connection() {
+fn data_and_ack_count_only_in_the_open_connection_and_are_rejected_by_a_closed_end() {
     for state in State::ALL {
         let record = match state {
             Open => open(1, 0, &[b"waiting"]),
@@ -145,8 +147,12 @@ fn data_and_ack_count_only_in_the_open_connection() {
             if s == 0 || (state, s, r) == (Open, REMOTE, LOCAL) {
                 continue;
             }
+            let right = || match state {
+                Closed => Effect::silent(record).frame(signal(Rej, LOCAL, s)),
+                _ => Effect::silent(record),
+            };
             for frame in [data(s, r, 0, b"a"), data(s, r, 1, b"b"), ack(s, r, 1)] {
-                assert_eq!(receive(record, &frame), Effect::silent(record));
+                assert_eq!(receive(record, &frame), right());
             }
         }
     }
@@ -213,14 +219,22 @@ fn leaving_open_clears_counts_and_blocks() {
         .notice(3)
         .frame(signal(Drack, LOCAL, REMOTE));
     assert_eq!(receive(record, &signal(Dr, REMOTE, LOCAL)), right);
+    for s in [REMOTE, REMOTE + 1, LAST] {
+        let right = Effect::silent(end(Closed, LOCAL, 0)).notice(3);
+        assert_eq!(receive(record, &signal(Rej, s, LOCAL)), right);
+    }
 }
 
 #[test]
 fn a_fresh_end_answers_with_sender_0() {
     let fresh = end(Closed, 0, 0);
-    for (kind, answer) in [(Crao, Rej), (Crpo, Rej), (Dr, Drack)] {
+    for (kind, answer) in [(Crao, Rej), (Crpo, Rej), (Crack, Rej), (Dr, Drack)] {
         let right = Effect::silent(fresh).frame(signal(answer, 0, 7));
         assert_eq!(receive(fresh, &signal(kind, 7, 1)), right);
+    }
+    for frame in [data(7, 1, 0, b"a"), ack(7, 1, 0)] {
+        let right = Effect::silent(fresh).frame(signal(Rej, 0, 7));
+        assert_eq!(receive(fresh, &frame), right);
     }
     let calling = end(Calling, 1, 0);
     let right = Effect::silent(end(Closed, 1, 0)).notice(2);

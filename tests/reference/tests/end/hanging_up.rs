@@ -1,7 +1,7 @@
 //! Calls that are hung up before they open, as both ends see it.
 
 use crate::sample::{
-    end, receive, request, signal, Effect, CLOSE, CONNECT, FRESH, LAST, LISTEN, TIMER,
+    end, receive, request, signal, Effect, CLOSE, CONNECT, FRESH, LAST, LAST_LOCAL, LISTEN, TIMER,
 };
 use reference::frame::Signal::{Crack, Crao, Crpo, Dr, Drack, Rej};
 use reference::State::{Answering, Calling, Closed, Closing, Listening, Open};
@@ -28,7 +28,7 @@ fn close_finished(local: u32) -> Effect {
 
 #[test]
 fn numbers_at_the_edges_stay_as_they_are() {
-    for local in [1, LAST] {
+    for local in [1, LAST_LOCAL] {
         let found = request(end(Calling, local, 0), CLOSE);
         assert_eq!(found, close_finished(local));
         for remote in [1, LAST] {

@@ -6,6 +6,8 @@ mod edges;
 mod frames;
 mod hanging_up;
 mod held;
+mod page;
 mod question;
 mod requests;
+mod restart;
 mod sample;

@@ -11,9 +11,10 @@ use Side::{A, B};
 
 /// All frames that may be named; the first of them is named.
 fn changing(lent: &Lent) -> Result<Vec<usize>, Refusal> {
-    let [a, b] = &lent.records;
-    let changing = bench::changing([a, b], &lent.book, lent.count);
-    let named = bench::some_frame([a, b], &lent.book, lent.count);
+    let records = lent.records.each_ref().map(|record| &record[..]);
+    let pages = lent.pages.each_ref().map(|page| &page[..]);
+    let changing = bench::changing(records, pages, &lent.book, lent.count);
+    let named = bench::some_frame(records, pages, &lent.book, lent.count);
     let first = changing.as_ref().map(|all| all.first().copied());
     assert_eq!(named, first.map_err(|&refusal| refusal));
     changing
@@ -98,15 +99,21 @@ fn frames_that_the_book_does_not_hold_or_that_do_not_read_are_left_out() {
 }
 
 #[test]
-fn buffers_and_soundness_come_first() {
+fn buffers_soundness_and_pages_come_first() {
     let lent = Lent::new([[0xff; RECORD]; 2], &[]);
     assert_eq!(changing(&lent), Err(Refusal::Unsound));
-    for short in 0..3 {
+    for short in 0..5 {
         let mut lent = lent.clone();
-        let [a, b] = &mut lent.records;
-        [a, b, &mut lent.book][short].pop();
+        lent.buffers()[short].pop();
         lent.count = 513;
         assert_eq!(changing(&lent), Err(Refusal::Buffer));
+    }
+    for wrong in [0, 1] {
+        let mut lent = Lent::new([FRESH; 2], &[]);
+        lent.pages[wrong][0] = 0;
+        assert_eq!(changing(&lent), Err(Refusal::Page));
+        lent.count = 513;
+        assert_eq!(changing(&lent), Err(Refusal::Unsound));
     }
     for count in [513, 65_536, usize::MAX] {
         let mut lent = Lent::new([FRESH; 2], &[]);

@@ -2,7 +2,7 @@
 
 use crate::sample::{
     data, end, open, request, send, signal, Effect, Record, CLOSE, COLLECT, CONNECT, END_LISTENING,
-    LAST, LISTEN, TIMER,
+    LAST, LAST_LOCAL, LISTEN, TIMER,
 };
 use reference::frame::Signal::{Crao, Crpo, Dr};
 use reference::State::{Answering, Calling, Closed, Closing, Listening, Open};
@@ -100,9 +100,11 @@ fn close_clears_counts_and_blocks() {
 #[test]
 fn no_number_is_left_after_the_last() {
     for (bytes, state) in [(CONNECT, Calling), (LISTEN, Listening)] {
-        assert_eq!(request(end(Closed, LAST, 0), bytes).number, 9);
-        let effect = request(end(Closed, LAST - 1, 0), bytes);
-        assert_eq!((effect.number, effect.record), (0, end(state, LAST, 0)));
+        let used_up = end(Closed, LAST_LOCAL, 0);
+        assert_eq!(request(used_up, bytes), Effect::refused(used_up, 9));
+        let effect = request(end(Closed, LAST_LOCAL - 1, 0), bytes);
+        let last = end(state, LAST_LOCAL, 0);
+        assert_eq!((effect.number, effect.record), (0, last));
     }
     let a = send(b"a");
     assert_eq!(request(open(LAST, 0, &[]), &a).number, 9);

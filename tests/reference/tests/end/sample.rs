@@ -3,10 +3,12 @@
 use reference::block::LONGEST_BLOCK;
 use reference::call;
 use reference::frame::{Body, Signal, LONGEST_FRAME};
+use reference::page::PAGE;
 use reference::record::RECORD;
 use reference::{Answer, Block, Frame, State};
 
 pub type Record = [u8; RECORD];
+pub type Page = [u8; PAGE];
 /// The record of a fresh end.
 pub const FRESH: Record = [0; RECORD];
 pub const LAST: u32 = u32::MAX;
@@ -16,6 +18,8 @@ pub const END_LISTENING: &[u8] = &[0x42];
 pub const CLOSE: &[u8] = &[0x43];
 pub const TIMER: &[u8] = &[0x45];
 pub const COLLECT: &[u8] = &[0x46];
+/// The last number that a page reserves.
+pub const LAST_LOCAL: u32 = 65_536;
 /// Fills what a call may not write.
 const UNTOUCHED: u8 = 0xee;
 
@@ -51,6 +55,19 @@ pub fn holding(mut record: Record, held: Held) -> Record {
         record[546 + 64 * above..][..block.len()].copy_from_slice(block);
     }
     record
+}
+
+/// The page of so many 00 and then FF.
+pub fn page(reserved: usize) -> Page {
+    let mut page = [0xff; PAGE];
+    page[..reserved].fill(0);
+    page
+}
+
+/// The right page for an end with this record, whose L is not above the last number.
+pub fn page_of(record: &[u8]) -> Page {
+    let local = u32::from_be_bytes(record[1..5].try_into().unwrap());
+    page((local as usize).div_ceil(16))
 }
 
 pub fn signal(signal: Signal, sender: u32, quoted: u32) -> Vec<u8> {
@@ -127,8 +144,8 @@ impl Effect {
 /// byte of it is written.
 pub fn request(record: Record, request: &[u8]) -> Effect {
     let mut up = [UNTOUCHED; LONGEST_BLOCK + 3];
-    let effect = effect(record, |record, out| {
-        call::request(record, request, out, &mut up)
+    let effect = effect(record, |record, page, out| {
+        call::request(record, page, request, out, &mut up)
     });
     let (block, rest) = up.split_at(effect.block.len());
     assert_eq!(block, effect.block);
@@ -138,18 +155,25 @@ pub fn request(record: Record, request: &[u8]) -> Effect {
 
 /// Delivers a frame.
 pub fn receive(record: Record, frame: &[u8]) -> Effect {
-    effect(record, |record, out| call::receive(record, frame, out))
+    effect(record, |record, page, out| {
+        call::receive(record, page, frame, out)
+    })
 }
 
-/// Makes the call in buffers longer than needed, and checks the bytes it may not write.
-fn effect<'a>(before: Record, call: impl FnOnce(&mut [u8], &mut [u8]) -> Answer<'a>) -> Effect {
-    let mut record = [UNTOUCHED; RECORD + 3];
-    record[..RECORD].copy_from_slice(&before);
+/// Makes the call in buffers longer than needed, with the right page, and checks the bytes it may
+/// not write. The page is then the right one for the record that is left.
+fn effect<'a>(
+    before: Record,
+    call: impl FnOnce(&mut [u8], &mut [u8], &mut [u8]) -> Answer<'a>,
+) -> Effect {
+    let mut record = longer(&before);
+    let mut page = longer(&page_of(&before));
     let mut out = [UNTOUCHED; LONGEST_FRAME + 3];
-    let answer = call(&mut record, &mut out);
+    let answer = call(&mut record, &mut page, &mut out);
     let (after, past) = record.split_first_chunk().unwrap();
     let (frame, rest) = out.split_at(answer.sent);
     assert!([past, rest].concat().iter().all(|&byte| byte == UNTOUCHED));
+    assert_eq!(page, longer(&page_of(after)));
     assert_eq!(after[0], answer.state);
     assert_eq!(after[1..5], answer.local.to_be_bytes());
     assert_eq!(after[5..9], answer.remote.to_be_bytes());
@@ -162,4 +186,9 @@ fn effect<'a>(before: Record, call: impl FnOnce(&mut [u8], &mut [u8]) -> Answer<
             .block
             .map_or(Vec::new(), |block| block.bytes().to_vec()),
     }
+}
+
+/// The bytes, and some more that no call may write.
+fn longer(bytes: &[u8]) -> Vec<u8> {
+    [bytes, &[UNTOUCHED; 3]].concat()
 }

@@ -1,7 +1,7 @@
 //! What is wrong about a call that is hung up on a bench with a full book is found.
 
 use super::failed_lines;
-use crate::bench::{Bench, Lent, Named, Reply};
+use crate::bench::{Bench, Lent, Named, Reply, Shown};
 use crate::records::Numbers;
 use crate::Reference;
 use reference::bench::book::PLACES;
@@ -39,8 +39,8 @@ impl<const FAULT: u8> Bench for Broken<FAULT> {
         reply
     }
 
-    fn some_frame(records: [&[u8]; 2], book: &[u8], count: usize) -> Named {
-        Reference::some_frame(records, book, count)
+    fn some_frame(shown: Shown) -> Named {
+        Reference::some_frame(shown)
     }
 }
 

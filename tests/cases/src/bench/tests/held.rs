@@ -1,10 +1,9 @@
 //! What is wrong about held blocks on a bench is found.
 
 use super::{failed, failed_questions, number};
-use crate::bench::{Bench, Lent, Named, Reply};
+use crate::bench::{Bench, Lent, Named, Reply, Shown};
 use crate::records::{held, Numbers};
 use crate::Reference;
-use reference::bench;
 use reference::bench::book::{self, PLACE, PLACES};
 use reference::block::LONGEST_BLOCK;
 use reference::frame::Body;
@@ -27,6 +26,7 @@ impl<const FAULT: u8> Bench for Broken<FAULT> {
     fn line(lent: Lent, line: &[u8]) -> Reply {
         let Lent {
             records,
+            pages,
             book,
             count,
             out,
@@ -42,6 +42,7 @@ impl<const FAULT: u8> Bench for Broken<FAULT> {
         };
         let broken = Lent {
             records,
+            pages,
             book,
             count,
             out,
@@ -57,8 +58,8 @@ impl<const FAULT: u8> Bench for Broken<FAULT> {
         reply
     }
 
-    fn some_frame(records: [&[u8]; 2], book: &[u8], count: usize) -> Named {
-        Reference::some_frame(records, book, count)
+    fn some_frame(shown: Shown) -> Named {
+        Reference::some_frame(shown)
     }
 }
 
@@ -109,11 +110,12 @@ impl<const FAULT: u8> Bench for Misnaming<FAULT> {
         Reference::line(lent, line)
     }
 
-    fn some_frame(records: [&[u8]; 2], book: &[u8], count: usize) -> Named {
-        let Ok(changing) = bench::changing(records, book, count) else {
-            return Reference::some_frame(records, book, count);
+    fn some_frame(shown: Shown) -> Named {
+        let Ok(changing) = shown.changing() else {
+            return Reference::some_frame(shown);
         };
-        let above = |frame: &usize| above(records, book, *frame);
+        let count = shown.count;
+        let above = |frame: &usize| above(shown.records, shown.book, *frame);
         let frame = match FAULT {
             LEAVES_OUT_EARLY_BLOCKS => changing
                 .into_iter()

@@ -23,13 +23,19 @@ const FORGETS_THE_PARTNER: u8 = 8;
 const HANGS_UP_WHILE_ANSWERING: u8 = 9;
 
 impl<const FAULT: u8> End for Broken<FAULT> {
-    fn fresh(record: &mut [u8]) -> u8 {
-        Reference::fresh(record)
+    fn restart(record: &mut [u8], page: &[u8]) -> u8 {
+        Reference::restart(record, page)
     }
 
-    fn request(record: &mut [u8], request: &[u8], out: &mut [u8], up: &mut [u8]) -> Reply {
+    fn request(
+        record: &mut [u8],
+        page: &mut [u8],
+        request: &[u8],
+        out: &mut [u8],
+        up: &mut [u8],
+    ) -> Reply {
         let before = record.first_chunk().copied();
-        let mut reply = Reference::request(record, request, out, up);
+        let mut reply = Reference::request(record, page, request, out, up);
         if let (Some(before), [CLOSE], 0 | 8) = (before, request, reply.number) {
             let numbers = Numbers::of(&before);
             match (State::of(before[0]), numbers.remote) {
@@ -46,8 +52,8 @@ impl<const FAULT: u8> End for Broken<FAULT> {
         reply
     }
 
-    fn receive(record: &mut [u8], frame: &[u8], out: &mut [u8]) -> Reply {
-        Reference::receive(record, frame, out)
+    fn receive(record: &mut [u8], page: &[u8], frame: &[u8], out: &mut [u8]) -> Reply {
+        Reference::receive(record, page, frame, out)
     }
 }
 

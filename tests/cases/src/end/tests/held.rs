@@ -1,8 +1,7 @@
 //! What is wrong about held blocks is found.
 
-use super::super::{frames, End, Reply};
-use super::failed_requests;
-use crate::coverage::Coverage;
+use super::super::{End, Reply};
+use super::{failed_frames, failed_requests};
 use crate::records::unsound::{self, Fault};
 use crate::records::{held, hold, Numbers, HELD_LENGTHS};
 use crate::Reference;
@@ -11,12 +10,6 @@ use reference::frame::Body;
 use reference::record::RECORD;
 use reference::request::COLLECT;
 use reference::{Frame, State};
-
-/// How many frames of an implementation fail.
-fn failed_frames<E: End>() -> u64 {
-    let group = frames::<E>(1, &mut Coverage::default());
-    group.report().failed
-}
 
 /// The reference, whose faults have to do with collect.
 struct BrokenRequest<const FAULT: u8>;
@@ -35,21 +28,29 @@ const TELLS_NO_NOTICE: u8 = 10;
 const CLOSES_WITH_BLOCKS_HELD: u8 = 11;
 
 impl<const FAULT: u8> End for BrokenRequest<FAULT> {
-    fn fresh(record: &mut [u8]) -> u8 {
-        Reference::fresh(record)
+    fn restart(record: &mut [u8], page: &[u8]) -> u8 {
+        Reference::restart(record, page)
     }
 
-    fn request(record: &mut [u8], request: &[u8], out: &mut [u8], up: &mut [u8]) -> Reply {
+    fn request(
+        record: &mut [u8],
+        page: &mut [u8],
+        request: &[u8],
+        out: &mut [u8],
+        up: &mut [u8],
+    ) -> Reply {
         let before = record.to_vec();
         let is_collect = request == [COLLECT];
         let own = &mut [0; LONGEST_BLOCK];
         let is_short = up.len() < own.len();
         let mut reply = match FAULT {
-            ASKS_NO_SECOND_BUFFER if is_short => Reference::request(record, request, out, own),
-            ASKS_A_SECOND_BUFFER_OF_COLLECT_ALONE if is_short && !is_collect => {
-                Reference::request(record, request, out, own)
+            ASKS_NO_SECOND_BUFFER if is_short => {
+                Reference::request(record, page, request, out, own)
             }
-            _ => Reference::request(record, request, out, up),
+            ASKS_A_SECOND_BUFFER_OF_COLLECT_ALONE if is_short && !is_collect => {
+                Reference::request(record, page, request, out, own)
+            }
+            _ => Reference::request(record, page, request, out, up),
         };
         match FAULT {
             WRITES_UP_AS_IT_REFUSES if reply.number == 8 && is_collect => up[0] ^= 1,
@@ -60,14 +61,16 @@ impl<const FAULT: u8> End for BrokenRequest<FAULT> {
                 keep_held(record, &before);
             }
             _ if reply.notice == 5 => Self::spoil_collect(&mut reply, &before, record, out, up),
-            _ if reply.number == 0 && is_collect => Self::spoil_none(&mut reply, record, out, up),
+            _ if reply.number == 0 && is_collect => {
+                Self::spoil_none(&mut reply, record, page, out, up);
+            }
             _ => {}
         }
         reply
     }
 
-    fn receive(record: &mut [u8], frame: &[u8], out: &mut [u8]) -> Reply {
-        Reference::receive(record, frame, out)
+    fn receive(record: &mut [u8], page: &[u8], frame: &[u8], out: &mut [u8]) -> Reply {
+        Reference::receive(record, page, frame, out)
     }
 }
 
@@ -90,13 +93,19 @@ impl<const FAULT: u8> BrokenRequest<FAULT> {
     }
 
     /// Spoils a collect that found no block e.
-    fn spoil_none(reply: &mut Reply, record: &mut [u8], out: &mut [u8], up: &mut [u8]) {
+    fn spoil_none(
+        reply: &mut Reply,
+        record: &mut [u8],
+        page: &mut [u8],
+        out: &mut [u8],
+        up: &mut [u8],
+    ) {
         match FAULT {
             HANDS_UP_THE_ONE_AFTER => {
                 let (record, _) = record.split_first_chunk_mut().expect("a sound record");
                 if held(record)[1] > 0 {
                     hold(record, 0, b"the one after");
-                    *reply = Reference::request(record, &[COLLECT], out, up);
+                    *reply = Reference::request(record, page, &[COLLECT], out, up);
                 }
             }
             REFUSES_WHERE_NONE_IS_HELD => reply.number = 8,
@@ -157,17 +166,23 @@ const IS_HUNG_UP_ON_WITH_BLOCKS_HELD: u8 = 7;
 const HANDS_UP_THE_COPY: u8 = 8;
 
 impl<const FAULT: u8> End for BrokenData<FAULT> {
-    fn fresh(record: &mut [u8]) -> u8 {
-        Reference::fresh(record)
+    fn restart(record: &mut [u8], page: &[u8]) -> u8 {
+        Reference::restart(record, page)
     }
 
-    fn request(record: &mut [u8], request: &[u8], out: &mut [u8], up: &mut [u8]) -> Reply {
-        Reference::request(record, request, out, up)
+    fn request(
+        record: &mut [u8],
+        page: &mut [u8],
+        request: &[u8],
+        out: &mut [u8],
+        up: &mut [u8],
+    ) -> Reply {
+        Reference::request(record, page, request, out, up)
     }
 
-    fn receive(record: &mut [u8], frame: &[u8], out: &mut [u8]) -> Reply {
+    fn receive(record: &mut [u8], page: &[u8], frame: &[u8], out: &mut [u8]) -> Reply {
         let before = record.to_vec();
-        let mut reply = Reference::receive(record, frame, out);
+        let mut reply = Reference::receive(record, page, frame, out);
         if reply.number > 0 {
             return reply;
         }
@@ -178,7 +193,7 @@ impl<const FAULT: u8> End for BrokenData<FAULT> {
             Self::spoil_early(record, above, block);
         }
         if reply.notice == 5 {
-            Self::spoil_handed_up(&mut reply, &before, record, out);
+            Self::spoil_handed_up(&mut reply, &before, record, page, out);
         }
         reply
     }
@@ -199,7 +214,13 @@ impl<const FAULT: u8> BrokenData<FAULT> {
     }
 
     /// Spoils the step of the awaited block.
-    fn spoil_handed_up(reply: &mut Reply, before: &[u8], record: &mut [u8], out: &mut [u8]) {
+    fn spoil_handed_up(
+        reply: &mut Reply,
+        before: &[u8],
+        record: &mut [u8],
+        page: &[u8],
+        out: &mut [u8],
+    ) {
         let had_copy = before[HELD_LENGTHS] > 0;
         match FAULT {
             LEAVES_THE_PLACES => keep_held(record, before),
@@ -208,7 +229,8 @@ impl<const FAULT: u8> BrokenData<FAULT> {
                 hold(record, 0, b"copy");
             }
             CASCADES => {
-                Reference::request(record, &[COLLECT], out, &mut [0; LONGEST_BLOCK]);
+                let up = &mut [0; LONGEST_BLOCK];
+                Reference::request(record, &mut page.to_vec(), &[COLLECT], out, up);
             }
             HANDS_UP_THE_COPY if had_copy => {
                 reply.block.end = reply.block.start + usize::from(before[HELD_LENGTHS]);
@@ -259,18 +281,24 @@ impl<const FAULT: usize> Lenient<FAULT> {
 }
 
 impl<const FAULT: usize> End for Lenient<FAULT> {
-    fn fresh(record: &mut [u8]) -> u8 {
-        Reference::fresh(record)
+    fn restart(record: &mut [u8], page: &[u8]) -> u8 {
+        Reference::restart(record, page)
     }
 
-    fn request(record: &mut [u8], request: &[u8], out: &mut [u8], up: &mut [u8]) -> Reply {
+    fn request(
+        record: &mut [u8],
+        page: &mut [u8],
+        request: &[u8],
+        out: &mut [u8],
+        up: &mut [u8],
+    ) -> Reply {
         Self::mend(record);
-        Reference::request(record, request, out, up)
+        Reference::request(record, page, request, out, up)
     }
 
-    fn receive(record: &mut [u8], frame: &[u8], out: &mut [u8]) -> Reply {
+    fn receive(record: &mut [u8], page: &[u8], frame: &[u8], out: &mut [u8]) -> Reply {
         Self::mend(record);
-        Reference::receive(record, frame, out)
+        Reference::receive(record, page, frame, out)
     }
 }
 

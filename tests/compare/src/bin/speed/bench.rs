@@ -1,16 +1,17 @@
 //! Lines of a bench and its question. Each line gets both records anew, copies of 1,058 bytes that
-//! both implementations pay.
+//! both implementations pay. No line here reserves a byte of a page.
 
 use crate::measure::{Both, Measure};
 use crate::sample::{holding, record, BLOCK};
-use cases::bench::{Bench, Lent, Named, Reply};
+use cases::bench::{Bench, Lent, Named, Reply, Shown};
 use cases::sample::message;
-use cases::Reference;
+use cases::{pages, Reference};
 use compare::proved::Proved;
 use reference::bench::book::{place, PLACES};
 use reference::bench::Side;
 use reference::block::LONGEST_BLOCK;
 use reference::frame::{ACK, DATA, LONGEST_FRAME};
+use reference::page::PAGE;
 use reference::record::RECORD;
 use reference::State;
 use std::hint::black_box;
@@ -25,6 +26,7 @@ const SENT: u32 = PLACES as u32 / 2;
 /// A bench and a line for it.
 struct Case {
     records: [[u8; RECORD]; 2],
+    pages: [[u8; PAGE]; 2],
     book: Vec<u8>,
     count: usize,
     line: Vec<u8>,
@@ -41,11 +43,13 @@ impl Case {
             let ack = message(ACK, &[1, 1, number + 1], &[]);
             [place(Side::A, &data), place(Side::B, &ack)]
         });
+        let records = [
+            record(State::Open, 1, [SENT, 0], waiting),
+            record(State::Open, 1, [0, handed_up], 0),
+        ];
         Self {
-            records: [
-                record(State::Open, 1, [SENT, 0], waiting),
-                record(State::Open, 1, [0, handed_up], 0),
-            ],
+            pages: records.each_ref().map(pages::right),
+            records,
             book: book.flatten().collect(),
             count,
             line: line.as_bytes().to_vec(),
@@ -65,6 +69,7 @@ impl Case {
         let [mut a, mut b] = *black_box(&self.records);
         let lent = Lent {
             records: [&mut a, &mut b],
+            pages: self.pages.each_mut().map(|page| &mut page[..]),
             book: &mut self.book,
             count: self.count,
             out: &mut self.out,
@@ -75,9 +80,15 @@ impl Case {
     }
 
     /// Asks the question so.
-    fn ask(&mut self, some_frame: fn([&[u8]; 2], &[u8], usize) -> Named) {
-        let [a, b] = black_box(&self.records);
-        black_box(some_frame([a, b], black_box(&self.book), self.count));
+    fn ask(&mut self, some_frame: fn(Shown) -> Named) {
+        let case = black_box(&*self);
+        let shown = Shown {
+            records: case.records.each_ref().map(|record| &record[..]),
+            pages: case.pages.each_ref().map(|page| &page[..]),
+            book: &case.book,
+            count: case.count,
+        };
+        black_box(some_frame(shown));
     }
 }
 
@@ -107,6 +118,7 @@ pub fn measure(measure: &mut impl Measure) {
         ),
         ("bench: collect with none held", 0, SENT, PLACES - 1, "5146"),
         ("bench: passed over", 0, SENT, PLACES - 1, "520001"),
+        ("bench: restart", 0, SENT, PLACES - 1, "5350"),
         ("bench: refused by 2", 0, SENT, PLACES - 1, "zz"),
         ("bench: refused by 14", 1, SENT, PLACES, "5045"),
     ] {

@@ -1,14 +1,16 @@
 //! The calls of an end. Each call gets its record anew, a copy of 1,058 bytes that both
-//! implementations pay.
+//! implementations pay; of the page the one byte that a call may have reserved is freed again.
 
 use crate::measure::{Both, Measure};
-use crate::sample::{holding, record, waiting_of, BLOCK};
+use crate::sample::{holding, numbered, record, waiting_of, BLOCK};
 use cases::end::End;
+use cases::pages;
 use cases::sample::message;
 use cases::Reference;
 use compare::proved::Proved;
 use reference::block::LONGEST_BLOCK;
 use reference::frame::LONGEST_FRAME;
+use reference::page::{self, PAGE};
 use reference::record::RECORD;
 use reference::State;
 use std::hint::black_box;
@@ -16,9 +18,12 @@ use std::hint::black_box;
 /// So many calls are timed at once.
 const BATCH: u32 = 20_000;
 
-/// A record and what is asked of it.
+/// A record with its page, and what is asked of them.
 struct Case {
     record: [u8; RECORD],
+    page: [u8; PAGE],
+    /// The page's first byte that is not reserved, if there is one.
+    free: usize,
     message: Vec<u8>,
     out: [u8; LONGEST_FRAME],
     up: [u8; LONGEST_BLOCK],
@@ -29,7 +34,8 @@ impl Case {
     fn receive<E: End>(&mut self) {
         let mut record = *black_box(&self.record);
         let message = black_box(&self.message);
-        black_box(E::receive(&mut record, message, &mut self.out));
+        let page = black_box(&self.page);
+        black_box(E::receive(&mut record, page, message, &mut self.out));
         black_box(&record);
     }
 
@@ -39,11 +45,28 @@ impl Case {
         let message = black_box(&self.message);
         black_box(E::request(
             &mut record,
+            black_box(&mut self.page),
             message,
             &mut self.out,
             &mut self.up,
         ));
         black_box((&record, &self.up));
+        if let Some(byte) = self.page.get_mut(self.free) {
+            *byte = page::NEW[self.free];
+        }
+    }
+
+    /// This implementation makes the record anew from the page.
+    fn restart<E: End>(&mut self) {
+        let mut record = *black_box(&self.record);
+        black_box(E::restart(&mut record, black_box(&self.page)));
+        black_box(&record);
+    }
+
+    /// A plain comparison of the page with a new one, the measure of what a look at each of its
+    /// bytes takes.
+    fn plain(&mut self) {
+        black_box(*black_box(&self.page) == page::NEW);
     }
 }
 
@@ -58,9 +81,24 @@ const REQUEST: Both<Case> = Both {
     reference: Case::request::<Reference>,
 };
 
+/// A restart.
+const RESTART: Both<Case> = Both {
+    proved: Case::restart::<Proved>,
+    reference: Case::restart::<Reference>,
+};
+/// A plain comparison, the same for both.
+const PLAIN: Both<Case> = Both {
+    proved: Case::plain,
+    reference: Case::plain,
+};
+
 /// Measures typical calls.
 pub fn measure(measure: &mut impl Measure) {
+    let fresh = [0; RECORD];
     let closed = record(State::Closed, 0, [0, 0], 0);
+    let half = numbered(32_768);
+    let last = numbered(65_535);
+    let used_up = numbered(65_536);
     let listening = record(State::Listening, 0, [0, 0], 0);
     let calling = record(State::Calling, 0, [0, 0], 0);
     let called = record(State::Calling, 7, [0, 0], 0);
@@ -75,6 +113,8 @@ pub fn measure(measure: &mut impl Measure) {
     let closing = record(State::Closing, 7, [0, 0], 0);
     for (name, record, frame) in [
         ("closed: CRAO", closed, frame(1, 0)),
+        ("closed: DATA of 64", closed, frame(8, 0)),
+        ("closed: CRAO with half a page", half, frame(1, 0)),
         ("listening: CRAO", listening, frame(1, 0)),
         ("calling: CRPO", calling, frame(2, 0)),
         ("answering: CRACK", answering, frame(3, 0)),
@@ -83,12 +123,19 @@ pub fn measure(measure: &mut impl Measure) {
         ("open: DATA of 64 to be held", open, frame(8, 3)),
         ("open: DATA of 64 held already", early, frame(8, 3)),
         ("open: ACK of 1 of 8", full, frame(9, 1)),
-        ("open: passed over", open, frame(4, 0)),
+        ("open: REJ", open, frame(4, 0)),
+        ("open: REJ with 8 waiting and 8 held", crowded, frame(4, 0)),
+        ("open: passed over", open, frame(5, 0)),
         ("closing: DRACK", closing, frame(7, 0)),
     ] {
         compare(measure, name, record, frame, RECEIVE);
     }
     for (name, record, kind) in [
+        ("closed: connect, first byte reserved", fresh, 0x40),
+        ("closed: connect, none reserved", closed, 0x40),
+        ("closed: connect, middle byte reserved", half, 0x40),
+        ("closed: connect with the last number", last, 0x40),
+        ("closed: connect refused by 9", used_up, 0x40),
         ("calling: close with D = 0", calling, 0x43),
         ("calling: close with D = 7", called, 0x43),
         ("open: close", open, 0x43),
@@ -104,7 +151,18 @@ pub fn measure(measure: &mut impl Measure) {
     ] {
         compare(measure, name, record, message(kind, &[], BLOCK), REQUEST);
     }
+    for (name, record) in [
+        ("restart with a new page", fresh),
+        ("restart with half a page", half),
+        ("restart with a page used up", used_up),
+    ] {
+        compare(measure, name, record, Vec::new(), RESTART);
+    }
+    compare(measure, PLAIN_NAME, fresh, Vec::new(), PLAIN);
 }
+
+/// What the plain comparison is called.
+const PLAIN_NAME: &str = "(a plain comparison of 4,096 bytes)";
 
 /// Measures the call of an end with this record.
 fn compare(
@@ -114,8 +172,11 @@ fn compare(
     message: Vec<u8>,
     both: Both<Case>,
 ) {
+    let page = pages::right(&record);
     let mut case = Case {
         record,
+        free: page.partition_point(|&byte| byte == 0),
+        page,
         message,
         out: [0; LONGEST_FRAME],
         up: [0; LONGEST_BLOCK],

@@ -29,6 +29,17 @@ pub fn waiting_of(
     numbers.record(state, &vec![BLOCK[..bytes].to_vec(); waiting])
 }
 
+/// The record of a closed end with this L.
+pub fn numbered(local: u32) -> [u8; RECORD] {
+    let numbers = Numbers {
+        local,
+        remote: 0,
+        accepted: 0,
+        handed_up: 0,
+    };
+    numbers.record(State::Closed, &[])
+}
+
 /// The record with blocks held so far above e.
 pub fn holding(mut record: [u8; RECORD], above: impl IntoIterator<Item = usize>) -> [u8; RECORD] {
     for above in above {
