@@ -9,9 +9,10 @@ use lib.ListN.{length, getD, take, drop, length-drop, take-append-drop}
 use lib.Seq.{length-take-le}
 use Rattle.frame.specs.Layout.{dataBlockAt}
 use Rattle.octets.specs.Sizes.{longestFrame, longestBlock, queueSize, heldSize}
-use Rattle.octets.specs.Test.{when, first, Outcome, refused, ok, refusing, mapped, numberOf}
+use Rattle.octets.specs.Test.{when, ifEq, first, Outcome, refused, ok, refusing, mapped, numberOf}
 use Rattle.octets.specs.Octets.{put, left, Octets}
-use Rattle.octets.proofs.Test.{by-eq}
+use Rattle.octets.proofs.Test.{by-eq, eq-yes, eq-no}
+use Rattle.page.specs.Page.{reserving}
 use Rattle.octets.proofs.Buffers.{put-fits, taken}
 use Rattle.octets.proofs.Outcomes.{after-question, is-refused}
 use Rattle.frame.specs.Frame.{Block}
@@ -19,7 +20,7 @@ use Rattle.protocol.specs.Endpoint as abstract
 use Rattle.protocol.specs.Table.{Step}
 use Rattle.call_spec.specs.declared.Call.{Call}
 use Rattle.call_spec.specs.declared.Call.the-variants.{Request, Receive}
-use Rattle.call_spec.specs.Calls.{Arguments, Rooms, rooms, given, wire, performed, recordAfter, bufferAfter}
+use Rattle.call_spec.specs.Calls.{Arguments, Rooms, rooms, given, wire, performed, recordAfter, bufferAfter, pageAfter}
 use Rattle.step_plan.specs.declared.Plan.{Plan}
 use Rattle.call_spec.specs.Answers.{noticeOf, sentIn, blockOf, blockPart, blockBufferAfter, endpointAfter}
 use Rattle.step_plan.specs.Internal.{blockBy, blockOut, sentBy, Sends}
@@ -35,7 +36,7 @@ use Rattle.endpoint.proofs.Record.{encode-decode}
 use Rattle.endpoint_step.specs.Calls.{outcomeOf, stepAnswerOf}
 use Rattle.endpoint_step.specs.Internal.{joinsQueue, joinsHeld, Plans, carried, blockFrom, HandsUp}
 use Rattle.endpoint_step.proofs.Ready.{passes}
-use Rattle.endpoint_step.proofs.Carries.{leaves, hands-up, stands, hands-is, sends, sends-is}
+use Rattle.endpoint_step.proofs.Carries.{leaves, hands-up, stands, hands-is, sends, sends-is, reserves, reserves-none}
 use Rattle.link.specs.declared.Answer.{Answer}
 use Rattle.link.specs.Record.{format}
 use Rattle.link.specs.Lent.{toldOf, statusOf, sentOf, answerOf, Called}
@@ -74,6 +75,10 @@ pub turned-down : {o : Outcome Step} {n : ℕ} → o ≡ refused n → (c : Call
 unfolding answerOf blockOf blockPart recordAfter bufferAfter blockBufferAfter mapped left
 turned-down e Request rec s out up h = rw (e, h) (record { answer = refl; end = refl; buffer = refl; block-buffer = refl; block = refl })
 turned-down e Receive rec s out up h = rw (e, h) (record { answer = refl; end = refl; buffer = refl; block-buffer = refl; block = refl })
+
+pub page-unchanged : {o : Outcome Step} {n : ℕ} → o ≡ refused n → {page : List ℕ} → page ≡ pageAfter page o
+unfolding pageAfter
+page-unchanged e = rw e refl
 
 -- an answer with the same block's length
 pub with-block : {k : Call} {o : Outcome Step} {rec s out up rec′ out′ up′ : List ℕ} (a : Answer) → Called k o rec s out up rec′ out′ up′ a → (b : ℕ) → b ≡ a .block
@@ -146,6 +151,14 @@ module _ (rec : List ℕ) (long : recordSize ≤ length rec) where
     pub refuses : p .number ≢ 0 → (out up : List ℕ) {r : Answer} → r ≡ answerOf rec (refused (p .number))
         → Called (c .call) (performed format rec page c) rec (c .octets) out up rec out up r
     refuses z out up h = turned-down (enough page c ∙ is-refused o (λ y. z (w .number ∙ y)) ∙ ap (λ (n : ℕ). refused n) (sym (w .number))) (c .call) rec (c .octets) out up h
+
+    -- what a plan's store leaves of the page
+    pub reserved : {page′ : List ℕ} → page′ ≡ ifEq (p .number) 0 (reserving (p .numbers .local) page) page → page′ ≡ pageAfter page (performed format rec page c)
+    reserved h =
+        rw (enough page c)
+        (by-eq (p .number) 0
+        (λ z. reserves (decode rec) decode-long page c w z (h ∙ eq-yes _ _ _ _ z))
+        (λ z. h ∙ eq-no _ _ _ _ z ∙ reserves-none (decode rec) decode-long page c w z))
 
     pub accepts : Octets rec → p .number ≡ 0 → {out out′ : List ℕ} {n : ℕ}
         → Sends (sentBy (p .reply) (blockOut (p .queue) joins (placeBlock (decode rec .lengths) (decode rec .blocks) 0))) out out′ n

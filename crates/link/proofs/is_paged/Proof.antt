@@ -1,0 +1,19 @@
+use mathlib.Core.Path.{sym, ap, _∙_}
+use denote.Ref.{now}
+use Prim.Native.Nat.{ℕ}
+use Rattle.page.specs.Page.{goesWith}
+use Rattle.step_rules.specs.declared.Numbers.{Numbers}
+use Rattle.endpoint.specs.View.{view}
+use Rattle.endpoint.specs.Record.{decode}
+use borrow.Author.Needs.{needs}
+use Rattle.link.proofs.is_paged.Statement.{statement}
+use Rattle.link.proofs.is_paged.Tie as tie
+
+returns : tie.Need-returns
+unfolding view decode
+returns c =
+    let p = now (c .before .before .before .before .args .page) in
+    c .goes-with .ensures ∙ ap (λ (n : Numbers). goesWith (n .local) p) (c .before .load-numbers .ensures)
+
+pub is-paged-spec : {M : Type 1} → statement M
+is-paged-spec = tie.close (tie.spec (λ c κs. search needs) (λ c κs. search needs) returns)

@@ -1,0 +1,47 @@
+use borrow.Author.Needs.{needs}
+use mathlib.Core.Path.{_≡_, refl, sym, ap, _∙_}
+use native.Mathlib.Omega.{arith}
+use lib.ListN.{length}
+use denote.Ref.{now}
+use borrow.Author.Tests.{not-true, not-false}
+use Rattle.page.proofs.Laws.{count≤}
+use Rattle.endpoint.specs.declared.Endpoint.{Endpoint}
+use Rattle.endpoint.specs.Record.{encode}
+use Rattle.link.proofs.Restarts.{restart-refused, short-record, short-page, wrong-page, restarts}
+use Rattle.link.proofs.restart.Statement.{statement}
+use Rattle.link.proofs.restart.Tie as tie
+
+returns : tie.Need-returns
+returns c =
+    let a = c .before .before .before .before .before .args in
+    restart-refused (now (a .rec)) (now (a .page)) (short-record (now (a .rec)) (now (a .page)) (omega (arith, c .before .before .if1 .taken))) (c .refuse .ensures)
+
+returns-2 : tie.Need-returns-2
+returns-2 c =
+    let a = c .before .before .before .before .before .before .args in
+    restart-refused (now (a .rec)) (now (a .page)) (short-page (now (a .rec)) (now (a .page)) (omega (arith, c .before .before .before .if1 .left)) (omega (arith, c .before .before .if2 .taken))) (c .refuse2 .ensures)
+
+returns-3 : tie.Need-returns-3
+returns-3 c =
+    let a = c .before .before .before .before .before .before .before .before .args in
+    let r = c .before .before .before .is-run in
+    restart-refused (now (a .rec)) (now (a .page)) (wrong-page (now (a .rec)) (now (a .page)) (omega (arith, c .before .before .before .before .before .if1 .left)) (omega (arith, c .before .before .before .before .if2 .left)) (sym (r .ensures) ∙ not-true (r .result) (c .before .before .if3 .taken))) (c .refuse3 .ensures)
+
+restarted-requires : tie.Need-restarted-requires
+restarted-requires c κs =
+    let a = c .before .before .before .before .before .before .before .args in
+    omega (arith, c .count-used .ensures, count≤ (now (a .page)) (omega (arith, c .before .before .before .if2 .left)))
+
+returns-4 : tie.Need-returns-4
+returns-4 c =
+    let a = c .before .before .before .before .before .before .before .before .before .before .before .before .args in
+    let r = c .before .before .before .before .before .before .before .is-run in
+    let n = c .before .before .before .before .before .count-used .ensures in
+    let e = c .before .before .before .before .restarted .ensures in
+    restarts (now (a .rec)) (now (a .page)) (omega (arith, c .before .before .before .before .before .before .before .before .before .if1 .left)) (omega (arith, c .before .before .before .before .before .before .before .before .if2 .left)) (sym (r .ensures) ∙ not-false (r .result) (c .before .before .before .before .before .before .if3 .left)) n e (c .before .before .encode .ensures)
+
+pub restart-spec : {M : Type 1} → statement M
+restart-spec =
+    tie.close
+    (tie.spec (λ c κs. search needs) (λ c. search needs) returns (λ c κs. search needs) (λ c. search needs) returns-2 (λ c κs. search needs)
+    (λ c κs. search needs) (λ c. search needs) returns-3 (λ c κs. search needs) restarted-requires (λ c κs. search needs) (λ c. search needs) returns-4)
