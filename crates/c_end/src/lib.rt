@@ -5,23 +5,27 @@ use call_spec::Call;
 ghost use mathlib.Core.Path.{_≡_};
 ghost use mathlib.Core.List.{[]};
 ghost use Rattle.octets.specs.Test.{numberOf};
-ghost use Rattle.octets.specs.Octets.{left};
 ghost use Rattle.call_spec.specs.declared.Call.the-variants.{Request, Receive};
-ghost use Rattle.link.specs.Lent.{CalledLent, answerIn, freshIn};
+ghost use Rattle.call_spec.specs.Calls.{restartedIn, recordAfter};
+ghost use Rattle.link.specs.Record.{format};
+ghost use Rattle.link.specs.Lent.{Called, lentOutcome, CalledLent, answerIn};
 
-// Writes a fresh record to the start of rec. Answers 0, or 11 where rec is too short.
+// Restarts an end: its record becomes the one that the page says, and the page stays. Answers 0, 11 or 15. A new page makes a fresh end.
 #[no_mangle]
-pub extern "C" fn dock_fresh(rec: &mut [u8]) -> u8
-    ensures { λ r. ⌜ (r ≡ numberOf (freshIn (now (rec .entry)))) × (now (rec .exit) ≡ left (freshIn (now (rec .entry))) (now (rec .entry))) ⌝ }
+pub extern "C" fn dock_restart(rec: &mut [u8], page: &[u8]) -> u8
+    ensures { λ r. ⌜ (r ≡ numberOf (restartedIn format (now (rec .entry)) (now (page .entry)))) × (now (rec .exit) ≡ recordAfter format (now (rec .entry)) (restartedIn format (now (rec .entry)) (now (page .entry)))) ⌝ }
 {
-    link::make_fresh(rec)
+    let a = link::restart(rec, page);
+    let told = a.status;
+    told.number
 }
 
-// A request, the timer call among them: s has its octets. Answers the number; state, notice, L, D, the length of the frame sent and that
+// A request, the timer call among them: s has its octets. One octet of the page at most is set, before every other store. Answers the number; state, notice, L, D, the length of the frame sent and that
 // of the block collected, which stands at the start of up, go to the last six.
 #[no_mangle]
 pub extern "C" fn dock_request(
     rec: &mut [u8],
+    page: &mut [u8],
     s: &[u8],
     out: &mut [u8],
     up: &mut [u8],
@@ -32,9 +36,9 @@ pub extern "C" fn dock_request(
     sent: &mut usize,
     block: &mut usize,
 ) -> u8
-    ensures { λ r. ⌜ CalledLent Request (now (rec .entry)) (now (s .entry)) (now (out .entry)) (now (up .entry)) (now (rec .exit)) (now (out .exit)) (now (up .exit)) (answerIn r (now (state .exit)) (now (notice .exit)) (now (local .exit)) (now (remote .exit)) (now (sent .exit)) (now (block .exit))) ⌝ }
+    ensures { λ r. ⌜ CalledLent Request (now (rec .entry)) (now (page .entry)) (now (s .entry)) (now (out .entry)) (now (up .entry)) (now (rec .exit)) (now (page .exit)) (now (out .exit)) (now (up .exit)) (answerIn r (now (state .exit)) (now (notice .exit)) (now (local .exit)) (now (remote .exit)) (now (sent .exit)) (now (block .exit))) ⌝ }
 {
-    let a = link::perform(Call::Request, rec, s, out, up);
+    let a = link::perform(Call::Request, rec, page, s, out, up);
     let told = a.status;
     *state = told.state;
     *notice = told.notice;
@@ -45,11 +49,12 @@ pub extern "C" fn dock_request(
     told.number
 }
 
-// Receives the frame s. Answers the number; the block handed up is octets 14 on of s, and its length, 0 where there is none, goes to
+// Receives the frame s. The page is looked at alone. Answers the number; the block handed up is octets 14 on of s, and its length, 0 where there is none, goes to
 // the last.
 #[no_mangle]
 pub extern "C" fn dock_receive(
     rec: &mut [u8],
+    page: &[u8],
     s: &[u8],
     out: &mut [u8],
     state: &mut u8,
@@ -59,10 +64,10 @@ pub extern "C" fn dock_receive(
     sent: &mut usize,
     block: &mut usize,
 ) -> u8
-    ensures { λ r. ⌜ CalledLent Receive (now (rec .entry)) (now (s .entry)) (now (out .entry)) [] (now (rec .exit)) (now (out .exit)) [] (answerIn r (now (state .exit)) (now (notice .exit)) (now (local .exit)) (now (remote .exit)) (now (sent .exit)) (now (block .exit))) ⌝ }
+    ensures { λ r. ⌜ Called Receive (lentOutcome Receive (now (rec .entry)) (now (page .entry)) (now (s .entry)) (now (out .entry)) []) (now (rec .entry)) (now (s .entry)) (now (out .entry)) [] (now (rec .exit)) (now (out .exit)) [] (answerIn r (now (state .exit)) (now (notice .exit)) (now (local .exit)) (now (remote .exit)) (now (sent .exit)) (now (block .exit))) ⌝ }
 {
     let mut number: u8 = 0;
-    let up = link::receive(rec, s, out, &mut number, state, notice, local, remote, sent);
+    let up = link::receive(rec, page, s, out, &mut number, state, notice, local, remote, sent);
     *block = up.len();
     number
 }

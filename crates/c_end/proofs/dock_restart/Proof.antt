@@ -1,0 +1,13 @@
+use mathlib.Core.Path.{ap}
+use Rattle.link.specs.declared.Answer.{Answer}
+use Rattle.link.specs.Lent.{statusOf, answerOf}
+use borrow.Author.Needs.{needs}
+use Rattle.c_end.proofs.dock_restart.Statement.{statement}
+use Rattle.c_end.proofs.dock_restart.Tie as tie
+
+returns : tie.Need-returns
+unfolding answerOf statusOf
+returns c = let r = c .before .before .before .restart .ensures in (ap (λ (x : Answer). x .status .number) (r .answer), r .end)
+
+pub dock-restart-spec : {M : Type 1} → statement M
+dock-restart-spec = tie.close (tie.spec (λ c κs. search needs) (λ c. search needs) returns)
