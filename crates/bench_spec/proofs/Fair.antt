@@ -79,7 +79,7 @@ module _ (w : Bench) (e : Two ends) (h : Logged e (w .count) (w .log)) where
       let a = accepted _ _ k in
       let b = all-yes 4 _ _ (a .0) tt in
       let c = both (leb requestOfA (endNamed s)) (leb (endNamed s) requestOfB) (all-yes 3 _ _ (b .1) tt .0) in
-      let i : endNamed s - requestOfA ≤ 1 = omega (arith, leb-true _ _ (c .1)) in
+      let i : endNamed s - requestOfA ≤ 1 = omega (arith, leb-true (endNamed s) requestOfB (c .1)) in
       subst Good (a .1) (restart-fair e _ _ i (long-at w (endNamed s - requestOfA) la lb), refl)
 
   asks-so : (s : List ℕ) (room : Rooms) → format .size ≤ length (w .a .rec) → format .size ≤ length (w .b .rec) → IfOk (octetsAsk w s room)
