@@ -13,7 +13,8 @@ use Rattle.frame.specs.Frame.{Frame}
 use Rattle.frame.specs.Layout.{encode}
 use Rattle.protocol.specs.Table.{Step, Sent, nothing, frame}
 use Rattle.call_spec.specs.declared.Call.the-variants.{Request}
-use Rattle.call_spec.specs.Calls.{Arguments, wire, performed}
+use Rattle.call_spec.specs.Calls.{Arguments, wire, performed, pageAfter}
+use Rattle.call_spec.specs.Claim.{Lent, lent, call}
 use Rattle.call_spec.specs.Answers.{sentIn, blockOf, blockPart}
 use Rattle.endpoint.specs.Record.{recordSize}
 use Rattle.link.specs.declared.Answer.{Answer}
@@ -21,7 +22,7 @@ use Rattle.link.specs.Record.{format}
 use Rattle.link.specs.Lent.{sentOf, answerOf, Called}
 use Rattle.link.proofs.Answers.{sent-fits, sent-taken}
 use Rattle.bench_log.specs.Log.{places}
-use Rattle.bench_spec.specs.Bench.{sends, logged, callOutcome, logAfter, countAfter}
+use Rattle.bench_spec.specs.Bench.{sends, logged, callOutcome, logAfter, countAfter, lentAfter}
 use Rattle.bench_call.specs.declared.BenchAnswer.{BenchAnswer}
 use Rattle.bench_call.specs.Answer.{blockAt, benchAnswerOf}
 use Rattle.bench_call.specs.Internal.{noted, notedCount, blockPlace, answerFrom, Does}
@@ -64,11 +65,11 @@ unfolding answerFrom answerOf benchAnswerOf blockPlace
 tells i rec count start o = rw (counts count o) refl
 
 -- what holds of the outcome of a call at an end, and of each refusal, holds of its outcome with 14
-pub with-14 : (P : Outcome Step → Type 0) → ((n : ℕ) → P (refused n)) → (rec : List ℕ) (count : ℕ) (c : Arguments) → P (performed format rec c)
-    → P (callOutcome rec count c)
+pub with-14 : (P : Outcome Step → Type 0) → ((n : ℕ) → P (refused n)) → (l : Lent) (count : ℕ) (c : Arguments) → P (performed format (l .rec) (l .page) c)
+    → P (callOutcome l count (call c))
 unfolding callOutcome logged
-with-14 P refusals rec count c h =
-    after-value P refusals (performed format rec c) (logged count) (λ x e. of-value P refusals _ x (subst P e h))
+with-14 P refusals l count c h =
+    after-value P refusals (performed format (l .rec) (l .page) c) (logged count) (λ x e. of-value P refusals _ x (subst P e h))
 
 -- the block stands where the answer says
 abbrev pub Stands : ℕ → List ℕ → List ℕ → List ℕ → Type 0
@@ -87,26 +88,27 @@ unfolding blockPart answerOf
 collects log {up′ = up′} w =
     collected-stands log up′ _ (ap (λ (n : ℕ). take n up′) (sym (ap (λ (x : Answer). x .block) (w .answer))) ∙ w .block)
 
-module _ (i : ℕ) (rec log : List ℕ) (count start : ℕ) (c : Arguments) {s out up rec′ out′ up′ : List ℕ} {m : Answer}
-    (w : Called (c .call) (callOutcome rec count c) rec s out up rec′ out′ up′ m) where
+module _ (i : ℕ) (l : Lent) (log : List ℕ) (count start : ℕ) (c : Arguments) {s out up rec′ out′ up′ : List ℕ} {m : Answer}
+    (w : Called (c .call) (callOutcome l count (call c)) (l .rec) s out up rec′ out′ up′ m) where
   abbrev o : Outcome Step
-  o = callOutcome rec count c
+  o = callOutcome l count (call c)
 
   sent-is : m .sent ≡ sentOf o
   unfolding answerOf
   sent-is = ap (λ (x : Answer). x .sent) (w .answer)
 
   -- what is sent can be logged
-  pub loggable : recordSize ≤ length rec → length out′ ≡ length out → (m .sent ≤ length out′) × ((m .sent ≤ longestFrame) × (m .sent ≢ 0 → count < places))
-  loggable h l = (
-    omega (arith, sent-fits out o (w .buffer) l sent-is, l),
-    (omega (arith, sent-is, sent-short rec count c h), λ z. has-place rec count c (λ y. z (sent-is ∙ y))),
+  pub loggable : recordSize ≤ length (l .rec) → length out′ ≡ length out → (m .sent ≤ length out′) × ((m .sent ≤ longestFrame) × (m .sent ≢ 0 → count < places))
+  loggable h e = (
+    omega (arith, sent-fits out o (w .buffer) e sent-is, e),
+    (omega (arith, sent-is, sent-short l count c h), λ z. has-place l count (call c) (λ y. z (sent-is ∙ y))),
   )
 
-  pub does : Stands start (logAfter i log count o) up′ (blockOf o) → {log′ : List ℕ} {r : BenchAnswer} → r ≡ answerFrom i m start count
-      → log′ ≡ noted i log count (take (m .sent) out′) → Does i rec log count start (c .call) o out up rec′ log′ out′ up′ r
-  unfolding benchAnswerOf
-  does h e k =
-      let a = e ∙ ap (λ (x : Answer). answerFrom i x start count) (w .answer) ∙ tells i rec count start o in
-      let l = k ∙ ap (noted i log count) (sent-taken out o (w .buffer) sent-is) ∙ enters i log count o in
-      record { answer = a; end = w .end; entered = l; buffer = w .buffer; block-buffer = w .block-buffer; handed = rw (a, l) h }
+  pub does : Stands start (logAfter i log count o) up′ (blockOf o) → {page′ : List ℕ} → page′ ≡ pageAfter (l .page) o → {log′ : List ℕ} {r : BenchAnswer}
+      → r ≡ answerFrom i m start count → log′ ≡ noted i log count (take (m .sent) out′)
+      → Does i l log count start (c .call) o out up (lent rec′ page′) log′ out′ up′ r
+  unfolding benchAnswerOf lentAfter
+  does h g e k =
+      let a = e ∙ ap (λ (x : Answer). answerFrom i x start count) (w .answer) ∙ tells i (l .rec) count start o in
+      let d = k ∙ ap (noted i log count) (sent-taken out o (w .buffer) sent-is) ∙ enters i log count o in
+      record { answer = a; end = λ j. lent (w .end j) (g j); entered = d; buffer = w .buffer; block-buffer = w .block-buffer; handed = rw (a, d) h }

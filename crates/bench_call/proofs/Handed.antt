@@ -13,6 +13,7 @@ use Rattle.octets.proofs.Test.{by-eq, eq-yes, eq-no}
 use Rattle.protocol.specs.Table.{Step, Sent, nothing, frame}
 use Rattle.call_spec.specs.declared.Call.the-variants.{Receive}
 use Rattle.call_spec.specs.Calls.{Rooms, given, wire, performed}
+use Rattle.call_spec.specs.Claim.{Lent, call}
 use Rattle.call_spec.specs.Answers.{noticeOf, blockOf}
 use Rattle.step_plan.specs.Internal.{blockBy}
 use Rattle.link.specs.Record.{format}
@@ -28,12 +29,12 @@ use Rattle.bench_call.proofs.Does.{some-octets, with-14, Stands}
 abbrev pub From : List ℕ → List ℕ → Type 0
 From s b = (b ≡ []) ⊎ (b ≡ drop dataBlockAt s)
 
-pub call-from : (rec : List ℕ) (count : ℕ) (s : List ℕ) (room : Rooms) → From s (blockOf (callOutcome rec count (given Receive s room)))
+pub call-from : (l : Lent) (count : ℕ) (s : List ℕ) (room : Rooms) → From s (blockOf (callOutcome l count (call (given Receive s room))))
 unfolding blockOf blockBy
-call-from rec count s room =
-    let h = sym (hands-it-up rec s room) in
-    with-14 (λ (o : Outcome Step). From s (blockOf o)) (λ n. inl refl) rec count (given Receive s room)
-    (by-eq (noticeOf (performed format rec (given Receive s room))) 5 (λ z. inr (h ∙ eq-yes _ _ _ _ z)) (λ z. inl (h ∙ eq-no _ _ _ _ z)))
+call-from l count s room =
+    let h = sym (hands-it-up (l .rec) (l .page) s room) in
+    with-14 (λ (o : Outcome Step). From s (blockOf o)) (λ n. inl refl) l count (given Receive s room)
+    (by-eq (noticeOf (performed format (l .rec) (l .page) (given Receive s room))) 5 (λ z. inr (h ∙ eq-yes _ _ _ _ z)) (λ z. inl (h ∙ eq-no _ _ _ _ z)))
 
 -- the frame received stays in its place, since what is sent goes to a later one
 keeps-sent : (i : ℕ) (log : List ℕ) (count n : ℕ) (x : Step) (s : Sent) → x .sent ≡ s → (sentOf (ok x) ≢ 0 → count < places) → n < count → logSize ≤ length log
@@ -90,12 +91,12 @@ some-stands n log up b e =
     by-eq (length b) 0 (none-stands (blockStart n) log up b)
     (λ z. rw (eq-no (length b) 0 0 (blockStart n) z) (eq-no (blockStart n) 0 _ _ (far n) ∙ rw e (block-part n log)))
 
-pub stands : (i : ℕ) (rec log up : List ℕ) (count n : ℕ) (room : Rooms) → let o = callOutcome rec count (given Receive (frameLogged n log) room) in
+pub stands : (i : ℕ) (l : Lent) (log up : List ℕ) (count n : ℕ) (room : Rooms) → let o = callOutcome l count (call (given Receive (frameLogged n log) room)) in
     (sentOf o ≢ 0 → count < places) → n < count → logSize ≤ length log → lengthAt n log ≤ longestFrame → Stands (blockStart n) (logAfter i log count o) up (blockOf o)
-stands i rec log up count n room left below long short =
-    let o = callOutcome rec count (given Receive (frameLogged n log) room) in
+stands i l log up count n room left below long short =
+    let o = callOutcome l count (call (given Receive (frameLogged n log) room)) in
     let log′ = logAfter i log count o in
     ⊎-elim
     (λ (e : blockOf o ≡ []). none-stands (blockStart n) log′ up (blockOf o) (ap length e))
     (λ (e : blockOf o ≡ drop dataBlockAt (frameLogged n log)). some-stands n log′ up (blockOf o) (e ∙ ap (drop dataBlockAt) (sym (keeps i log count n o left below long short))))
-    (call-from rec count (frameLogged n log) room)
+    (call-from l count (frameLogged n log) room)

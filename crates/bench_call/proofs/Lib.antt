@@ -2,3 +2,4 @@ pub mod Moves
 pub mod Short
 pub mod Does
 pub mod Handed
+pub mod Restarts

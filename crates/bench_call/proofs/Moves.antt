@@ -12,6 +12,7 @@ use Rattle.octets.specs.Test.{when, first, Outcome, refused, ok, outcome, andTh
 use Rattle.frame.specs.Frame.{Block, Frame}
 use Rattle.protocol.specs.Table.{Step, Sent, nothing, frame}
 use Rattle.call_spec.specs.Calls.{Arguments, wire, performed}
+use Rattle.call_spec.specs.Claim.{Lent, Act, call}
 use Rattle.step_plan.specs.declared.Plan.{Plan}
 use Rattle.step_plan.specs.declared.Reply.{Reply}
 use Rattle.step_plan.specs.declared.Reply.the-variants as reply
@@ -19,7 +20,7 @@ use Rattle.call_spec.specs.Answers.{sentIn}
 use Rattle.step_plan.specs.Internal.{sentBy}
 use Rattle.endpoint.specs.Record.{recordSize, decode}
 use Rattle.endpoint_step.specs.Internal.{Plans}
-use Rattle.link.specs.Record.{format}
+use Rattle.link.specs.Record.{format, ends}
 use Rattle.link.specs.Lent.{sentOf}
 use Rattle.link.proofs.Answers.{enough}
 use Rattle.bench_log.specs.Log.{places}
@@ -27,7 +28,7 @@ use Rattle.bench_spec.specs.Bench.{sends, logged, callOutcome}
 use Rattle.bench_call.specs.Internal.{hasPlace}
 
 -- a step that sends nothing, and one that sends a frame
-quiet-logs : (count : ℕ) (x : Step) → x .sent ≡ nothing → logged count x ≡ ok x
+pub quiet-logs : (count : ℕ) (x : Step) → x .sent ≡ nothing → logged count x ≡ ok x
 unfolding logged sends outcome first when
 quiet-logs count x e = rw e refl
 
@@ -49,10 +50,10 @@ by-reply (refused n) (reply.Frame h) b count e = absurd (let z : _≡_ {A = ℕ}
 by-reply (ok x) reply.Nothing b count e = quiet-logs count x (sym e)
 by-reply (ok x) (reply.Frame h) b count e = sending-logs count x _ (sym e)
 
-module _ (rec : List ℕ) (long : recordSize ≤ length rec) (count : ℕ) (c : Arguments) {p : Plan} (w : Plans (decode rec) c p) where
-  pub by-plan : callOutcome rec count c ≡ when (hasPlace (p .reply) count) (performed format rec c) (refused 14)
+module _ (l : Lent) (long : recordSize ≤ length (l .rec)) (count : ℕ) (c : Arguments) {p : Plan} (w : Plans (decode (l .rec)) (l .page) c p) where
+  pub by-plan : callOutcome l count (call c) ≡ when (hasPlace (p .reply) count) (performed format (l .rec) (l .page) c) (refused 14)
   unfolding callOutcome
-  by-plan = by-reply (performed format rec c) (p .reply) _ count (w .sent ∙ sym (ap sentIn (enough rec long c)))
+  by-plan = by-reply (performed format (l .rec) (l .page) c) (p .reply) _ count (w .sent ∙ sym (ap sentIn (enough (l .rec) long (l .page) c)))
 
 -- what is sent has a place in the log
 by-test : (b : Bool) (x : Step) → sentOf (when b (ok x) (refused 14)) ≢ 0 → b ≡ true
@@ -70,6 +71,6 @@ unfolding andThen sentOf
 place-left (refused n) count h = absurd (h refl)
 place-left (ok x) count h = by-sent count x (x .sent) refl h
 
-pub has-place : (rec : List ℕ) (count : ℕ) (c : Arguments) → sentOf (callOutcome rec count c) ≢ 0 → count < places
+pub has-place : (l : Lent) (count : ℕ) (c : Act) → sentOf (callOutcome l count c) ≢ 0 → count < places
 unfolding callOutcome
-has-place rec count c h = place-left (performed format rec c) count h
+has-place l count c h = place-left (ends .comes l c) count h

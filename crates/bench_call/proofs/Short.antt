@@ -1,14 +1,12 @@
 -- What a call sends has at most 78 octets.
-use Prim.Native.Nat.{ℕ, _≤_}
+use Prim.Native.Nat.{ℕ, zero, suc, _≤_}
 use mathlib.Core.Path.{_≡_, refl, subst}
-use mathlib.Core.Bool.{Bool, true, false}
+use mathlib.Core.Bool.{true}
 use mathlib.Core.List.{List, [], _∷_}
 use native.Mathlib.Omega.{arith}
-use borrow.Author.Tests.{le-leb}
-use lib.Dec.{leb}
 use lib.ListN.{length, getD}
 use Rattle.octets.specs.Sizes.{longestFrame, longestBlock}
-use Rattle.octets.specs.Test.{when, ifEq, inRange, first, Outcome, refused, ok, refusing, mapped, andThen}
+use Rattle.octets.specs.Test.{when, ifEq, inRange, Outcome, refused, ok, refusing, mapped, andThen}
 use Rattle.octets.specs.Octets.{octetsOf, lay}
 use Rattle.octets.proofs.Test.{if-eq}
 use Rattle.octets.proofs.Outcomes.{of-value, after-value}
@@ -29,8 +27,11 @@ use Rattle.protocol.specs.Claim.{blockSent}
 use Rattle.protocol.proofs.Sound.{sized-at, sound-so}
 use Rattle.call_spec.specs.declared.Call as calls
 use Rattle.call_spec.specs.declared.Call.the-variants as call
-use Rattle.call_spec.specs.Calls.{Arguments, reads, does, blockRoomOk, asked, wire, performed}
+use Rattle.call_spec.specs.Calls.{Arguments, reads, does, asked, wire, performed}
+use Rattle.call_spec.specs.Claim.{Lent}
+use Rattle.call_spec.specs.Claim as act
 use Rattle.call_spec.proofs.Lift.{read-sized}
+use Rattle.endpoint_step.proofs.Ready.{all-passed}
 use Rattle.endpoint.specs.Record.{recordSize, decode}
 use Rattle.endpoint.proofs.Sounds.{view-sound}
 use Rattle.link.specs.Record.{format}
@@ -130,21 +131,22 @@ unfolding does reads
 does-short call.Request s e h = request-short e (readRequest s) (sound-so e h .blocks) (read-sized s)
 does-short call.Receive s e h = receive-short e (readFrame s)
 
-own-short : (room blockRoom fine : Bool) (o : Outcome Step) → (fine ≡ true → Sends o) → Sends (refusing (first ((11, room) ∷ (11, blockRoom) ∷ (12, fine) ∷ [])) o)
-unfolding first when refusing sentOf
-own-short true true true o h = h refl
-own-short true true false o h = omega arith
-own-short true false fine o h = omega arith
-own-short false b fine o h = omega arith
+-- of what is sent where no question refuses
+passed-short : (n : ℕ) (o : Outcome Step) → (n ≡ 0 → Sends o) → Sends (refusing n o)
+unfolding refusing
+passed-short zero o h = h refl
+passed-short (suc n) o h = none-sent (suc n)
 
 logged-short : (count : ℕ) (o : Outcome Step) → Sends o → Sends (andThen o (logged count))
 unfolding logged
 logged-short count o h = after-value Sends none-sent o (logged count) (λ x e. of-value Sends none-sent _ x (subst Sends e h))
 
-pub sent-short : (rec : List ℕ) (count : ℕ) (c : Arguments) → recordSize ≤ length rec → sentOf (callOutcome rec count c) ≤ longestFrame
-unfolding callOutcome performed asked refusing first when
-sent-short rec count c h =
-    logged-short count (performed format rec c)
-    (rw (le-leb recordSize (length rec) h)
-    (own-short (leb longestFrame (c .room)) (blockRoomOk (c .call) (c .blockRoom)) (format .sound rec) _
-    (λ z. does-short (c .call) (c .octets) (format .holds rec) (view-sound (decode rec) z (decode-long rec h)))))
+pub sent-short : (l : Lent) (count : ℕ) (c : Arguments) → recordSize ≤ length (l .rec) → sentOf (callOutcome l count (act.call c)) ≤ longestFrame
+unfolding callOutcome performed asked
+sent-short l count c h =
+    logged-short count (performed format (l .rec) (l .page) c)
+    (passed-short _ _
+    (λ _. passed-short _ _
+    (λ z.
+    let p = all-passed (format .sound (l .rec)) (format .holds (l .rec) .local) (l .page) c z in
+    does-short (c .call) (c .octets) (format .holds (l .rec)) (view-sound (decode (l .rec)) (p .is-fine) (decode-long (l .rec) h)))))

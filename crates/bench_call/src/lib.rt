@@ -1,20 +1,22 @@
-// A call at one end of the bench: question 14, the frame sent in the log, and what is told.
+// A call at one end of the bench: question 14, the frame sent in the log, and what is told; and the restart of an end.
 use call_spec::Call;
 use call_spec::Status;
 use link::Answer;
 use octets::refusal;
 use step_plan::Reply;
 ghost use mathlib.Core.Path.{_≡_};
-ghost use Prim.Native.Nat.{_≤_, _<_};
+ghost use Prim.Native.Nat.{ℕ, _≤_, _<_};
 ghost use mathlib.Core.Logic.{_≢_};
+ghost use mathlib.Core.List.{List};
 ghost use lib.ListN.{length, take};
 ghost use Rattle.octets.specs.Sizes.{longestFrame};
 ghost use Rattle.call_spec.specs.declared.Call.the-variants.{Request, Receive};
+ghost use Rattle.call_spec.specs.Calls.{pageAfter};
+ghost use Rattle.call_spec.specs.Claim.{lent};
 ghost use Rattle.link.specs.Lent.{Called, lentCall};
 ghost use Rattle.bench_log.specs.Log.{places, logSize, lengthAt, frameLogged};
-ghost use Rattle.bench_spec.specs.Bench.{callOutcome};
 ghost use Rattle.bench_call.specs.Answer.{blockStart};
-ghost use Rattle.bench_call.specs.Internal.{Ready, hasPlace, noted, notedCount, blockPlace, answerFrom, Does};
+ghost use Rattle.bench_call.specs.Internal.{outcomeAt, restartAt, Ready, hasPlace, noted, notedCount, blockPlace, answerFrom, Does};
 
 // Question 14 of a plan: what sends a frame needs a place for it in the log.
 pub fn has_place(reply: Reply, count: usize) -> bool
@@ -26,23 +28,25 @@ pub fn has_place(reply: Reply, count: usize) -> bool
     }
 }
 
-// A call of an end where 11 and 12 are passed, with question 14 last, of its plan.
+// A call of an end where 11, 12 and 15 are passed, with question 14 last, of its plan; the page's one store comes after it, and before the others.
 fn call_end(
     call: Call,
     rec: &mut [u8],
+    page: &mut [u8],
     s: &[u8],
     count: usize,
     out: &mut [u8],
     up: &mut [u8],
 ) -> Answer
-    requires { ⌜ Ready (now rec) (now out) (now up) ⌝ }
-    ensures { λ r. ⌜ Called call (callOutcome (now (rec .entry)) count (lentCall call (now (s .entry)) (now (out .entry)) (now (up .entry)))) (now (rec .entry)) (now (s .entry)) (now (out .entry)) (now (up .entry)) (now (rec .exit)) (now (out .exit)) (now (up .exit)) r ⌝ }
+    requires { ⌜ Ready (lent (now rec) (now page)) (now out) (now up) ⌝ }
+    ensures { λ r. ⌜ Called call (outcomeAt (lent (now (rec .entry)) (now (page .entry))) count (lentCall call (now (s .entry)) (now (out .entry)) (now (up .entry)))) (now (rec .entry)) (now (s .entry)) (now (out .entry)) (now (up .entry)) (now (rec .exit)) (now (out .exit)) (now (up .exit)) r × (now (page .exit) ≡ pageAfter (now (page .entry)) (outcomeAt (lent (now (rec .entry)) (now (page .entry))) count (lentCall call (now (s .entry)) (now (out .entry)) (now (up .entry))))) ⌝ }
 {
     let p = link::plan_sound(call, rec, s);
     let reply = p.reply;
     if !has_place(reply, count) {
         return link::refuse(rec, refusal::LOG_FULL);
     }
+    link::reserve(p, page);
     link::finish(call, p, rec, s, out, up)
 }
 
@@ -104,16 +108,17 @@ fn finish(end: u8, a: Answer, start: usize, log: &mut [u8], count: usize, out: &
 pub fn request_at(
     end: u8,
     rec: &mut [u8],
+    page: &mut [u8],
     s: &[u8],
     log: &mut [u8],
     count: usize,
     out: &mut [u8],
     up: &mut [u8],
 ) -> BenchAnswer
-    requires { ⌜ Ready (now rec) (now out) (now up) × (logSize ≤ length (now log)) ⌝ }
-    ensures { λ r. ⌜ Does end (now (rec .entry)) (now (log .entry)) count 0 Request (callOutcome (now (rec .entry)) count (lentCall Request (now (s .entry)) (now (out .entry)) (now (up .entry)))) (now (out .entry)) (now (up .entry)) (now (rec .exit)) (now (log .exit)) (now (out .exit)) (now (up .exit)) r ⌝ }
+    requires { ⌜ Ready (lent (now rec) (now page)) (now out) (now up) × (logSize ≤ length (now log)) ⌝ }
+    ensures { λ r. ⌜ Does end (lent (now (rec .entry)) (now (page .entry))) (now (log .entry)) count 0 Request (outcomeAt (lent (now (rec .entry)) (now (page .entry))) count (lentCall Request (now (s .entry)) (now (out .entry)) (now (up .entry)))) (now (out .entry)) (now (up .entry)) (lent (now (rec .exit)) (now (page .exit))) (now (log .exit)) (now (out .exit)) (now (up .exit)) r ⌝ }
 {
-    let a = call_end(Call::Request, rec, s, count, out, up);
+    let a = call_end(Call::Request, rec, page, s, count, out, up);
     finish(end, a, 0, log, count, out)
 }
 
@@ -121,18 +126,20 @@ pub fn request_at(
 pub fn deliver_at(
     end: u8,
     rec: &mut [u8],
+    page: &mut [u8],
     n: usize,
     log: &mut [u8],
     count: usize,
     out: &mut [u8],
     up: &mut [u8],
 ) -> BenchAnswer
-    requires { ⌜ Ready (now rec) (now out) (now up) × ((logSize ≤ length (now log)) × (((n < count) × (count ≤ places)) × (lengthAt n (now log) ≤ longestFrame))) ⌝ }
-    ensures { λ r. ⌜ Does end (now (rec .entry)) (now (log .entry)) count (blockStart n) Receive (callOutcome (now (rec .entry)) count (lentCall Receive (frameLogged n (now (log .entry))) (now (out .entry)) (now (up .entry)))) (now (out .entry)) (now (up .entry)) (now (rec .exit)) (now (log .exit)) (now (out .exit)) (now (up .exit)) r ⌝ }
+    requires { ⌜ Ready (lent (now rec) (now page)) (now out) (now up) × ((logSize ≤ length (now log)) × (((n < count) × (count ≤ places)) × (lengthAt n (now log) ≤ longestFrame))) ⌝ }
+    ensures { λ r. ⌜ Does end (lent (now (rec .entry)) (now (page .entry))) (now (log .entry)) count (blockStart n) Receive (outcomeAt (lent (now (rec .entry)) (now (page .entry))) count (lentCall Receive (frameLogged n (now (log .entry))) (now (out .entry)) (now (up .entry)))) (now (out .entry)) (now (up .entry)) (lent (now (rec .exit)) (now (page .exit))) (now (log .exit)) (now (out .exit)) (now (up .exit)) r ⌝ }
 {
     let a = call_end(
         Call::Receive,
         rec,
+        page,
         bench_log::frame_of(log, n),
         count,
         out,
@@ -146,4 +153,20 @@ pub fn deliver_at(
         count,
         out,
     )
+}
+
+// The restart of an end. It sends nothing, and leaves the log and the page.
+pub fn restart_at(end: u8, rec: &mut [u8], page: &[u8], count: usize) -> BenchAnswer
+    ensures { λ r. ⌜ ((log out up : List ℕ) (start : ℕ) → Does end (lent (now (rec .entry)) (now (page .entry))) log count start Receive (restartAt (lent (now (rec .entry)) (now (page .entry))) count) out up (lent (now (rec .exit)) (now (page .entry))) log out up r) ⌝ }
+{
+    let a = link::restart(rec, page);
+    let status = a.status;
+    BenchAnswer {
+        end,
+        status,
+        sent: a.sent,
+        at: 0,
+        block: a.block,
+        count,
+    }
 }

@@ -298,8 +298,7 @@ module _ (e : Endpoint) (long : Long e) (page : List ℕ) (c : Arguments) {p : P
         × ((p .numbers .local ≤ lastIncarnation) × (p .numbers .local ≤ numbersEach * pages.count page + numbersEach))
     reservable =
         let g = goes-so (e .local) page (passed .goes) in
-        let l = local-follows in
-        (
+        let l = local-follows in (
           (passed .page-long, g .0),
           (l .1 .1 (goes-last (e .local) page (passed .page-long) (passed .goes)), omega arith),
         )

@@ -29,7 +29,7 @@ call-of c = given (c .args .call) (now (c .args .s)) (rooms (c .args .room) (c .
 long : (c : tie.Start) → Long (record-of c)
 long c = record { lengths = c .pre .0 .1; blocks = c .pre .0 .0; held-lengths = c .pre .1 .1; held-blocks = c .pre .1 .0 }
 
--- 11, 12 and 15 have been passed
+-- what the questions have answered
 abbrev start-of : tie.Else2 → tie.Start
 start-of c = c .before .before .before .before .before .before .before .before .before
 
@@ -38,6 +38,9 @@ has-room c = sym (c .before .block-room-ok .ensures) ∙ not-false (c .before .b
 
 is-fine : (c : tie.Else4) → sound (record-of (start-of (c .before .before .before))) ≡ true
 is-fine c = sym (c .before .is-sound .ensures) ∙ not-false (c .before .is-sound .result) (c .if4 .left)
+
+not-fine : (c : tie.Then4) → sound (record-of (start-of (c .before .before .before))) ≡ false
+not-fine c = sym (c .before .is-sound .ensures) ∙ not-true (c .before .is-sound .result) (c .if4 .taken)
 
 goes : (c : tie.Else5) → goesWith (start-of (c .before .before .before .before .before) .args .n .local) (page-of (start-of (c .before .before .before .before .before))) ≡ true
 goes c = sym (c .before .goes-with .ensures) ∙ not-false (c .before .goes-with .result) (c .if5 .left)
@@ -64,9 +67,9 @@ returns-3 c =
 returns-4 : tie.Need-returns-4
 returns-4 c =
     let s = c .before .before .before .before .before .before .before .before .before .before .before .before .before in
-    let f : sound (record-of s) ≡ false = sym (c .before .before .is-sound .ensures) ∙ not-true (c .before .before .is-sound .result) (c .before .if4 .taken) in
     refusal (record-of s) (page-of s) (call-of s) 12
-    (unsound (record-of s) (page-of s) (call-of s) (c .before .before .before .before .before .before .if1 .left) (has-room (c .before .before .before .before)) (c .before .before .before .if3 .left) f) (c .refuse4 .ensures)
+    (unsound (record-of s) (page-of s) (call-of s) (c .before .before .before .before .before .before .if1 .left) (has-room (c .before .before .before .before)) (c .before .before .before .if3 .left) (not-fine (c .before)))
+    (c .refuse4 .ensures)
 
 returns-5 : tie.Need-returns-5
 returns-5 c =
