@@ -8,8 +8,9 @@ use Rattle.frame.specs.Read.{kindOf}
 use Rattle.call_spec.specs.declared.Call.{Call}
 use Rattle.call_spec.specs.declared.Call.the-variants.{Receive}
 use Rattle.call_spec.specs.Calls.{bufferAfter}
+use Rattle.call_spec.specs.Claim.{Lent, Act, call, restart, cut}
 use Rattle.call_spec.specs.Answers.{blockOf, blockBufferAfter}
-use Rattle.bench_spec.specs.Bench.{Bench, benchOf, At, recordAt, comes, endOf, benchAfter, deliver}
+use Rattle.bench_spec.specs.Bench.{Bench, benchOf, At, lentAt, comes, endOf, benchAfter, deliver}
 use Rattle.bench_call.specs.declared.BenchAnswer.{BenchAnswer}
 use Rattle.bench_call.specs.Answer.{blockStart, blockAt, benchAnswerOf}
 
@@ -17,15 +18,20 @@ use Rattle.bench_call.specs.Answer.{blockStart, blockAt, benchAnswerOf}
 unfoldable pub lineStart : List ℕ → ℕ
 lineStart s = ifEq (kindOf s) deliver (blockStart (field 2 1 s)) 0
 
--- the call that a line makes; a line that is refused leaves the buffer for a block alone, as receiving does
+-- The call that a line makes. One that is refused, or restarts an end, leaves the buffer for a block alone, as receiving does.
+unfoldable pub callBy : Act → Call
+callBy (call c) = c .call
+callBy (restart rec) = Receive
+callBy (cut c rec) = Receive
+
 unfoldable pub callOf : Outcome At → Call
 callOf (refused n) = Receive
-callOf (ok x) = x .1 .call
+callOf (ok x) = callBy (x .1)
 
 -- A line on the bench w: q is the call that it makes, or its refusal; start is where the block of the frame that it delivers, if it
 -- delivers one, stands in the log.
-pub record Performed (w : Bench) (q : Outcome At) (start : ℕ) (out up a b log out′ up′ : List ℕ) (r : BenchAnswer) : Type 0 where
-  pub answer : r ≡ benchAnswerOf (endOf q) (recordAt (endOf q) w) (w .count) start (comes w q)
+pub record Performed (w : Bench) (q : Outcome At) (start : ℕ) (out up : List ℕ) (a b : Lent) (log out′ up′ : List ℕ) (r : BenchAnswer) : Type 0 where
+  pub answer : r ≡ benchAnswerOf (endOf q) (lentAt (endOf q) w .rec) (w .count) start (comes w q)
   pub bench : benchOf a b log (r .count) ≡ benchAfter (endOf q) w (comes w q)
   pub buffer : out′ ≡ bufferAfter out (comes w q)
   pub block-buffer : up′ ≡ blockBufferAfter (callOf q) up (comes w q)
