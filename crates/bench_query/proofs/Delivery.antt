@@ -3,21 +3,22 @@ use Prim.Native.Nat.{ℕ, _-_, _≤_, _<_}
 use mathlib.Core.Path.{_≡_, refl, sym, subst}
 use mathlib.Core.Logic.{_≢_}
 use mathlib.Core.Bool.{Bool, true, false}
-use mathlib.Core.List.{List}
 use native.Mathlib.Omega.{arith}
 use Rattle.octets.specs.Sizes.{longestFrame, longestBlock}
 use Rattle.octets.specs.Test.{when, ifEq, first, Outcome, ok, outcome, andThen, numberOf}
 use Rattle.call_spec.specs.declared.Call.the-variants.{Receive}
 use Rattle.call_spec.specs.Calls.{given, rooms}
+use Rattle.call_spec.specs.Claim.{Lent, call}
 use Rattle.endpoint.proofs.Sounds.{by-lt}
 use Rattle.bench_log.specs.Log.{senderAt, frameLogged, holds}
 use Rattle.bench_log.proofs.Log.{too-high, held}
-use Rattle.bench_spec.specs.Bench.{Bench, At, recordAt, delivery, callOutcome, comes, endOf}
+use Rattle.bench_spec.specs.Bench.{Bench, At, lentAt, delivery, comes, endOf}
 use Rattle.bench_checks.proofs.Passed.{Passed, passed}
+use Rattle.bench_call.specs.Internal.{outcomeAt}
 use Rattle.bench_query.specs.Found.{Changes, WouldChange, questions}
 use Rattle.bench_query.specs.Internal.{Says}
 
--- 11 and 12 have been passed; there is no buffer for a frame that could be too short
+-- 11, 12 and 15 have been passed; there is no buffer for a frame that could be too short
 pub ready : (w : Bench) → first (questions w) ≡ 0 → Passed w (rooms longestFrame longestBlock)
 unfolding first when
 ready w h = passed w (rooms longestFrame longestBlock) h
@@ -32,23 +33,23 @@ module _ (w : Bench) (n : ℕ) where
   beyond h = not-held (sym (too-high (w .count) n (w .log) h))
 
   module _ (h : holds (w .count) n (w .log) ≡ true) where
-    goes : {j : ℕ} → 1 - senderAt n (w .log) ≡ j → delivery w n (rooms longestFrame longestBlock) ≡ ok (j, given Receive (frameLogged n (w .log)) (rooms longestFrame longestBlock))
+    goes : {j : ℕ} → 1 - senderAt n (w .log) ≡ j → delivery w n (rooms longestFrame longestBlock) ≡ ok (j, call (given Receive (frameLogged n (w .log)) (rooms longestFrame longestBlock)))
     unfolding delivery outcome first when
     goes e = rw (h, e) refl
 
     -- the call at an end
-    abbrev Changed : List ℕ → Type 0
-    Changed rec = Changes rec (callOutcome rec (w .count) (given Receive (frameLogged n (w .log)) (rooms longestFrame longestBlock)))
+    abbrev Changed : Lent → Type 0
+    Changed l = Changes (l .rec) (outcomeAt l (w .count) (given Receive (frameLogged n (w .log)) (rooms longestFrame longestBlock)))
 
     abbrev Goes : Bool → Outcome At → Type 0
-    Goes r d = Says r (Changes (recordAt (endOf d) w) (comes w d))
+    Goes r d = Says r (Changes (lentAt (endOf d) w .rec) (comes w d))
 
     pub to-b : (r : Bool) → senderAt n (w .log) ≡ 0 → Says r (Changed (w .b)) → Says r (WouldChange w n)
-    unfolding recordAt endOf comes andThen ifEq when
+    unfolding lentAt endOf comes andThen ifEq when
     to-b r e x = subst (Goes r) (sym (goes {j = 1} (omega arith))) x
 
     pub to-a : (r : Bool) → senderAt n (w .log) ≢ 0 → Says r (Changed (w .a)) → Says r (WouldChange w n)
-    unfolding recordAt endOf comes andThen ifEq when
+    unfolding lentAt endOf comes andThen ifEq when
     to-a r e x = subst (Goes r) (sym (goes {j = 0} (omega (arith, held (w .count) n (w .log) h .sender)))) x
 
 -- no frame would_change where none in the log does

@@ -9,7 +9,7 @@ use borrow.Author.Tests.{eqb-true, eq-eqb}
 use lib.Dec.{eqb}
 use lib.ListN.{length, getD, set, drop, length-append, length-drop}
 use lib.Seq.{getD-set-same}
-use Rattle.octets.specs.Sizes.{longestFrame, longestBlock, heldSize}
+use Rattle.octets.specs.Sizes.{longestFrame, longestBlock, heldSize, pageSize}
 use Rattle.octets.specs.Test.{when, Outcome, refused, ok, mapped, andThen, numberOf}
 use Rattle.octets.specs.Octets.{put, left, Octets}
 use Rattle.octets.proofs.Test.{both, joined}
@@ -18,6 +18,7 @@ use Rattle.protocol.specs.Endpoint as abstract
 use Rattle.protocol.specs.Table.{Step, firstCopy, heldAt}
 use Rattle.call_spec.specs.declared.Call.the-variants.{Receive}
 use Rattle.call_spec.specs.Calls.{Arguments, given, rooms, does, performed, recordAfter}
+use Rattle.call_spec.specs.Claim.{lent}
 use Rattle.step_rules.specs.declared.Numbers.{Numbers}
 use Rattle.step_rules.specs.Internal.{holding}
 use Rattle.step_plan.specs.declared.Plan.{Plan}
@@ -38,12 +39,12 @@ use Rattle.endpoint_step.specs.Calls.{outcomeOf}
 use Rattle.endpoint_step.specs.Internal.{joinsQueue, joinsHeld, Plans, PlansAny}
 use Rattle.endpoint_step.proofs.Ready.{ready}
 use Rattle.endpoint_step.proofs.Laws.{leaves}
-use Rattle.link.specs.Record.{format}
+use Rattle.link.specs.Record.{format, pagedFor}
 use Rattle.link.proofs.Answers.{rewritten, enough, decode-long}
 use Rattle.link.proofs.Demand.{lawful}
 use Rattle.link.proofs.Stays.{bounded}
 use Rattle.bench_spec.specs.Bench.{logged, callOutcome}
-use Rattle.bench_call.specs.Internal.{hasPlace}
+use Rattle.bench_call.specs.Internal.{outcomeAt, hasPlace}
 use Rattle.bench_call.proofs.Moves.{by-plan}
 use Rattle.bench_query.specs.Found.{Changes}
 use Rattle.bench_query.specs.Internal.{Says, sameNumbers, staying}
@@ -122,30 +123,31 @@ module _ (rec : List ℕ) (long : recordSize ≤ length rec) (fine : sound (deco
       ∙ ap (λ (e : Endpoint). put rec 0 (endpoint.encode e)) (pack-view end (tidy end fine (decode-long rec long)) (tidy-held end fine (decode-long rec long)))
       ∙ rewritten rec long oc
 
-  module _ (s : List ℕ) (count-used : ℕ) where
+  module _ (page : List ℕ) (page-long : pageSize ≤ length page) (goes : pagedFor rec page ≡ true) (s : List ℕ) (count-used : ℕ) where
     abbrev call : Arguments
     call = given Receive s (rooms longestFrame longestBlock)
 
     abbrev hears : Outcome Step
     hears = does Receive s (view end)
 
-    -- the record is sound and there is room for a frame
-    ready-is : outcomeOf end call ≡ hears
-    ready-is = ready end call (omega arith) (has-room Receive longestBlock (omega arith)) fine
+    -- the record is sound, its page goes with it, and there is room for a frame
+    ready-is : outcomeOf end page call ≡ hears
+    unfolding view
+    ready-is = ready end page call (omega arith) (has-room Receive longestBlock (omega arith)) page-long fine goes
 
-    comes-to : performed format rec call ≡ hears
-    comes-to = enough rec long call ∙ ready-is
+    comes-to : performed format rec page call ≡ hears
+    comes-to = enough rec long page call ∙ ready-is
 
     -- what leaves the record leaves the endpoint
     kept : Octets rec → Octets s → (o : Outcome Step) → hears ≡ o → recordAfter format rec o ≡ rec → endpointAfter (view end) o ≡ view end
     unfolding endpointAfter recordAfter mapped left put
     kept oc os (refused n) e h = refl
     kept oc os (ok x) e h =
-        let l = leaves end (decode-long rec long) call os (ready-is ∙ e) in
+        let l = leaves end (decode-long rec long) page call os (ready-is ∙ e) in
         sym (lawful .keeps (x .endpoint) _ (l .is-sound) (l .bounded (bounded rec oc long))) ∙ ap (format .holds) h
 
     abbrev Change : Type 0
-    Change = Changes rec (callOutcome rec count-used call)
+    Change = Changes rec (outcomeAt (lent rec page) count-used call)
 
     module _ {p : Plan} (h : PlansAny end Receive s p) where
       abbrev joins : Block
@@ -154,26 +156,27 @@ module _ (rec : List ℕ) (long : recordSize ≤ length rec) (fine : sound (deco
       abbrev early : Block
       early = joinsHeld p s
 
-      plans : Plans end call p
-      plans = h (rooms longestFrame longestBlock) (omega arith) (has-room Receive longestBlock (omega arith))
+      plans : Plans end page call p
+      unfolding view
+      plans = h page (rooms longestFrame longestBlock) (omega arith) (has-room Receive longestBlock (omega arith)) page-long goes
 
       planned : Comes (numbersOf end) (view end .queue) (view end .held) joins early (placeBlock (end .lengths) (end .blocks) 0) hears p
       planned = rw ready-is at plans
 
-      by-14 : callOutcome rec count-used call ≡ when (hasPlace (p .reply) count-used) (performed format rec call) (refused 14)
-      by-14 = by-plan rec long count-used call {p = p} plans
+      by-14 : outcomeAt (lent rec page) count-used call ≡ when (hasPlace (p .reply) count-used) (performed format rec page call) (refused 14)
+      by-14 = by-plan (lent rec page) long count-used call {p = p} plans
 
       -- refused by 3 to 7
       pub refuses : p .number ≢ 0 → Change → ⊥
       unfolding callOutcome
-      refuses z x = z (planned .number ∙ ap numberOf (sym comes-to) ∙ passes (performed format rec call) count-used (x .accepted))
+      refuses z x = z (planned .number ∙ ap numberOf (sym comes-to) ∙ passes (performed format rec page call) count-used (x .accepted))
 
       -- refused by 14, and not
       pub too-full : hasPlace (p .reply) count-used ≡ false → Change → ⊥
       unfolding when numberOf
       too-full t x = omega (arith, rw (by-14, t) at (x .accepted))
 
-      is-made : hasPlace (p .reply) count-used ≡ true → callOutcome rec count-used call ≡ hears
+      is-made : hasPlace (p .reply) count-used ≡ true → outcomeAt (lent rec page) count-used call ≡ hears
       unfolding when
       is-made t = by-14 ∙ rw t comes-to
 

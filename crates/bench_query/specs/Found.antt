@@ -9,9 +9,11 @@ use Rattle.octets.specs.Test.{Question, first, Outcome, numberOf}
 use Rattle.protocol.specs.Table.{Step}
 use Rattle.call_spec.specs.Calls.{rooms, recordAfter}
 use Rattle.link.specs.Record.{format}
-use Rattle.bench_spec.specs.Bench.{Bench, recordAt, bufferQuestions, soundQuestions, delivery, comes, endOf}
+use Rattle.bench_spec.specs.Bench.{Bench, lentAt, neither, bufferQuestions, soundQuestions, delivery, comes, endOf}
 use Rattle.bench_query.specs.declared.Found.{Found}
 use Rattle.bench_query.specs.declared.Found.the-variants.{Frame, Nothing, Refused}
+-- a record and its page, for those who only ask the question
+pub use Rattle.call_spec.specs.Claim.{lent}
 
 -- A call with this outcome is accepted and changes the record.
 pub record Changes (rec : List ℕ) (o : Outcome Step) : Type 0 where
@@ -20,11 +22,11 @@ pub record Changes (rec : List ℕ) (o : Outcome Step) : Type 0 where
 
 -- The delivery of frame n now is such a call. One that 14 refuses is not, since then nothing would be delivered.
 abbrev pub WouldChange : Bench → ℕ → Type 0
-WouldChange w n = Changes (recordAt (endOf (delivery w n (rooms longestFrame longestBlock))) w) (comes w (delivery w n (rooms longestFrame longestBlock)))
+WouldChange w n = Changes (lentAt (endOf (delivery w n (rooms longestFrame longestBlock))) w .rec) (comes w (delivery w n (rooms longestFrame longestBlock)))
 
--- 11 and 12, as for a line; no buffer for a frame or for a block is lent.
+-- 11, 12 and 15, as for a line that restarts no end; no buffer for a frame or for a block is lent.
 abbrev pub questions : Bench → List Question
-questions w = bufferQuestions w (soundQuestions w [])
+questions w = bufferQuestions w (soundQuestions neither w [])
 
 -- Which of the frames that matter is named is left open.
 abbrev pub Answers : Bench → Found → Type 0

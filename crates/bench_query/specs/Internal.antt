@@ -1,9 +1,17 @@
 -- Parts of the question, for the code. No public call's contract needs this.
+use mathlib.Core.Path.{_≡_}
 use mathlib.Core.Bool.{Bool, true, false, _&&_}
 use lib.Dec.{eqb}
+use Rattle.octets.specs.Test.{first}
 use Rattle.step_plan.specs.declared.Places.{Places}
 use Rattle.step_plan.specs.declared.Places.the-variants.{Keep, Join, Release}
 use Rattle.step_rules.specs.declared.Numbers.{Numbers}
+use Rattle.bench_spec.specs.Bench.{Bench}
+use Rattle.bench_query.specs.Found.{questions}
+
+-- 11, 12 and 15 are passed
+abbrev pub Ready : Bench → Type 0
+Ready w = first (questions w) ≡ 0
 
 -- a test that tells whether P holds
 abbrev pub Says : Bool → Type 0 → Type 0

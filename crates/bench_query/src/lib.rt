@@ -4,17 +4,19 @@ use step_plan::Places;
 use step_rules::Numbers;
 ghost use mathlib.Core.Path.{_≡_};
 ghost use mathlib.Core.Bool.{true};
-ghost use Prim.Native.Nat.{_≤_};
+ghost use mathlib.Core.List.{List};
+ghost use Prim.Native.Nat.{ℕ, _≤_};
 ghost use lib.ListN.{length};
-ghost use Rattle.octets.specs.Test.{first};
 ghost use Rattle.endpoint.specs.Record.{recordSize};
-ghost use Rattle.octets.specs.Sizes.{longestFrame, longestBlock};
+ghost use Rattle.octets.specs.Sizes.{longestFrame, longestBlock, pageSize};
 ghost use Rattle.call_spec.specs.declared.Call.the-variants.{Receive};
 ghost use Rattle.call_spec.specs.Calls.{given, rooms};
-ghost use Rattle.link.specs.Record.{format};
-ghost use Rattle.bench_spec.specs.Bench.{benchOf, callOutcome};
-ghost use Rattle.bench_query.specs.Found.{Changes, WouldChange, questions, Answers};
-ghost use Rattle.bench_query.specs.Internal.{sameNumbers, staying, Says};
+ghost use Rattle.call_spec.specs.Claim.{lent};
+ghost use Rattle.link.specs.Record.{format, pagedFor};
+ghost use Rattle.bench_spec.specs.Bench.{benchOf};
+ghost use Rattle.bench_call.specs.Internal.{outcomeAt};
+ghost use Rattle.bench_query.specs.Found.{Changes, WouldChange, Answers};
+ghost use Rattle.bench_query.specs.Internal.{sameNumbers, staying, Ready, Says};
 
 // What the question answers: a frame's number, none, or the number of a refusal.
 pub enum Found {
@@ -46,10 +48,11 @@ fn stays(held: Places) -> bool
 }
 
 // Whether receiving s would be accepted, by 14 too, and change the record. The plan for it tells: the waiting blocks change only
-// with their count, and the held ones where the plan says so, so that only the numbers are compared, and nothing is copied.
+// with their count, and the held ones where the plan says so, so that only the numbers are compared, and nothing is copied. It is the same
+// for every page that goes with the record.
 fn changes(rec: &[u8], s: &[u8], count: usize) -> bool
     requires { ⌜ (recordSize ≤ length (now rec)) × (format .sound (now rec) ≡ true) ⌝ }
-    ensures { λ r. ⌜ Says r (Changes (now (rec .entry)) (callOutcome (now (rec .entry)) count (given Receive (now (s .entry)) (rooms longestFrame longestBlock)))) ⌝ }
+    ensures { λ r. ⌜ ((page : List ℕ) → pageSize ≤ length page → pagedFor (now (rec .entry)) page ≡ true → Says r (Changes (now (rec .entry)) (outcomeAt (lent (now (rec .entry)) page) count (given Receive (now (s .entry)) (rooms longestFrame longestBlock))))) ⌝ }
 {
     let n = endpoint::load_numbers(rec);
     let p = link::plan_sound(Call::Receive, rec, s);
@@ -65,10 +68,10 @@ fn changes(rec: &[u8], s: &[u8], count: usize) -> bool
     !(same(m, n) & stays(held))
 }
 
-// Whether the delivery of frame n would. It goes to the end that did not send it.
+// Whether the delivery of frame n would, with any pages by which 15 is passed. It goes to the end that did not send it.
 fn would_change(a: &[u8], b: &[u8], log: &[u8], count: usize, n: usize) -> bool
-    requires { ⌜ first (questions (benchOf (now a) (now b) (now log) count)) ≡ 0 ⌝ }
-    ensures { λ r. ⌜ Says r (WouldChange (benchOf (now (a .entry)) (now (b .entry)) (now (log .entry)) count) n) ⌝ }
+    requires { ⌜ ((pa : List ℕ) × ((pb : List ℕ) × Ready (benchOf (lent (now a) pa) (lent (now b) pb) (now log) count))) ⌝ }
+    ensures { λ r. ⌜ ((pa pb : List ℕ) → Ready (benchOf (lent (now (a .entry)) pa) (lent (now (b .entry)) pb) (now (log .entry)) count) → Says r (WouldChange (benchOf (lent (now (a .entry)) pa) (lent (now (b .entry)) pb) (now (log .entry)) count) n)) ⌝ }
 {
     if !bench_log::holds(log, count, n) {
         return false;
@@ -80,13 +83,23 @@ fn would_change(a: &[u8], b: &[u8], log: &[u8], count: usize, n: usize) -> bool
     changes(a, s, count)
 }
 
-// Asks 11 and 12 of the records, the log and the count, then frame by frame.
-pub fn some_frame(a: &[u8], b: &[u8], log: &[u8], count: usize) -> Found
-    ensures { λ r. ⌜ Answers (benchOf (now (a .entry)) (now (b .entry)) (now (log .entry)) count) r ⌝ }
+// Asks 11, 12 and 15 of the records, the pages, the log and the count, then frame by frame.
+pub fn some_frame(
+    a: &[u8],
+    b: &[u8],
+    a_page: &[u8],
+    b_page: &[u8],
+    log: &[u8],
+    count: usize,
+) -> Found
+    ensures { λ r. ⌜ Answers (benchOf (lent (now (a .entry)) (now («a_page» .entry))) (lent (now (b .entry)) (now («b_page» .entry))) (now (log .entry)) count) r ⌝ }
 {
     let refusal = bench_checks::ready(
+        bench_checks::NEITHER,
         a,
         b,
+        a_page,
+        b_page,
         log,
         count,
         octets::LONGEST_FRAME,

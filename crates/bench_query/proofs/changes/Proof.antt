@@ -9,14 +9,14 @@ use Rattle.bench_query.proofs.changes.Statement.{statement}
 use Rattle.bench_query.proofs.changes.Tie as tie
 
 returns : tie.Need-returns
-returns c =
+returns c = λ page l g.
     let s = c .before .before .before .before .before .before in
-    refuses (now (s .args .rec)) (s .pre .0) (s .pre .1) (now (s .args .s)) (s .args .count) (c .before .before .plan-sound .ensures) (c .if1 .taken)
+    refuses (now (s .args .rec)) (s .pre .0) (s .pre .1) page l g (now (s .args .s)) (s .args .count) (c .before .before .plan-sound .ensures) (c .if1 .taken)
 
 returns-2 : tie.Need-returns-2
-returns-2 c =
+returns-2 c = λ page l g.
     let s = c .before .before .before .before .before .before .before .before in
-    too-full (now (s .args .rec)) (s .pre .0) (s .pre .1) (now (s .args .s)) (s .args .count) (c .before .before .before .before .plan-sound .ensures)
+    too-full (now (s .args .rec)) (s .pre .0) (s .pre .1) page l g (now (s .args .s)) (s .args .count) (c .before .before .before .before .plan-sound .ensures)
     (sym (c .before .has-place .ensures) ∙ not-true (c .before .has-place .result) (c .if2 .taken))
 
 -- what is lent is octets
@@ -29,10 +29,10 @@ unfolding Octets
 octets-s c i = omega (arith, c .shared-slice-known2 .given i)
 
 returns-3 : tie.Need-returns-3
-returns-3 c =
+returns-3 c = λ page l g.
     let s = c .before .before .before .before .before .before .before .before .before .before .before in
     rw (c .before .same .ensures, c .stays .ensures)
-    (tells (now (s .args .rec)) (s .pre .0) (s .pre .1) (now (s .args .s)) (s .args .count) (c .before .before .before .before .before .before .before .plan-sound .ensures) (c .before .before .before .before .before .before .before .before .load-numbers .ensures)
+    (tells (now (s .args .rec)) (s .pre .0) (s .pre .1) page l g (now (s .args .s)) (s .args .count) (c .before .before .before .before .before .before .before .plan-sound .ensures) (c .before .before .before .before .before .before .before .before .load-numbers .ensures)
     (octets-rec (c .before .before .before .before .before .before .before .before .before .before)) (octets-s (c .before .before .before .before .before .before .before .before .before)) (c .before .before .before .before .before .if1 .left) (sym (c .before .before .before .before .has-place .ensures) ∙ not-false (c .before .before .before .before .has-place .result) (c .before .before .before .if2 .left)))
 
 pub changes-spec : {M : Type 1} → statement M

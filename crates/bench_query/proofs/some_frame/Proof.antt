@@ -6,28 +6,30 @@ use borrow.Author.Count.{below-more, below-none}
 use borrow.Author.Needs.{needs}
 use Rattle.bench_log.specs.Log.{places}
 use Rattle.octets.specs.Test.{when, first}
+use Rattle.call_spec.specs.Claim.{lent}
 use Rattle.bench_spec.specs.Bench.{Bench, benchOf}
 use Rattle.bench_query.specs.Found.{WouldChange, questions}
+use Rattle.bench_query.specs.Internal.{Says}
 use Rattle.bench_query.proofs.Delivery.{ready, past}
 use Rattle.bench_query.proofs.some_frame.Statement.{statement}
 use Rattle.bench_query.proofs.some_frame.Tie as tie
 
 -- no frame before i would_change
 abbrev Inv-loop : tie.InvT-loop
-Inv-loop a b log count refusal i₀ i = (count ≤ places) × ((i ≤ places) × ((k : ℕ) → k < i → WouldChange (benchOf a b log count) k → ⊥))
+Inv-loop a b pa pb log count refusal i₀ i = (count ≤ places) × ((i ≤ places) × ((k : ℕ) → k < i → WouldChange (benchOf (lent a pa) (lent b pb) log count) k → ⊥))
 
 abbrev μ-loop : tie.MeasureT-loop
-μ-loop a b log count refusal i₀ i = places - i
+μ-loop a b pa pb log count refusal i₀ i = places - i
 
 abbrev bench : tie.Start Inv-loop μ-loop → Bench
-bench c = benchOf (now (c .args .a)) (now (c .args .b)) (now (c .args .log)) (c .args .count)
+bench c = benchOf (lent (now (c .args .a)) (now (c .args .a-page))) (lent (now (c .args .b)) (now (c .args .b-page))) (now (c .args .log)) (c .args .count)
 
--- all is asked of the records, the log and the count
-asks : (c : tie.After-ready Inv-loop μ-loop) → c .ready .result ≡ first (questions (bench (c .before .before .before .before)))
+-- all is asked of the records, the pages, the log and the count
+asks : (c : tie.After-ready Inv-loop μ-loop) → c .ready .result ≡ first (questions (bench (c .before .before .before .before .before .before)))
 unfolding first when
 asks c = c .ready .ensures
 
-passed : (c : tie.Else1 Inv-loop μ-loop) → first (questions (bench (c .before .before .before .before .before))) ≡ 0
+passed : (c : tie.Else1 Inv-loop μ-loop) → first (questions (bench (c .before .before .before .before .before .before .before))) ≡ 0
 passed c = sym (asks (c .before)) ∙ c .if1 .left
 
 ready-requires : tie.Need-ready-requires Inv-loop μ-loop
@@ -37,10 +39,14 @@ returns : tie.Need-returns Inv-loop μ-loop
 returns c = (sym (asks (c .before)), c .if1 .taken)
 
 loop-holds : tie.Need-loop-holds Inv-loop μ-loop
-loop-holds c = let f = ready (bench (c .before .before .before .before .before)) (passed c) .few in (f, (omega arith, below-none _))
+loop-holds c = let f = ready (bench (c .before .before .before .before .before .before .before)) (passed c) .few in (f, (omega arith, below-none _))
 
 would-change-requires : tie.Need-would-change-requires Inv-loop μ-loop
-would-change-requires c κs = passed (c .before .before)
+would-change-requires c κs = let s = c .before .before .before .before .before .before .before .before .before in (now (s .args .a-page), (now (s .args .b-page), passed (c .before .before)))
+
+-- what it tells of frame i, with these pages
+tells : (c : tie.After-would-change Inv-loop μ-loop) → Says (c .would-change .result) (WouldChange (bench (c .before .before .before .before .before .before .before .before .before .before)) (c .before .before .loop .i))
+tells c = let s = c .before .before .before .before .before .before .before .before .before .before in c .would-change .ensures (now (s .args .a-page)) (now (s .args .b-page)) (passed (c .before .before .before))
 
 add-i : tie.Need-add-i Inv-loop μ-loop
 add-i c = search needs
@@ -51,15 +57,15 @@ loop-less c = search needs
 loop-again : tie.Need-loop-again Inv-loop μ-loop
 loop-again c =
     let l = c .before .before .before .loop .inv in
-    (l .0, (search needs, below-more _ _ (l .1 .1) (rw (c .if3 .left) at (c .before .would-change .ensures))))
+    (l .0, (search needs, below-more _ _ (l .1 .1) (rw (c .if3 .left) at (tells (c .before)))))
 
 returns-2 : tie.Need-returns-2 Inv-loop μ-loop
 returns-2 c =
-    (passed (c .before .before), past (bench (c .before .before .before .before .before .before .before)) (λ k l. c .before .loop .inv .1 .1 k (omega (arith, c .if2 .taken))))
+    (passed (c .before .before), past (bench (c .before .before .before .before .before .before .before .before .before)) (λ k l. c .before .loop .inv .1 .1 k (omega (arith, c .if2 .taken))))
 
 returns-3 : tie.Need-returns-3 Inv-loop μ-loop
 returns-3 c =
-    (passed (c .before .before .before .before), (omega (arith, c .before .before .if2 .left), rw (c .if3 .taken) at (c .before .would-change .ensures)))
+    (passed (c .before .before .before .before), (omega (arith, c .before .before .if2 .left), rw (c .if3 .taken) at (tells (c .before))))
 
 pub some-frame-spec : {M : Type 1} → statement M
 some-frame-spec =
