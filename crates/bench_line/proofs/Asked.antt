@@ -1,6 +1,6 @@
--- What a line asks before its order: 11 and 12, then 1 and 2.
-use Prim.Native.Nat.{ℕ, suc, _*_, _/_, _%_, _≤_}
-use mathlib.Core.Path.{_≡_, ap, _∙_}
+-- What a line asks before its order: 11, 12 and 15, then 1 and 2.
+use Prim.Native.Nat.{ℕ, zero, suc, _*_, _/_, _%_, _≤_}
+use mathlib.Core.Path.{_≡_, refl, sym, ap, _∙_}
 use mathlib.Core.Logic.{_≢_}
 use mathlib.Core.List.{List, []}
 use native.Mathlib.Omega.{arith}
@@ -8,44 +8,58 @@ use lib.ListN.{length}
 use borrow.Author.Tests.{eqb-true}
 use Rattle.octets.specs.Sizes.{longestFrame}
 use Rattle.octets.specs.Test.{first, Outcome, refused, refusing}
-use Rattle.octets.proofs.Test.{both, within, all-yes, all-before, refuses-before}
+use Rattle.octets.proofs.Test.{by-eq, both, within, all-yes, all-before, refuses-before, eq-yes, eq-no}
 use Rattle.hex.specs.Line.{unhex, lengthOk, lineQuestions}
 use Rattle.hex.proofs.Asked as reading
 use Rattle.hex.proofs.Digits.{length-unhex}
 use Rattle.call_spec.specs.Calls.{Rooms}
-use Rattle.bench_spec.specs.Bench.{Bench, benchOf, At, octetsAsk, lineAsks}
+use Rattle.bench_spec.specs.Bench.{Bench, At, neither, bufferQuestions, roomQuestions, soundQuestions, octetsAsk, restartedBy, restartedEnd, lineAsks}
 use Rattle.bench_checks.specs.Ready.{readyQuestions}
+use Rattle.bench_line.specs.Internal.{readAsks}
 
-module _ (a b log : List ℕ) (count : ℕ) (line : List ℕ) (room : Rooms) where
-  abbrev v : Bench
-  v = benchOf a b log count
+-- what is refused by a number is refused by it, whatever follows
+pub turned : {A : Type 0} {n : ℕ} (o : Outcome A) → n ≢ 0 → refusing n o ≡ refused n
+unfolding refusing
+turned {n = zero} o h = absurd (h refl)
+turned {n = suc n} o h = refl
 
+pub passes-on : {A : Type 0} {n : ℕ} (o : Outcome A) → n ≡ 0 → refusing n o ≡ o
+unfolding refusing
+passes-on o h = rw h refl
+
+module _ (w : Bench) (line : List ℕ) (room : Rooms) where
   abbrev order : Outcome At
-  order = octetsAsk v (unhex line) room
+  order = octetsAsk w (unhex line) room
 
-  -- 11 and 12 come first
-  pub unready : {n : ℕ} → n ≡ first (readyQuestions v room) → n ≢ 0 → lineAsks v line room ≡ refused n
-  unfolding lineAsks
-  unready e h = refuses-before order (readyQuestions v room) (lineQuestions line) e h
+  -- 11, 12 and 15 come first, where the end k is restarted; then 1 and 2
+  then-line : (k : ℕ) → refusing (first (bufferQuestions w (roomQuestions room (soundQuestions k w (lineQuestions line))))) order
+      ≡ refusing (first (readyQuestions k w room)) (refusing (first (lineQuestions line)) order)
+  then-line k =
+      by-eq (first (readyQuestions k w room)) 0
+      (λ y.
+      ap (λ (m : ℕ). refusing m order) (all-before (readyQuestions k w room) (lineQuestions line) (tt, (tt, (tt, (tt, (tt, (tt, (tt, (tt, (tt, (tt, (tt, (tt, tt)))))))))))) y)
+      ∙ sym (passes-on (refusing (first (lineQuestions line)) order) y))
+      (λ n. refuses-before order (readyQuestions k w room) (lineQuestions line) refl n ∙ sym (turned (refusing (first (lineQuestions line)) order) n))
 
-  module _ (y : first (readyQuestions v room) ≡ 0) where
-    next : lineAsks v line room ≡ refusing (first (lineQuestions line)) order
-    unfolding lineAsks
-    next = ap (λ (m : ℕ). refusing m order) (all-before (readyQuestions v room) (lineQuestions line) (tt, (tt, (tt, (tt, (tt, (tt, (tt, (tt, tt)))))))) y)
+  -- a line that 1 and 2 pass asks what its octets ask
+  pub passes : first (lineQuestions line) ≡ 0 → lineAsks w line room ≡ readAsks w (unhex line) room
+  unfolding lineAsks restartedEnd readAsks
+  passes h =
+      then-line (restartedEnd line)
+      ∙ ap (λ (o : Outcome At). refusing (first (readyQuestions (restartedEnd line) w room)) o) (passes-on order h)
+      ∙ ap (λ (k : ℕ). refusing (first (readyQuestions k w room)) order) (eq-yes _ _ _ _ h)
 
-    -- then 1 and 2 of the line
-    pub passes : first (lineQuestions line) ≡ 0 → lineAsks v line room ≡ order
-    unfolding refusing
-    passes h = next ∙ ap (λ (m : ℕ). refusing m order) h
-
-    pub turned-away : (k : ℕ) → first (lineQuestions line) ≡ suc k → lineAsks v line room ≡ refused (suc k)
-    unfolding refusing
-    turned-away k h = next ∙ ap (λ (m : ℕ). refusing m order) h
+  -- one that they refuse restarts neither end
+  pub turned-away : (k : ℕ) → first (lineQuestions line) ≡ suc k → lineAsks w line room ≡ refusing (first (readyQuestions neither w room)) (refused (suc k))
+  unfolding lineAsks restartedEnd refusing
+  turned-away k h =
+      then-line (restartedEnd line)
+      ∙ ap (λ (m : ℕ). refusing (first (readyQuestions (restartedEnd line) w room)) (refusing m order)) h
+      ∙ ap (λ (m : ℕ). refusing (first (readyQuestions m w room)) (refused (suc k))) (eq-no _ _ _ _ (λ z. omega (arith, h, z)))
 
 -- an empty line keeps 1: it asks how an end stands where there is one end (document 02, N5)
-none-refused : (a b log : List ℕ) (count : ℕ) (room : Rooms) → first (readyQuestions (benchOf a b log count) room) ≡ 0
-    → lineAsks (benchOf a b log count) [] room ≡ refused 1
-none-refused a b log count room y = turned-away a b log count [] room y 0 reading.none-refused
+none-refused : (w : Bench) (room : Rooms) → first (readyQuestions neither w room) ≡ 0 → lineAsks w [] room ≡ refused 1
+none-refused w room y = turned-away w [] room 0 reading.none-refused ∙ passes-on (refused 1) y
 
 -- a line has at least one octet
 pub some-octet : (line : List ℕ) → first (lineQuestions line) ≡ 0 → 1 ≤ length (unhex line)
