@@ -207,7 +207,7 @@ module _ (format : Format) (law : Lawful format) where
     fair (restart rec) d q e = let z : protocol.restart ≡ q = cc in subst (Sized b) z (refl, tt)
     fair (cut c rec) d q e = let z : cutSays (said c) (performed format (r .rec) (r .page) c) ≡ q = cc in subst (Sized b) z (cut-fair b _ _)
 
-    comes : (c : Act) → Asks (ends format) r c (now a)
+    pub comes : (c : Act) → Asks (ends format) r c (now a)
     unfolding andThen protocol.does
     comes (call c) = asks a b i r k c
     comes (restart rec) = restart-in (now a) (k .1) (held .last) rec

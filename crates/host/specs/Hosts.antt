@@ -1,21 +1,69 @@
--- Hosts that hold their ends' records as structs, and call them with octets: a call leaves the record of its answer.
+-- Hosts that hold their ends' records as structs, each with its page, and call them with octets: a call, or a restart, leaves the record of its answer.
+use Prim.Native.Nat.{ℕ}
 use mathlib.Core.Path.{_≡_}
+use mathlib.Core.List.{List, _++_}
+use Rattle.octets.specs.Test.{Outcome, refused, ok, mapped}
+use Rattle.page.specs.Page.{newPage}
 use Rattle.protocol.specs.Endpoint.{fresh}
+use Rattle.protocol.specs.Table.{Step}
+use Rattle.protocol.specs.History.{History}
+use Rattle.protocol.specs.History as protocol
 use Rattle.protocol.specs.World.{Ends}
-use Rattle.call_spec.specs.Calls.{Arguments, said}
-use Rattle.call_spec.specs.Claim.{Due}
+use Rattle.call_spec.specs.Calls.{Arguments, said, restarting, pageAfter}
+use Rattle.call_spec.specs.Claim.{DueOctets, cutSays}
 use Rattle.endpoint.specs.declared.Endpoint.{Endpoint}
 use Rattle.endpoint.specs.View.{pack}
 use Rattle.endpoint_step.specs.Calls.{outcomeOf, stepAnswerOf}
 
+-- what a host holds of an end
+pub record Held : Type 0 where
+  pub endpoint : Endpoint
+  pub page : List ℕ
+
+abbrev pub paged : Endpoint → List ℕ → Held
+paged e page = record { endpoint = e; page = page }
+
+-- What stands in a list at an end: a call; a restart, which is lent no record; or a call that is cut after its store, and the restart after it.
+pub data Act : Type 0 where
+  call : Arguments → Act
+  restart : Act
+  cut : Arguments → Act
+
+-- A host restarts its ends whenever it likes.
+abbrev pub Due : History → Act → Type 0
+Due other (call c) = DueOctets other (c .call) (c .octets)
+Due other restart = Unit {0}
+Due other (cut c) = Unit {0}
+
+abbrev comesTo : Held → Arguments → Outcome Step
+comesTo r c = outcomeOf (r .endpoint) (r .page) c
+
+abbrev pub saidBy : Held → Act → Outcome protocol.Act
+saidBy r (call c) = mapped protocol.call (said c)
+saidBy r restart = ok protocol.restart
+saidBy r (cut c) = ok (cutSays (said c) (comesTo r c))
+
+abbrev pub comesBy : Held → Act → Outcome Step
+comesBy r (call c) = comesTo r c
+comesBy r restart = restarting (r .page)
+comesBy r (cut c) = restarting (pageAfter (r .page) (comesTo r c))
+
+-- The page after it: a restart stores nothing, and one that follows a cut finds the page as the call has left it. (Were it refused, all would be as
+-- before the call.)
+unfoldable pub pageLeft : Held → Act → Outcome Step → List ℕ
+pageLeft r (call c) o = pageAfter (r .page) o
+pageLeft r restart o = r .page
+pageLeft r (cut c) (refused n) = r .page
+pageLeft r (cut c) (ok x) = pageAfter (r .page) (comesTo r c)
+
 abbrev pub ends : Ends
 ends =
     record {
-      Record = Endpoint;
-      Fresh = λ e. e ≡ pack fresh;
-      Call = Arguments;
-      said = λ e. said;
-      comes = outcomeOf;
-      leaves = λ e c o. stepAnswerOf e o .endpoint;
+      Record = Held;
+      Fresh = λ r. (r .endpoint ≡ pack fresh) × ((more : List ℕ) × (r .page ≡ newPage ++ more));
+      Call = Act;
+      said = saidBy;
+      comes = comesBy;
+      leaves = λ r c o. paged (stepAnswerOf (r .endpoint) o .endpoint) (pageLeft r c o);
       Due = λ this. Due;
     }

@@ -28,12 +28,12 @@ unfolding stepAnswerOf blockOf
 block-is e (refused n) = refl
 block-is e (ok x) = refl
 
-module _ (e : Endpoint) (c : Arguments) {out up out′ up′ : List ℕ} {r : StepAnswer} (a : Advances e c out up out′ up′ r) where
+module _ (e : Endpoint) (c : Arguments) {page out up page′ out′ up′ : List ℕ} {r : StepAnswer} (a : Advances e page c out up page′ out′ up′ r) where
   pub frame-fits : length out′ ≡ length out → r .sent ≤ length out
-  frame-fits l = rw (a .answer) (sent-fits e (outcomeOf e c) out (a .octets) l)
+  frame-fits l = rw (a .answer) (sent-fits e (outcomeOf e page c) out (a .octets) l)
 
   pub block-there : length (blockPart (c .call) (c .octets) up′ (r .block)) ≡ r .block
-  block-there = ap (λ (b : List ℕ). length b) (a .block) ∙ block-is e (outcomeOf e c) ∙ sym (ap (λ (r : StepAnswer). r .block) (a .answer))
+  block-there = ap (λ (b : List ℕ). length b) (a .block) ∙ block-is e (outcomeOf e page c) ∙ sym (ap (λ (r : StepAnswer). r .block) (a .answer))
 
 pub block-short : (c : Call) (s up : List ℕ) (n : ℕ) → length s ≤ longestFrame → length up ≤ longestBlock → length (blockPart c s up n) ≤ longestBlock
 unfolding blockPart
