@@ -1,22 +1,24 @@
 -- From what a bench line answers to its text.
 use Prim.Native.Nat.{ℕ, _+_, _-_, _*_, _≤_, _<_}
-use mathlib.Core.Path.{_≡_, refl, sym, ap, _∙_}
+use mathlib.Core.Path.{_≡_, refl, sym, subst, ap, _∙_}
 use mathlib.Core.Bool.{Bool, true, false}
 use mathlib.Core.List.{List, [], _∷_, _++_}
 use native.Mathlib.Omega.{arith}
 use borrow.Author.Tests.{le-leb, lt-leb}
+use lib.Dec.{ltb, eqb}
 use lib.ListN.{length, take, drop, replicate, length-take}
 use Rattle.frame.specs.Frame.{Block}
 use Rattle.protocol.specs.Table.{Step}
 use Rattle.octets.specs.Sizes.{longestFrame, longestBlock}
-use Rattle.octets.specs.Test.{when, first, Outcome, refused, ok, outcome, mapped, andThen}
+use Rattle.octets.specs.Test.{when, inRange, first, Outcome, refused, ok, outcome, mapped, andThen}
 use Rattle.octets.specs.Octets.{field, left}
-use Rattle.octets.proofs.Test.{if-eq}
+use Rattle.octets.proofs.Test.{if-eq, within}
 use Rattle.octets.proofs.Outcomes.{after-question}
 use Rattle.hex.specs.Line.{unhex}
 use Rattle.frame.specs.Read.{kindOf}
 use Rattle.call_spec.specs.declared.Call.the-variants.{Request, Receive}
-use Rattle.call_spec.specs.Calls.{Arguments, Rooms, rooms, given, performed}
+use Rattle.call_spec.specs.Calls.{Rooms, rooms, given, restartedIn}
+use Rattle.call_spec.specs.Claim.{Lent, Act, call, restart, comesBy}
 use Rattle.call_spec.specs.Answers.{blockOf}
 use Rattle.link.specs.Lent.{statusOf, sentOf}
 use Rattle.link.specs.Record.{format}
@@ -27,13 +29,23 @@ use Rattle.answer_text.specs.declared.Output.{Output}
 use Rattle.answer_text.specs.declared.Output.the-variants as output
 use Rattle.answer_text.specs.Text.{textOf, outputOf, Begins}
 use Rattle.answer_text.proofs.Outputs.{output-fits}
-use Rattle.bench_spec.specs.Bench.{Bench, benchOf, recordAt, At, delivery, octetsAsk, lineAsks, callOutcome, comes, endOf, requestOfA, requestOfB, deliver}
+use Rattle.bench_spec.specs.Bench.{Bench, benchOf, lentAt, At, delivery, octetsAsk, restartAsk, lineAsks, comes, endOf, endNamed, requestOfA, requestOfB, deliver, restartKind}
 use Rattle.bench_call.specs.declared.BenchAnswer.{BenchAnswer}
 use Rattle.bench_call.specs.Answer.{blockAt, benchAnswerOf}
 use Rattle.bench_call.proofs.Does.{with-14}
+use Rattle.bench_call.proofs.Restarts.{restart-step}
 use Rattle.bench_order.specs.Performed.{Performed}
 use Rattle.bench_answer.specs.Text.{lead, benchText, answerRoom, askedWith, benchIn, BenchAnswered}
 use Rattle.bench_answer.specs.Internal.{BenchGives}
+
+-- the block of an outcome has at most 64 octets
+abbrev Short : Outcome Step → Type 0
+Short o = length (blockOf o) ≤ longestBlock
+
+quiet-short : (rec page : List ℕ) (o : Outcome Step) → restartedIn format rec page ≡ o → Short o
+unfolding blockOf
+quiet-short rec page (refused n) h = omega arith
+quiet-short rec page (ok x) h = subst (λ (y : Step). Short (ok y)) (restart-step rec page h) (omega arith)
 
 -- what fits the text: an answer is about end 0 or 1, and a block has at most 64 octets
 module _ (w : Bench) where
@@ -45,20 +57,17 @@ module _ (w : Bench) where
   unfolding endOf comes andThen blockOf
   fine-refused n = record { end = omega arith; block = omega arith }
 
-  -- a call whose octets are at most those of the longest frame, or a request
-  fine-call : (i : ℕ) (c : Arguments) → i ≤ 1 → length (blockOf (callOutcome (recordAt i w) (w .count) c)) ≤ longestBlock → Fine (ok (i, c))
-  unfolding endOf comes andThen
-  fine-call i c h k = record { end = h; block = k }
+  -- an act whose block is short, with 14 too
+  fine-act : (i : ℕ) (c : Act) → i ≤ 1 → Short (comesBy format (lentAt i w) c) → Fine (ok (i, c))
+  unfolding endOf comes andThen blockOf
+  fine-act i c h k = record { end = h; block = with-14 Short (λ n. omega arith) (lentAt i w) (w .count) c k }
 
-  short-14 : (i : ℕ) (c : Arguments) → length (blockOf (performed format (recordAt i w) c)) ≤ longestBlock → length (blockOf (callOutcome (recordAt i w) (w .count) c)) ≤ longestBlock
-  unfolding blockOf
-  short-14 i c h = with-14 (λ (o : Outcome Step). length (blockOf o) ≤ longestBlock) (λ n. omega arith) (recordAt i w) (w .count) c h
+  fine-request : (i : ℕ) (s : List ℕ) (room : Rooms) → i ≤ 1 → Fine (ok (i, call (given Request s room)))
+  fine-request i s room h = fine-act i (call (given Request s room)) h (collected-short (lentAt i w .rec) (lentAt i w .page) s room)
 
-  fine-request : (i : ℕ) (s : List ℕ) (room : Rooms) → i ≤ 1 → Fine (ok (i, given Request s room))
-  fine-request i s room h = fine-call i (given Request s room) h (short-14 i (given Request s room) (collected-short (recordAt i w) s room))
-
-  received : (i : ℕ) (s : List ℕ) (room : Rooms) → length s ≤ longestFrame → length (blockOf (callOutcome (recordAt i w) (w .count) (given Receive s room))) ≤ longestBlock
-  received i s room h = short-14 i (given Receive s room) (received-short (recordAt i w) s room h)
+  -- a restart hands no block up
+  fine-restart : (i : ℕ) (rec : List ℕ) → i ≤ 1 → Fine (ok (i, restart rec))
+  fine-restart i rec h = fine-act i (restart rec) h (quiet-short rec (lentAt i w .page) (restartedIn format rec (lentAt i w .page)) refl)
 
   frame-short : (n : ℕ) → lengthAt n (w .log) ≤ longestFrame → length (frameLogged n (w .log)) ≤ longestFrame
   unfolding frameLogged
@@ -69,18 +78,34 @@ module _ (w : Bench) where
   fine-outcome true x h = h refl
   fine-outcome false x h = fine-refused 13
 
+  fine-named : (b c d : Bool) (x : At) → (c ≡ true → Fine (ok x)) → Fine (outcome (first ((4, b) ∷ (3, c) ∷ (4, d) ∷ [])) x)
+  unfolding first when outcome
+  fine-named false c d x h = fine-refused 4
+  fine-named true false d x h = fine-refused 3
+  fine-named true true false x h = fine-refused 4
+  fine-named true true true x h = h refl
+
   fine-delivery : (n : ℕ) (room : Rooms) → Fine (delivery w n room)
   unfolding delivery
   fine-delivery n room =
       fine-outcome (holds (w .count) n (w .log)) _ (λ z.
-      fine-call (1 - senderAt n (w .log)) _ (omega arith) (received (1 - senderAt n (w .log)) (frameLogged n (w .log)) room (frame-short n (held (w .count) n (w .log) z .short))))
+      let i = 1 - senderAt n (w .log) in
+      fine-act i (call (given Receive (frameLogged n (w .log)) room)) (omega arith)
+      (received-short (lentAt i w .rec) (lentAt i w .page) (frameLogged n (w .log)) room (frame-short n (held (w .count) n (w .log) z .short))))
+
+  fine-restarting : (s : List ℕ) → Fine (restartAsk w s)
+  unfolding restartAsk
+  fine-restarting s =
+      fine-named (ltb 1 (length s)) (inRange requestOfA requestOfB (endNamed s)) (eqb (length s) 2) _ (λ z.
+      fine-restart (endNamed s - requestOfA) (lentAt (endNamed s - requestOfA) w .rec) (omega (arith, within requestOfA requestOfB (endNamed s) z)))
 
   fine-octets : (s : List ℕ) (room : Rooms) → Fine (octetsAsk w s room)
   unfolding octetsAsk
   fine-octets s room =
       if-eq Fine (kindOf s) requestOfA (λ _. fine-request 0 (drop 1 s) room (omega arith)) (λ _.
       if-eq Fine (kindOf s) requestOfB (λ _. fine-request 1 (drop 1 s) room (omega arith)) (λ _.
-      if-eq Fine (kindOf s) deliver (λ _. after-question Fine fine-refused _ _ (fine-delivery (field 2 1 s) room)) (λ _. fine-refused 3)))
+      if-eq Fine (kindOf s) deliver (λ _. after-question Fine fine-refused _ _ (fine-delivery (field 2 1 s) room)) (λ _.
+      if-eq Fine (kindOf s) restartKind (λ _. fine-restarting s) (λ _. fine-refused 3))))
 
   pub fine : (line : List ℕ) (room : Rooms) → Fine (lineAsks w line room)
   unfolding lineAsks
@@ -94,7 +119,7 @@ abbrev blocks : List ℕ
 blocks = replicate longestBlock 0
 
 -- what a line's answer says of its text
-module _ {w : Bench} {q : Outcome At} {start : ℕ} {a b log frame up : List ℕ} {r : BenchAnswer} (p : Performed w q start frames blocks a b log frame up r) where
+module _ {w : Bench} {q : Outcome At} {start : ℕ} {a b : Lent} {log frame up : List ℕ} {r : BenchAnswer} (p : Performed w q start frames blocks a b log frame up r) where
   end-is : r .end ≡ endOf q
   unfolding benchAnswerOf
   end-is = ap (λ (x : BenchAnswer). x .end) (p .answer)
@@ -117,7 +142,7 @@ module _ {w : Bench} {q : Outcome At} {start : ℕ} {a b log frame up : List ℕ
       let s = sent-fits frames (comes w q) (p .buffer) l sent-is in
       (omega (arith, end-is, f .end), (omega (arith, ap length e, block-there, block-is, f .block), (s, omega (arith, s, l))))
 
-  told-is : r .status ≡ statusOf (recordAt (endOf q) w) (comes w q)
+  told-is : r .status ≡ statusOf (lentAt (endOf q) w .rec) (comes w q)
   unfolding benchAnswerOf
   told-is = ap (λ (x : BenchAnswer). x .status) (p .answer)
 
@@ -128,7 +153,7 @@ module _ {w : Bench} {q : Outcome At} {start : ℕ} {a b log frame up : List ℕ
 
 -- the whole answer, without room for it and with
 module _ (w : Bench) (line out : List ℕ) where
-  gives-answer : (o : Outcome (Outcome At)) → askedWith w line out ≡ o → {a b log out′ : List ℕ} {count : ℕ} {r : Output} → r ≡ outputOf (mapped (benchText w) o)
+  gives-answer : (o : Outcome (Outcome At)) → askedWith w line out ≡ o → {a b : Lent} {log out′ : List ℕ} {count : ℕ} {r : Output} → r ≡ outputOf (mapped (benchText w) o)
       → out′ ≡ left (mapped (benchText w) o) out → benchOf a b log count ≡ benchIn w o → BenchAnswered w line out a b log count out′ r
   gives-answer o e x y z = record { answer = rw e x; buffer = rw e y; bench = rw e z }
 
@@ -136,13 +161,13 @@ module _ (w : Bench) (line out : List ℕ) where
   unfolding askedWith first when outcome mapped outputOf left benchIn
   no-room h = gives-answer (refused 11) (rw (lt-leb answerRoom (length out) h) refl) refl refl refl
 
-  pub with-text : answerRoom ≤ length out → {a b log out′ : List ℕ} {count r : ℕ} → BenchGives w (lineAsks w line (rooms longestFrame longestBlock)) out a b log count out′ r
+  pub with-text : answerRoom ≤ length out → {a b : Lent} {log out′ : List ℕ} {count r : ℕ} → BenchGives w (lineAsks w line (rooms longestFrame longestBlock)) out a b log count out′ r
       → BenchAnswered w line out a b log count out′ (output.Written r)
   unfolding askedWith first when outcome mapped outputOf left benchIn
   with-text h g =
       gives-answer (ok (lineAsks w line (rooms longestFrame longestBlock))) (rw (le-leb answerRoom (length out) h) refl) (ap output.Written (g .begins .count)) (g .begins .buffer) (g .bench)
 
 -- an answer has room in its buffer
-pub written-fits : {w : Bench} {line out a b log out′ : List ℕ} {count n : ℕ} → BenchAnswered w line out a b log count out′ (output.Written n) → length out′ ≡ length out
+pub written-fits : {w : Bench} {line out : List ℕ} {a b : Lent} {log out′ : List ℕ} {count n : ℕ} → BenchAnswered w line out a b log count out′ (output.Written n) → length out′ ≡ length out
     → n ≤ length out
 written-fits {out = out} x l = output-fits out _ (x .answer) (x .buffer) l

@@ -9,12 +9,13 @@ use Rattle.octets.specs.Test.{first, Outcome, refused, ok, outcome, mapped}
 use Rattle.octets.specs.Octets.{left}
 use Rattle.hex.specs.Line.{hex}
 use Rattle.call_spec.specs.Calls.{rooms, wire}
+use Rattle.call_spec.specs.Claim.{Lent}
 use Rattle.call_spec.specs.Answers.{sentIn, blockOf}
 use Rattle.link.specs.Lent.{statusOf}
 use Rattle.answer_text.specs.declared.Output.{Output}
 use Rattle.answer_text.specs.Text.{textOf, outputOf}
 use Rattle.answer_text.specs.Text as oneEnd
-use Rattle.bench_spec.specs.Bench.{Bench, benchOf, At, recordAt, lineAsks, comes, endOf, benchAfter, requestOfA}
+use Rattle.bench_spec.specs.Bench.{Bench, benchOf, At, lentAt, lineAsks, comes, endOf, benchAfter, requestOfA}
 
 -- 50 for A, 51 for B (hexadecimal)
 unfoldable pub lead : ℕ → List ℕ
@@ -22,7 +23,7 @@ lead i = hex ((requestOfA + i) ∷ [])
 
 -- The answer is about one end; its state and numbers are that end's.
 unfoldable pub benchText : Bench → Outcome At → List ℕ
-benchText w q = lead (endOf q) ++ textOf (statusOf (recordAt (endOf q) w) (comes w q)) (blockOf (comes w q)) (wire (sentIn (comes w q)))
+benchText w q = lead (endOf q) ++ textOf (statusOf (lentAt (endOf q) w .rec) (comes w q)) (blockOf (comes w q)) (wire (sentIn (comes w q)))
 
 -- two characters more than at one end
 abbrev pub answerRoom : ℕ
@@ -37,7 +38,7 @@ benchIn w (refused n) = w
 benchIn w (ok q) = benchAfter (endOf q) w (comes w q)
 
 -- What the answer to a line is, and every octet that it leaves.
-pub record BenchAnswered (w : Bench) (line out a b log : List ℕ) (count : ℕ) (out′ : List ℕ) (r : Output) : Type 0 where
+pub record BenchAnswered (w : Bench) (line out : List ℕ) (a b : Lent) (log : List ℕ) (count : ℕ) (out′ : List ℕ) (r : Output) : Type 0 where
   pub answer : r ≡ outputOf (mapped (benchText w) (askedWith w line out))
   pub buffer : out′ ≡ left (mapped (benchText w) (askedWith w line out)) out
   pub bench : benchOf a b log count ≡ benchIn w (askedWith w line out)

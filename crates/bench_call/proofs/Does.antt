@@ -14,7 +14,7 @@ use Rattle.frame.specs.Layout.{encode}
 use Rattle.protocol.specs.Table.{Step, Sent, nothing, frame}
 use Rattle.call_spec.specs.declared.Call.the-variants.{Request}
 use Rattle.call_spec.specs.Calls.{Arguments, wire, performed, pageAfter}
-use Rattle.call_spec.specs.Claim.{Lent, lent, call}
+use Rattle.call_spec.specs.Claim.{Lent, lent, Act, call, comesBy}
 use Rattle.call_spec.specs.Answers.{sentIn, blockOf, blockPart}
 use Rattle.endpoint.specs.Record.{recordSize}
 use Rattle.link.specs.declared.Answer.{Answer}
@@ -65,11 +65,10 @@ unfolding answerFrom answerOf benchAnswerOf blockPlace
 tells i rec count start o = rw (counts count o) refl
 
 -- what holds of the outcome of a call at an end, and of each refusal, holds of its outcome with 14
-pub with-14 : (P : Outcome Step → Type 0) → ((n : ℕ) → P (refused n)) → (l : Lent) (count : ℕ) (c : Arguments) → P (performed format (l .rec) (l .page) c)
-    → P (callOutcome l count (call c))
+pub with-14 : (P : Outcome Step → Type 0) → ((n : ℕ) → P (refused n)) → (l : Lent) (count : ℕ) (c : Act) → P (comesBy format l c) → P (callOutcome l count c)
 unfolding callOutcome logged
 with-14 P refusals l count c h =
-    after-value P refusals (performed format (l .rec) (l .page) c) (logged count) (λ x e. of-value P refusals _ x (subst P e h))
+    after-value P refusals (comesBy format l c) (logged count) (λ x e. of-value P refusals _ x (subst P e h))
 
 -- the block stands where the answer says
 abbrev pub Stands : ℕ → List ℕ → List ℕ → List ℕ → Type 0

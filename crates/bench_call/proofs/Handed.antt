@@ -33,7 +33,7 @@ pub call-from : (l : Lent) (count : ℕ) (s : List ℕ) (room : Rooms) → From 
 unfolding blockOf blockBy
 call-from l count s room =
     let h = sym (hands-it-up (l .rec) (l .page) s room) in
-    with-14 (λ (o : Outcome Step). From s (blockOf o)) (λ n. inl refl) l count (given Receive s room)
+    with-14 (λ (o : Outcome Step). From s (blockOf o)) (λ n. inl refl) l count (call (given Receive s room))
     (by-eq (noticeOf (performed format (l .rec) (l .page) (given Receive s room))) 5 (λ z. inr (h ∙ eq-yes _ _ _ _ z)) (λ z. inl (h ∙ eq-no _ _ _ _ z)))
 
 -- the frame received stays in its place, since what is sent goes to a later one

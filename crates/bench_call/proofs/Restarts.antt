@@ -26,7 +26,7 @@ use Rattle.bench_call.specs.Internal.{restartAt, Does}
 use Rattle.bench_call.proofs.Moves.{quiet-logs}
 
 -- the step that a restart takes, if it is accepted
-restart-step : (rec page : List ℕ) {y : Step} → restartedIn format rec page ≡ ok y → quiet (restarted (count page)) none ≡ y
+pub restart-step : (rec page : List ℕ) {y : Step} → restartedIn format rec page ≡ ok y → quiet (restarted (count page)) none ≡ y
 unfolding restartedIn restarting
 restart-step rec page {y} h = let k : ok (quiet (restarted (count page)) none) ≡ ok y = passing _ (passing _ h .1) .1 in cc
 

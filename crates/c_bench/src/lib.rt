@@ -1,4 +1,5 @@
 // The bench line for C, on numbers and byte buffers alone; include/dock.h declares it.
+ghost use Rattle.call_spec.specs.Claim.{lent};
 ghost use Rattle.bench_spec.specs.Bench.{benchOf};
 ghost use Rattle.bench_line.specs.Performed.{LinePerformed};
 ghost use Rattle.c_bench.specs.Answers.{benchAnswerIn};
@@ -10,6 +11,8 @@ ghost use Rattle.c_bench.specs.Answers.{benchAnswerIn};
 pub extern "C" fn dock_bench(
     a: &mut [u8],
     b: &mut [u8],
+    a_page: &mut [u8],
+    b_page: &mut [u8],
     log: &mut [u8],
     count: &mut usize,
     line: &[u8],
@@ -24,9 +27,9 @@ pub extern "C" fn dock_bench(
     at: &mut usize,
     block: &mut usize,
 ) -> u8
-    ensures { λ r. ⌜ LinePerformed (benchOf (now (a .entry)) (now (b .entry)) (now (log .entry)) (now (count .entry))) (now (line .entry)) (now (out .entry)) (now (up .entry)) (now (a .exit)) (now (b .exit)) (now (log .exit)) (now (out .exit)) (now (up .exit)) (benchAnswerIn r (now (end .exit)) (now (state .exit)) (now (notice .exit)) (now (local .exit)) (now (remote .exit)) (now (sent .exit)) (now (at .exit)) (now (block .exit)) (now (count .exit))) ⌝ }
+    ensures { λ r. ⌜ LinePerformed (benchOf (lent (now (a .entry)) (now («a_page» .entry))) (lent (now (b .entry)) (now («b_page» .entry))) (now (log .entry)) (now (count .entry))) (now (line .entry)) (now (out .entry)) (now (up .entry)) (lent (now (a .exit)) (now («a_page» .exit))) (lent (now (b .exit)) (now («b_page» .exit))) (now (log .exit)) (now (out .exit)) (now (up .exit)) (benchAnswerIn r (now (end .exit)) (now (state .exit)) (now (notice .exit)) (now (local .exit)) (now (remote .exit)) (now (sent .exit)) (now (at .exit)) (now (block .exit)) (now (count .exit))) ⌝ }
 {
-    let r = bench_line::perform(a, b, log, *count, line, out, up);
+    let r = bench_line::perform(a, b, a_page, b_page, log, *count, line, out, up);
     *count = r.count;
     *end = r.end;
     let told = r.status;
