@@ -1,17 +1,20 @@
 -- What answers a line at one end, and the program's theorem.
 use Prim.Native.Nat.{ℕ, _+_, _≤_}
-use mathlib.Core.Path.{_≡_, refl, ap}
+use mathlib.Core.Path.{_≡_, refl, ap, _∙_}
 use mathlib.Core.List.{List, [], _∷_}
-use lib.ListN.{length}
+use lib.ListN.{length, replicate}
+use Rattle.octets.specs.Sizes.{pageSize}
 use Rattle.octets.specs.Test.{ok}
 use Rattle.hex.specs.Line.{unhex, normal}
 use Rattle.hex.proofs.Normal.{asked-alike, unhex-normal}
-use Rattle.call_spec.specs.Calls.{performed, recordAfter}
+use Rattle.page.specs.Page.{unused, pageOf, newPage}
+use Rattle.call_spec.specs.Calls.{performed}
+use Rattle.call_spec.specs.Claim.{Lent, lent}
 use Rattle.link.specs.Record.{format}
-use Rattle.link.specs.Lent.{freshRecord}
+use Rattle.answer_text.specs.declared.Output.{Output}
 use Rattle.answer_text.specs.Text.{answerRoom}
-use Rattle.line_answer.specs.Line.{lineCall, readyOutcome, lineOutcome}
-use Rattle.line_answer.specs.Text.{text, inRoom}
+use Rattle.line_answer.specs.Line.{lineCall, readyOutcome, lineOutcome, lentAfter}
+use Rattle.line_answer.specs.Text.{text, inRoom, recordLeft, pageLeft, LineAnswered}
 use Rattle.line_answer.proofs.Lines.{in-room}
 use Rattle.line_answer.proofs.Runs.{Holds, fresh-holds, stays-put, line-leaves}
 use Rattle.line_split.specs.Split.{cut}
@@ -22,47 +25,63 @@ use Rattle.line_io.specs.Program.{Ran, Over, concat}
 use Rattle.line_io.proofs.Answers.{input-normal}
 use Rattle.line_io.proofs.Steps.{free, free-room}
 use Rattle.line_io.proofs.Program.{program-run}
-use Rattle.line.specs.Ends.{oneEnd, others}
+use Rattle.line.specs.Ends.{oneEnd, freshEnd, others}
+
+-- an array of FF is a new page
+pub all-unused : replicate pageSize unused ≡ newPage
+unfolding pageOf
+all-unused = refl
 
 -- A line counts as what is kept of it.
-asks-alike : (rec l : List ℕ) → readyOutcome rec (cut l) ≡ readyOutcome rec l
+asks-alike : (rec page l : List ℕ) → readyOutcome rec page (cut l) ≡ readyOutcome rec page l
 unfolding readyOutcome cut
-asks-alike rec [] = refl
-asks-alike rec (c ∷ l) = asks-cut [] tt (λ (x : List ℕ). performed format rec (lineCall (unhex x))) (c ∷ l)
+asks-alike rec page [] = refl
+asks-alike rec page (c ∷ l) = asks-cut [] tt (λ (x : List ℕ). performed format rec page (lineCall (unhex x))) (c ∷ l)
 
-same : (rec l : List ℕ) → lineOutcome rec (cut l) ≡ lineOutcome rec l
+same : (r : Lent) (l : List ℕ) → lineOutcome (r .rec) (r .page) (cut l) ≡ lineOutcome (r .rec) (r .page) l
 unfolding lineOutcome
-same rec l = rw (asks-alike rec l) refl
+same r l = rw (asks-alike (r .rec) (r .page) l) refl
 
 pub cuts : Cuts oneEnd
-cuts = record { next = λ rec l. ap (recordAfter format rec) (same rec l); says = λ rec l. ap (text rec) (same rec l) }
+cuts = record { next = λ r l. ap (lentAfter r) (same r l); says = λ r l. ap (text (r .rec)) (same r l) }
 
 -- A line counts as its normal form, so an input is answered in either case with the same text.
-either-case : (rec l : List ℕ) → lineOutcome rec (normal l) ≡ lineOutcome rec l
+either-case : (r : Lent) (l : List ℕ) → lineOutcome (r .rec) (r .page) (normal l) ≡ lineOutcome (r .rec) (r .page) l
 unfolding lineOutcome readyOutcome
-either-case rec [] = refl
-either-case rec (c ∷ l) = rw (asked-alike (c ∷ l), unhex-normal (c ∷ l)) refl
+either-case r [] = refl
+either-case r (c ∷ l) = rw (asked-alike (c ∷ l), unhex-normal (c ∷ l)) refl
 
-pub either-case-text : (input : List ℕ) → inputText oneEnd freshRecord (normal input) ≡ inputText oneEnd freshRecord input
-either-case-text = input-normal oneEnd (λ rec l. ap (recordAfter format rec) (either-case rec l)) (λ rec l. ap (text rec) (either-case rec l)) freshRecord
+pub either-case-text : (input : List ℕ) → inputText oneEnd freshEnd (normal input) ≡ inputText oneEnd freshEnd input
+either-case-text = input-normal oneEnd (λ r l. ap (lentAfter r) (either-case r l)) (λ r l. ap (text (r .rec)) (either-case r l)) freshEnd
 
--- The record after lines is that after them without the empty ones,
-after-others : {rec : List ℕ} → Holds rec → (ls : List (List ℕ)) → stateAfter oneEnd rec ls ≡ stateAfter oneEnd rec (others ls)
+-- The record and the page after lines are those after them without the empty ones,
+after-others : {r : Lent} → Holds r → (ls : List (List ℕ)) → stateAfter oneEnd r ls ≡ stateAfter oneEnd r (others ls)
 unfolding stateAfter others
 after-others k [] = refl
-after-others k ([] ∷ ls) = rw (stays-put k) (after-others k ls)
+after-others {r} k ([] ∷ ls) = ap (λ (x : Lent). stateAfter oneEnd x ls) (stays-put k) ∙ after-others k ls
 after-others k ((c ∷ l) ∷ ls) = after-others (line-leaves k (c ∷ l)) ls
 
 -- so each line of an input is answered as if the empty ones before it were left out (document 02, N5).
-pub left-out : (ls : List (List ℕ)) (l : List ℕ) → oneEnd .says (stateAfter oneEnd freshRecord ls) l ≡ oneEnd .says (stateAfter oneEnd freshRecord (others ls)) l
-left-out ls l = ap (λ (rec : List ℕ). oneEnd .says rec l) (after-others fresh-holds ls)
+pub left-out : (ls : List (List ℕ)) (l : List ℕ) → oneEnd .says (stateAfter oneEnd freshEnd ls) l ≡ oneEnd .says (stateAfter oneEnd freshEnd (others ls)) l
+left-out ls l = ap (λ (r : Lent). oneEnd .says r l) (after-others fresh-holds ls)
 
 -- where there is room for an answer, the line is asked
-pub asks : (rec line out : List ℕ) (filled : ℕ) → filled + answerRoom ≤ length out → inRoom rec line (free out filled) ≡ ok (lineOutcome rec line)
-asks rec line out filled h = in-room rec line (free out filled) (free-room out filled answerRoom h)
+pub asks : (r : Lent) (line out : List ℕ) (filled : ℕ) → filled + answerRoom ≤ length out
+    → inRoom (r .rec) (r .page) line (free out filled) ≡ ok (lineOutcome (r .rec) (r .page) line)
+asks r line out filled h = in-room (r .rec) (r .page) line (free out filled) (free-room out filled answerRoom h)
 
--- THE theorem, of the program: from a fresh record to its end after the end of the input, however the input came in pieces, all that was handed to be
+-- and its answer leaves what the line leaves of the record and the page
+pub leaves : (rec page line out : List ℕ) (filled : ℕ) → filled + answerRoom ≤ length out → {rec′ page′ out′ : List ℕ} {r : Output}
+    → LineAnswered rec page line (free out filled) rec′ page′ out′ r → lent rec′ page′ ≡ oneEnd .next (lent rec page) line
+unfolding recordLeft pageLeft
+leaves rec page line out filled h w =
+    let e = asks (lent rec page) line out filled h in
+    let p = rw e at (w .end) in
+    let q = rw e at (w .paged) in
+    λ i. record { rec = p i; page = q i }
+
+-- THE theorem, of the program: from a fresh end to its end after the end of the input, however the input came in pieces, all that was handed to be
 -- written is the text of the input.
-pub whole : {rec buf line out : List ℕ} {p : Place} (r : Ran oneEnd answerRoom freshRecord rec buf line out p) → p .steps ≡ 0 → Over (r .pieces)
-    → concat (r .texts) ≡ inputText oneEnd freshRecord (concat (r .pieces))
-whole r z o = program-run cuts (r .run) z o
+pub whole : {r : Lent} {buf line out : List ℕ} {p : Place} (w : Ran oneEnd answerRoom freshEnd r buf line out p) → p .steps ≡ 0 → Over (w .pieces)
+    → concat (w .texts) ≡ inputText oneEnd freshEnd (concat (w .pieces))
+whole w z o = program-run cuts (w .run) z o

@@ -4,19 +4,20 @@ use line_io::Place;
 ghost use mathlib.Core.Path.{_≡_};
 ghost use Prim.Native.Nat.{_+_, _≤_, _<_};
 ghost use lib.ListN.{length};
-ghost use Rattle.link.specs.Lent.{freshRecord};
+ghost use Rattle.page.specs.Page.{newPage};
+ghost use Rattle.call_spec.specs.Claim.{lent};
 ghost use Rattle.answer_text.specs.Text.{answerRoom};
 ghost use Rattle.line_io.specs.Place.{PlaceFits};
 ghost use Rattle.line_io.specs.Step.{Replied, Stepped};
 ghost use Rattle.line_io.specs.Program.{Ran};
-ghost use Rattle.line.specs.Ends.{oneEnd};
+ghost use Rattle.line.specs.Ends.{oneEnd, freshEnd};
 
 // Answers a line into the free part of out; how many characters the answer has.
-fn answer(rec: &mut [u8], line: &[u8], out: &mut [u8], filled: usize) -> usize
+fn answer(rec: &mut [u8], page: &mut [u8], line: &[u8], out: &mut [u8], filled: usize) -> usize
     requires { ⌜ filled + answerRoom ≤ length (now out) ⌝ }
-    ensures { λ r. ⌜ Replied oneEnd (now (rec .entry)) (now (line .entry)) (now (out .entry)) filled (now (rec .exit)) (now (out .exit)) r ⌝ }
+    ensures { λ r. ⌜ Replied oneEnd (lent (now (rec .entry)) (now (page .entry))) (now (line .entry)) (now (out .entry)) filled (lent (now (rec .exit)) (now (page .exit))) (now (out .exit)) r ⌝ }
 {
-    let reply = line_answer::answer(rec, line, &mut out[filled..]);
+    let reply = line_answer::answer(rec, page, line, &mut out[filled..]);
     match reply {
         Output::Written(n) => n,
         Output::Refused(_) => 0,
@@ -26,43 +27,47 @@ fn answer(rec: &mut [u8], line: &[u8], out: &mut [u8], filled: usize) -> usize
 // One step of the stream, with the answer where a line is ready.
 fn step(
     rec: &mut [u8; link::RECORD_SIZE],
+    page: &mut [u8; octets::PAGE_SIZE],
     buf: &mut [u8; line_io::BUFFER_SIZE],
     line: &mut [u8; line_io::LONGEST_KEPT],
     out: &mut [u8; line_io::BUFFER_SIZE],
     p: Place,
 ) -> Place
     requires { ⌜ (PlaceFits p) × (0 < p .steps) ⌝ }
-    ensures { λ r. ⌜ Stepped oneEnd answerRoom (now (rec .entry)) (now (buf .entry)) (now (line .entry)) (now (out .entry)) p (now (rec .exit)) (now (buf .exit)) (now (line .exit)) (now (out .exit)) r ⌝ }
+    ensures { λ r. ⌜ Stepped oneEnd answerRoom (lent (now (rec .entry)) (now (page .entry))) (now (buf .entry)) (now (line .entry)) (now (out .entry)) p (lent (now (rec .exit)) (now (page .exit))) (now (buf .exit)) (now (line .exit)) (now (out .exit)) r ⌝ }
 {
     let q = line_io::next(buf, line, out, answer_text::ANSWER_ROOM, p);
     if q.lines == 0 {
         return q;
     }
-    let n = answer(rec, line_io::ready(buf, line, q), out, q.filled);
+    let n = answer(rec, page, line_io::ready(buf, line, q), out, q.filled);
     line_io::answered(q, n)
 }
 
-// A fresh end, and steps while some are left.
+// A restart on a new page, which makes a fresh end, and steps while some are left.
 fn run(
     rec: &mut [u8; link::RECORD_SIZE],
+    page: &mut [u8; octets::PAGE_SIZE],
     buf: &mut [u8; line_io::BUFFER_SIZE],
     line: &mut [u8; line_io::LONGEST_KEPT],
     out: &mut [u8; line_io::BUFFER_SIZE],
 ) -> Place
-    ensures { λ r. ⌜ (Ran oneEnd answerRoom freshRecord (now (rec .exit)) (now (buf .exit)) (now (line .exit)) (now (out .exit)) r) × (r .steps ≡ 0) ⌝ }
+    requires { ⌜ now page ≡ newPage ⌝ }
+    ensures { λ r. ⌜ (Ran oneEnd answerRoom freshEnd (lent (now (rec .exit)) (now (page .exit))) (now (buf .exit)) (now (line .exit)) (now (out .exit)) r) × (r .steps ≡ 0) ⌝ }
 {
-    link::make_fresh(rec);
+    link::restart(rec, page);
     let mut p = line_io::start();
     while p.steps > 0 {
-        p = step(rec, buf, line, out, p);
+        p = step(rec, page, buf, line, out, p);
     }
     p
 }
 
 fn main() {
     let mut rec = [0u8; link::RECORD_SIZE];
+    let mut page = [page::UNUSED; octets::PAGE_SIZE];
     let mut buf = [0u8; line_io::BUFFER_SIZE];
     let mut line = [0u8; line_io::LONGEST_KEPT];
     let mut out = [0u8; line_io::BUFFER_SIZE];
-    run(&mut rec, &mut buf, &mut line, &mut out);
+    run(&mut rec, &mut page, &mut buf, &mut line, &mut out);
 }

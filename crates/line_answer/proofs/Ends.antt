@@ -9,7 +9,7 @@ use Rattle.octets.specs.Octets.{left}
 use Rattle.frame.specs.Frame.{Block}
 use Rattle.protocol.specs.Table.{Step}
 use Rattle.call_spec.specs.declared.Call.{Call}
-use Rattle.call_spec.specs.Calls.{wire, recordAfter}
+use Rattle.call_spec.specs.Calls.{wire, recordAfter, pageAfter}
 use Rattle.call_spec.specs.Answers.{sentIn, blockOf}
 use Rattle.link.specs.declared.Answer.{Answer}
 use Rattle.link.specs.Lent.{answerOf, Called}
@@ -25,14 +25,21 @@ room = replicate longestFrame 0
 abbrev pub blockRoom : List ℕ
 blockRoom = replicate longestBlock 0
 
-pub gives : {c : Call} (o : Outcome Step) (rec s out : List ℕ) {rec′ frame up out′ : List ℕ} {a : Answer} {r : ℕ} {b : Block}
-    → Called c o rec s room blockRoom rec′ frame up a → b ≡ blockOf o → Begins (textOf (a .status) b (take (a .sent) frame)) out out′ r → Gives o rec out rec′ out′ r
+pub gives : {c : Call} (o : Outcome Step) (rec page s out : List ℕ) {rec′ page′ frame up out′ : List ℕ} {a : Answer} {r : ℕ} {b : Block}
+    → Called c o rec s room blockRoom rec′ frame up a → page′ ≡ pageAfter page o → b ≡ blockOf o → Begins (textOf (a .status) b (take (a .sent) frame)) out out′ r
+    → Gives o rec page out rec′ page′ out′ r
 unfolding text answerOf
-gives o rec s out l h w =
+gives o rec page s out l g h w =
     let e = l .answer in
-    record { begins = rw (ap (λ (x : Answer). x .status) e, h, sent-taken room o (l .buffer) (ap (λ (x : Answer). x .sent) e)) at w; end = l .end }
+    record { begins = rw (ap (λ (x : Answer). x .status) e, h, sent-taken room o (l .buffer) (ap (λ (x : Answer). x .sent) e)) at w; end = l .end; paged = g }
 
-pub refuses : {o : Outcome Step} {n : ℕ} → o ≡ refused n → (rec out : List ℕ) {out′ : List ℕ} {a : Answer} {r : ℕ} → a ≡ answerOf rec (refused n)
-    → Begins (textOf (a .status) [] []) out out′ r → Gives o rec out rec out′ r
-unfolding text answerOf blockOf sentIn wire recordAfter mapped left
-refuses e rec out h w = rw e (record { begins = rw (ap (λ (x : Answer). x .status) h) at w; end = refl })
+-- the text of a refusal, which leaves the record and the page
+pub tells-refusal : (rec out : List ℕ) (n : ℕ) {out′ : List ℕ} {a : Answer} {r : ℕ} → a ≡ answerOf rec (refused n)
+    → Begins (textOf (a .status) [] []) out out′ r → Begins (text rec (refused n)) out out′ r
+unfolding text answerOf blockOf sentIn wire
+tells-refusal rec out n h w = rw (ap (λ (x : Answer). x .status) h) at w
+
+pub refuses : {o : Outcome Step} {n : ℕ} → o ≡ refused n → (rec page out : List ℕ) {out′ : List ℕ} {r : ℕ} → Begins (text rec (refused n)) out out′ r
+    → Gives o rec page out rec page out′ r
+unfolding recordAfter pageAfter mapped left
+refuses e rec page out w = rw e (record { begins = w; end = refl; paged = refl })

@@ -6,7 +6,7 @@ use lib.ListN.{length}
 use Rattle.octets.specs.Test.{first, ok, refusing, mapped, numberOf}
 use Rattle.octets.specs.Octets.{left, lay, Octets}
 use Rattle.protocol.specs.Table.{noticeNumber}
-use Rattle.call_spec.specs.Calls.{wire, recordAfter}
+use Rattle.call_spec.specs.Calls.{wire, recordAfter, pageAfter}
 use Rattle.call_spec.specs.Answers.{noticeOf, sentIn, blockIn, blockOf}
 use Rattle.endpoint.specs.View.{pack, view}
 use Rattle.endpoint.specs.Record.{decode}
@@ -18,9 +18,9 @@ use Rattle.answer_text.specs.declared.Output.{Output}
 use Rattle.answer_text.specs.Text.{asLine, counted, answerOctets, answerLine, frameLine, textOf, outputOf, answerRoom, Begins}
 use Rattle.answer_text.proofs.Text.{length-told}
 use Rattle.line_answer.specs.Line.{readyOutcome, lineOutcome}
-use Rattle.line_answer.specs.Text.{text, standing, recordLeft, LineAnswered, Stood}
+use Rattle.line_answer.specs.Text.{text, standing, recordLeft, pageLeft, LineAnswered, Stood}
 use Rattle.line_answer.specs.Internal.{Gives}
-use Rattle.line_answer.proofs.Lines.{asked-of, asks-standing, in-room}
+use Rattle.line_answer.proofs.Lines.{asked-of, page-still, asks-standing, in-room}
 
 module _ (rec : List ℕ) where
   -- one answer line, without a block
@@ -36,26 +36,42 @@ module _ (rec : List ℕ) where
   unfolding statusOf toldOf numberOf noticeOf noticeNumber pack view answerOctets counted
   standing-says = standing-is ∙ ap asLine (append-nil _)
 
-  still : Octets rec → first (recordQuestions rec) ≡ 0 → recordAfter format rec (ok (stands rec)) ≡ rec
-  still o h = let a = asked-of rec h in stands-still (holding rec (a .0) o (a .1))
+module _ (rec page : List ℕ) where
+  still : Octets rec → first (recordQuestions rec page) ≡ 0 → recordAfter format rec (ok (stands rec)) ≡ rec
+  still o h = let a = asked-of rec page h in stands-still (holding rec page (a .long) o (a .is-sound) (a .page-long) (a .goes))
 
-  -- the record stays as it is, whether it may be asked or not
-  leaves : Octets rec → (n : ℕ) → n ≡ first (recordQuestions rec) → recordAfter format rec (refusing n (readyOutcome rec [])) ≡ rec
+  -- the record and the page stay as they are, whether the end may be asked or not
+  leaves : Octets rec → (n : ℕ) → n ≡ first (recordQuestions rec page) → recordAfter format rec (refusing n (readyOutcome rec page [])) ≡ rec
   unfolding readyOutcome refusing recordAfter mapped left
   leaves o zero h = still o (sym h)
   leaves o (suc n) h = refl
 
-  pub undisturbed : Octets rec → recordAfter format rec (lineOutcome rec []) ≡ rec
-  unfolding lineOutcome
-  undisturbed o = leaves o (first (recordQuestions rec)) refl
+  leaves-page : (n : ℕ) → n ≡ first (recordQuestions rec page) → pageAfter page (refusing n (readyOutcome rec page [])) ≡ page
+  unfolding readyOutcome refusing pageAfter
+  leaves-page zero h = page-still rec page (asked-of rec page (sym h) .goes)
+  leaves-page (suc n) h = refl
 
-  module _ (out : List ℕ) {out′ : List ℕ} (o : Octets rec) (h : first (recordQuestions rec) ≡ 0) where
-    pub stands-there : {r : ℕ} → Begins (standing rec) out out′ r → Gives (ok (stands rec)) rec out rec out′ r
-    stands-there w = record { begins = w; end = sym (still o h) }
+  pub undisturbed : Octets rec → recordAfter format rec (lineOutcome rec page []) ≡ rec
+  unfolding lineOutcome
+  undisturbed o = leaves o (first (recordQuestions rec page)) refl
+
+  pub page-undisturbed : pageAfter page (lineOutcome rec page []) ≡ page
+  unfolding lineOutcome
+  page-undisturbed = leaves-page (first (recordQuestions rec page)) refl
+
+  module _ (out : List ℕ) {out′ : List ℕ} (o : Octets rec) (h : first (recordQuestions rec page) ≡ 0) where
+    pub stands-there : {r : ℕ} → Begins (standing rec) out out′ r → Gives (ok (stands rec)) rec page out rec page out′ r
+    stands-there w = record { begins = w; end = sym (still o h); paged = sym (page-still rec page (asked-of rec page h .goes)) }
 
     -- N5 of the call: every octet of what is lent
-    pub stood : answerRoom ≤ length out → {rec′ : List ℕ} {r : Output} → LineAnswered rec [] out rec′ out′ r → Stood rec out rec′ out′ r
-    unfolding mapped outputOf left recordLeft
+    pub stood : answerRoom ≤ length out → {rec′ page′ : List ℕ} {r : Output} → LineAnswered rec page [] out rec′ page′ out′ r → Stood rec page out rec′ page′ out′ r
+    unfolding mapped outputOf left recordLeft pageLeft
     stood room w =
-        let e = in-room rec [] out room ∙ ap ok (asks-standing rec [] h refl) in
-        record { answer = rw (e, standing-long) at (w .answer); buffer = rw e at (w .buffer); end = rw (in-room rec [] out room) at (w .end) ∙ undisturbed o }
+        let i = in-room rec page [] out room in
+        let e = i ∙ ap ok (asks-standing rec page [] h refl) in
+        record {
+          answer = rw (e, standing-long) at (w .answer);
+          buffer = rw e at (w .buffer);
+          end = rw i at (w .end) ∙ undisturbed o;
+          paged = rw i at (w .paged) ∙ page-undisturbed;
+        }

@@ -9,7 +9,8 @@ use Rattle.frame.specs.Read.{kindOf}
 use Rattle.protocol.specs.Table.{Step}
 use Rattle.call_spec.specs.declared.Call.{Call}
 use Rattle.call_spec.specs.declared.Call.the-variants.{Request, Receive}
-use Rattle.call_spec.specs.Calls.{Arguments, given, rooms, performed}
+use Rattle.call_spec.specs.Calls.{Arguments, given, rooms, performed, recordAfter, pageAfter}
+use Rattle.call_spec.specs.Claim.{Lent, lent}
 use Rattle.link.specs.Record.{format, recordQuestions}
 use Rattle.link.specs.Lent.{stands}
 
@@ -23,10 +24,14 @@ lineCall s = given (callIn s) s (rooms longestFrame longestBlock)
 
 -- What a line asks of an end that may be asked. The line of no characters asks how the end stands (document 02, N5). Every other makes a call: 1 and 2 of the
 -- line, then what the call asks.
-unfoldable pub readyOutcome : List ℕ → List ℕ → Outcome Step
-readyOutcome rec [] = ok (stands rec)
-readyOutcome rec (c ∷ line) = refusing (first (lineQuestions (c ∷ line))) (performed format rec (lineCall (unhex (c ∷ line))))
+unfoldable pub readyOutcome : List ℕ → List ℕ → List ℕ → Outcome Step
+readyOutcome rec page [] = ok (stands rec)
+readyOutcome rec page (c ∷ line) = refusing (first (lineQuestions (c ∷ line))) (performed format rec page (lineCall (unhex (c ∷ line))))
 
--- 11 and 12 of the record come first.
-unfoldable pub lineOutcome : List ℕ → List ℕ → Outcome Step
-lineOutcome rec line = refusing (first (recordQuestions rec)) (readyOutcome rec line)
+-- 11, 12 and 15 of the record and its page (N6) come first.
+unfoldable pub lineOutcome : List ℕ → List ℕ → List ℕ → Outcome Step
+lineOutcome rec page line = refusing (first (recordQuestions rec page)) (readyOutcome rec page line)
+
+-- The record and the page that an outcome leaves.
+abbrev pub lentAfter : Lent → Outcome Step → Lent
+lentAfter r o = lent (recordAfter format (r .rec) o) (pageAfter (r .page) o)

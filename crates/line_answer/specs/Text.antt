@@ -7,7 +7,7 @@ use lib.ListN.{length}
 use Rattle.octets.specs.Test.{first, Outcome, refused, ok, outcome, mapped}
 use Rattle.octets.specs.Octets.{put, left}
 use Rattle.protocol.specs.Table.{Step}
-use Rattle.call_spec.specs.Calls.{wire, recordAfter}
+use Rattle.call_spec.specs.Calls.{wire, recordAfter, pageAfter}
 use Rattle.call_spec.specs.Answers.{sentIn, blockOf}
 use Rattle.link.specs.Record.{format}
 use Rattle.link.specs.Lent.{statusOf, stands}
@@ -25,21 +25,27 @@ abbrev pub standing : List ℕ → List ℕ
 standing rec = text rec (ok (stands rec))
 
 -- A line's answer into a buffer: without room for it, nothing is asked of the end.
-unfoldable pub inRoom : List ℕ → List ℕ → List ℕ → Outcome (Outcome Step)
-inRoom rec line out = outcome (first ((11, leb answerRoom (length out)) ∷ [])) (lineOutcome rec line)
+unfoldable pub inRoom : List ℕ → List ℕ → List ℕ → List ℕ → Outcome (Outcome Step)
+inRoom rec page line out = outcome (first ((11, leb answerRoom (length out)) ∷ [])) (lineOutcome rec page line)
 
 unfoldable pub recordLeft : List ℕ → Outcome (Outcome Step) → List ℕ
 recordLeft rec (refused n) = rec
 recordLeft rec (ok o) = recordAfter format rec o
 
--- What the answer to a line is, and every octet that it leaves.
-pub record LineAnswered (rec line out rec′ out′ : List ℕ) (r : Output) : Type 0 where
-  pub answer : r ≡ outputOf (mapped (text rec) (inRoom rec line out))
-  pub buffer : out′ ≡ left (mapped (text rec) (inRoom rec line out)) out
-  pub end : rec′ ≡ recordLeft rec (inRoom rec line out)
+unfoldable pub pageLeft : List ℕ → Outcome (Outcome Step) → List ℕ
+pageLeft page (refused n) = page
+pageLeft page (ok o) = pageAfter page o
 
--- What an empty line leaves of all that is lent, where 11 and 12 are passed (document 02, N5): 23 characters, and nothing else moves.
-pub record Stood (rec out rec′ out′ : List ℕ) (r : Output) : Type 0 where
+-- What the answer to a line is, and every octet that it leaves.
+pub record LineAnswered (rec page line out rec′ page′ out′ : List ℕ) (r : Output) : Type 0 where
+  pub answer : r ≡ outputOf (mapped (text rec) (inRoom rec page line out))
+  pub buffer : out′ ≡ left (mapped (text rec) (inRoom rec page line out)) out
+  pub end : rec′ ≡ recordLeft rec (inRoom rec page line out)
+  pub paged : page′ ≡ pageLeft page (inRoom rec page line out)
+
+-- What an empty line leaves of all that is lent, where 11, 12 and 15 are passed (document 02, N5): 23 characters, and nothing else moves.
+pub record Stood (rec page out rec′ page′ out′ : List ℕ) (r : Output) : Type 0 where
   pub answer : r ≡ Written 23
   pub buffer : out′ ≡ put out 0 (standing rec)
   pub end : rec′ ≡ rec
+  pub paged : page′ ≡ page

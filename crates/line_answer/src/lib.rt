@@ -14,7 +14,7 @@ ghost use Rattle.endpoint.specs.Record.{recordSize};
 ghost use Rattle.link.specs.Record.{format, recordQuestions};
 ghost use Rattle.answer_text.specs.Text.{answerRoom, Begins};
 ghost use Rattle.line_answer.specs.Line.{callIn, lineCall};
-ghost use Rattle.line_answer.specs.Text.{standing, LineAnswered};
+ghost use Rattle.line_answer.specs.Text.{text, standing, LineAnswered};
 ghost use Rattle.line_answer.specs.Internal.{Gives};
 
 // The call that the octets of a line make.
@@ -29,15 +29,16 @@ fn call_in(s: &[u8]) -> Call
     }
 }
 
-// What the octets of a line ask, where 11 and 12 of the record are passed.
-fn ask(rec: &mut [u8], s: &[u8], out: &mut [u8]) -> usize
-    requires { ⌜ (first (recordQuestions (now rec)) ≡ 0) × ((length (now s) ≤ longestFrame) × (answerRoom ≤ length (now out))) ⌝ }
-    ensures { λ r. ⌜ Gives (performed format (now (rec .entry)) (lineCall (now (s .entry)))) (now (rec .entry)) (now (out .entry)) (now (rec .exit)) (now (out .exit)) r ⌝ }
+// What the octets of a line ask, where 11, 12 and 15 of the record and its page are passed. The page is stored to first.
+fn ask(rec: &mut [u8], page: &mut [u8], s: &[u8], out: &mut [u8]) -> usize
+    requires { ⌜ (first (recordQuestions (now rec) (now page)) ≡ 0) × ((length (now s) ≤ longestFrame) × (answerRoom ≤ length (now out))) ⌝ }
+    ensures { λ r. ⌜ Gives (performed format (now (rec .entry)) (now (page .entry)) (lineCall (now (s .entry)))) (now (rec .entry)) (now (page .entry)) (now (out .entry)) (now (rec .exit)) (now (page .exit)) (now (out .exit)) r ⌝ }
 {
     let mut frame = [0u8; octets::LONGEST_FRAME];
     let mut up = [0u8; octets::LONGEST_BLOCK];
     let call = call_in(s);
     let p = link::plan_sound(call, rec, s);
+    link::reserve(p, page);
     let a = link::finish(call, p, rec, s, &mut frame, &mut up);
     let told = a.status;
     let sent = a.sent;
@@ -47,7 +48,7 @@ fn ask(rec: &mut [u8], s: &[u8], out: &mut [u8]) -> usize
 
 fn refuse(rec: &[u8], number: u8, out: &mut [u8]) -> usize
     requires { ⌜ answerRoom ≤ length (now out) ⌝ }
-    ensures { λ r. ⌜ Gives (refused number) (now (rec .entry)) (now (out .entry)) (now (rec .entry)) (now (out .exit)) r ⌝ }
+    ensures { λ r. ⌜ Begins (text (now (rec .entry)) (refused number)) (now (out .entry)) (now (out .exit)) r ⌝ }
 {
     let a = link::refuse(rec, number);
     let told = a.status;
@@ -63,15 +64,15 @@ pub fn stand(rec: &[u8], out: &mut [u8]) -> usize
     answer_text::write_answer(told, &rec[..0], out)
 }
 
-// Answers a line, which is given without its line feed, at the end with the record rec: the answer line and, if a frame is sent,
-// its line go to the start of out, which needs room for answer_text::ANSWER_ROOM characters.
-pub fn answer(rec: &mut [u8], line: &[u8], out: &mut [u8]) -> Output
-    ensures { λ r. ⌜ LineAnswered (now (rec .entry)) (now (line .entry)) (now (out .entry)) (now (rec .exit)) (now (out .exit)) r ⌝ }
+// Answers a line, which is given without its line feed, at the end with the record rec and this page: the answer line and, if a frame is
+// sent, its line go to the start of out, which needs room for answer_text::ANSWER_ROOM characters.
+pub fn answer(rec: &mut [u8], page: &mut [u8], line: &[u8], out: &mut [u8]) -> Output
+    ensures { λ r. ⌜ LineAnswered (now (rec .entry)) (now (page .entry)) (now (line .entry)) (now (out .entry)) (now (rec .exit)) (now (page .exit)) (now (out .exit)) r ⌝ }
 {
     if out.len() < answer_text::ANSWER_ROOM {
         return Output::Refused(refusal::SHORT_BUFFER);
     }
-    let asked = link::ready(rec);
+    let asked = link::ready(rec, page);
     if asked != 0 {
         return Output::Written(refuse(rec, asked, out));
     }
@@ -81,7 +82,7 @@ pub fn answer(rec: &mut [u8], line: &[u8], out: &mut [u8]) -> Output
     let mut s = [0u8; octets::LONGEST_FRAME];
     let read = hex::read(line, &mut s);
     match read {
-        Line::Decoded(n) => Output::Written(ask(rec, &s[..n], out)),
+        Line::Decoded(n) => Output::Written(ask(rec, page, &s[..n], out)),
         Line::Refused(number) => Output::Written(refuse(rec, number, out)),
     }
 }

@@ -1,30 +1,39 @@
-use mathlib.Core.Path.{_∙_}
+use mathlib.Core.Path.{ap, _∙_}
 use borrow.Author.Needs.{needs}
 use denote.Ref.{now}
 use native.Mathlib.Omega.{arith}
-use Rattle.link.specs.Lent.{freshRecord}
+use mathlib.Core.List.{List}
+use Prim.Native.Nat.{ℕ}
+use Rattle.call_spec.specs.Calls.{restartedIn, recordAfter}
+use Rattle.call_spec.specs.Claim.{lent}
+use Rattle.link.specs.Record.{format}
 use Rattle.link.proofs.Fresh.{fresh-is}
 use Rattle.answer_text.specs.Text.{answerRoom}
 use Rattle.line_io.specs.Program.{Ran}
 use Rattle.line_io.proofs.Program.{ran-none, ran-more, ran-fits}
-use Rattle.line.specs.Ends.{oneEnd}
+use Rattle.line.specs.Ends.{oneEnd, freshEnd}
 use Rattle.line.proofs.run.Statement.{statement}
 use Rattle.line.proofs.run.Tie as tie
 
 abbrev Inv-loop : tie.InvT-loop
-Inv-loop rec₀ buf₀ line₀ out₀ p₀ rec buf line out p = Ran oneEnd answerRoom freshRecord rec buf line out p
+Inv-loop rec₀ page₀ buf₀ line₀ out₀ p₀ rec page buf line out p = Ran oneEnd answerRoom freshEnd (lent rec page) buf line out p
 
 abbrev μ-loop : tie.MeasureT-loop
-μ-loop rec₀ buf₀ line₀ out₀ p₀ rec buf line out p = p .steps
+μ-loop rec₀ page₀ buf₀ line₀ out₀ p₀ rec page buf line out p = p .steps
 
 loop-holds : tie.Need-loop-holds Inv-loop μ-loop
-loop-holds c = let a = c .before .before .before .args in ran-none (now (a .buf)) (now (a .line)) (now (a .out)) (c .before .make-fresh .ensures .1 ∙ fresh-is _ (omega arith)) (c .start .ensures)
+loop-holds c =
+    let s = c .before .before .before .before .before in
+    let a = s .args in
+    let p = c .before .restart .ensures .end ∙ ap (λ (x : List ℕ). recordAfter format (now (a .rec)) (restartedIn format (now (a .rec)) x)) (s .pre) ∙ fresh-is _ (omega arith) in
+    let q = s .pre in
+    ran-none (now (a .buf)) (now (a .line)) (now (a .out)) (λ i. record { rec = p i; page = q i }) (c .start .ensures)
 
 pub run-spec : {M : Type 1} → statement M
 run-spec =
     tie.close
     (tie.spec Inv-loop μ-loop (λ c κs. search needs) (λ c κs. search needs) loop-holds
-    (λ c κs. (ran-fits (c .before .before .before .before .before .before .loop .inv), c .before .before .before .before .if1 .taken))
+    (λ c κs. (ran-fits (c .before .before .before .before .before .before .before .loop .inv), c .before .before .before .before .before .if1 .taken))
     (λ c. c .step .ensures .less)
-    (λ c. ran-more (c .before .before .before .before .before .before .before .loop .inv) (c .before .before .before .before .before .if1 .taken) (c .step .ensures))
+    (λ c. ran-more (c .before .before .before .before .before .before .before .before .loop .inv) (c .before .before .before .before .before .before .if1 .taken) (c .step .ensures))
     (λ c. (c .before .before .loop .inv, omega arith)))

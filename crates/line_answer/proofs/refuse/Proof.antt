@@ -2,7 +2,7 @@ use mathlib.Core.Path.{refl}
 use mathlib.Core.List.{[]}
 use denote.Ref.{now}
 use Rattle.answer_text.proofs.Text.{length-told, text-none}
-use Rattle.line_answer.proofs.Ends.{refuses}
+use Rattle.line_answer.proofs.Ends.{tells-refusal}
 use native.Mathlib.Omega.{arith}
 use borrow.Author.Needs.{needs}
 use Rattle.line_answer.proofs.refuse.Statement.{statement}
@@ -14,7 +14,7 @@ write-answer-requires c κs = (omega arith, omega (arith, length-told (c .before
 returns : tie.Need-returns
 returns c =
     let a = c .before .before .before .before .before .before .before .before .before .args in
-    refuses refl (now (a .rec)) (now (a .out)) (c .before .before .before .before .before .before .refuse .ensures) (text-none _ [] [] (now (a .out)) refl (c .before .before .write-answer .ensures))
+    tells-refusal (now (a .rec)) (now (a .out)) (a .number) (c .before .before .before .before .before .before .refuse .ensures) (text-none _ [] [] (now (a .out)) refl (c .before .before .write-answer .ensures))
 
 pub refuse-spec : {M : Type 1} → statement M
 refuse-spec =

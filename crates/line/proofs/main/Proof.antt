@@ -1,0 +1,10 @@
+use borrow.Author.Needs.{needs}
+use Rattle.line.proofs.Ends.{all-unused}
+use Rattle.line.proofs.main.Statement.{statement}
+use Rattle.line.proofs.main.Tie as tie
+
+run-requires : tie.Need-run-requires
+run-requires c κs = all-unused
+
+pub main-spec : {M : Type 1} → statement M
+main-spec = tie.close (tie.spec run-requires (λ c. search needs))
