@@ -19,7 +19,7 @@ use Rattle.frame.specs.Read.{kindOf}
 use Rattle.call_spec.specs.declared.Call.the-variants.{Request, Receive}
 use Rattle.call_spec.specs.Calls.{Rooms, rooms, given, restartedIn}
 use Rattle.call_spec.specs.Claim.{Lent, Act, call, restart, comesBy}
-use Rattle.call_spec.specs.Answers.{blockOf}
+use Rattle.call_spec.specs.Answers.{blockIn, blockOf}
 use Rattle.link.specs.Lent.{statusOf, sentOf}
 use Rattle.link.specs.Record.{format}
 use Rattle.link.proofs.Answers.{sent-fits, sent-taken, received-short, collected-short}
@@ -43,7 +43,7 @@ abbrev Short : Outcome Step → Type 0
 Short o = length (blockOf o) ≤ longestBlock
 
 quiet-short : (rec page : List ℕ) (o : Outcome Step) → restartedIn format rec page ≡ o → Short o
-unfolding blockOf
+unfolding blockOf blockIn
 quiet-short rec page (refused n) h = omega arith
 quiet-short rec page (ok x) h = subst (λ (y : Step). Short (ok y)) (restart-step rec page h) (omega arith)
 

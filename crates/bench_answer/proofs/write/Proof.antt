@@ -15,7 +15,7 @@ tell-requires : tie.Need-tell-requires
 tell-requires c κs =
     let s = c .before .before .before .before .before .before .before .before .before .before .before .before .before .before .before .before .before .before .before .before .before .before .before .before .before .before .before .before .before .before .before .before .before in
     let a = s .args in
-    (s .pre, tellable (c .before .before .before .before .before .before .before .before .before .before .before .before .before .before .before .before .before .perform .ensures) (fine (benchOf (lent (now (a .a)) (now (a .«a_page»))) (lent (now (a .b)) (now (a .«b_page»))) (now (a .log)) (now (a .count))) (now (a .line)) (rooms longestFrame longestBlock)) (search needs) (c .before .before .block-of .ensures))
+    (s .pre, tellable (c .before .before .before .before .before .before .before .before .before .before .before .before .before .before .before .before .before .perform .ensures) (fine (benchOf (lent (now (a .a)) (now (a .a-page))) (lent (now (a .b)) (now (a .b-page))) (now (a .log)) (now (a .count))) (now (a .line)) (rooms longestFrame longestBlock)) (search needs) (c .before .before .block-of .ensures))
 
 returns : tie.Need-returns
 returns c = gives (c .before .before .before .before .before .before .before .before .before .before .before .before .before .before .before .before .before .before .before .before .perform .ensures) (c .before .before .before .before .before .block-of .ensures) (c .before .before .tell .ensures)
