@@ -1,16 +1,17 @@
 -- What answers a line on the bench, and the program's theorem.
-use Prim.Native.Nat.{ℕ, _+_, _≤_}
-use mathlib.Core.Path.{_≡_, refl, ap}
+use Prim.Native.Nat.{ℕ, zero, suc, _+_, _≤_}
+use mathlib.Core.Path.{_≡_, refl, sym, ap, _∙_}
 use mathlib.Core.List.{List, []}
 use borrow.Author.Tests.{le-leb}
 use lib.ListN.{length}
-use Rattle.octets.specs.Test.{when, first, Outcome, ok, outcome}
+use Rattle.octets.specs.Test.{when, ifEq, first, Outcome, refused, ok, outcome, refusing}
 use Rattle.octets.specs.Sizes.{longestFrame, longestBlock}
 use Rattle.call_spec.specs.Calls.{rooms}
-use Rattle.hex.specs.Line.{unhex, normal}
+use Rattle.hex.specs.Line.{unhex, lineQuestions, normal}
 use Rattle.hex.proofs.Normal.{asked-alike, unhex-normal}
-use Rattle.link.specs.Lent.{freshRecord}
-use Rattle.bench_spec.specs.Bench.{Bench, benchOf, bufferQuestions, roomQuestions, soundQuestions, At, octetsAsk, lineAsks, comes, endOf, benchAfter}
+use Rattle.call_spec.specs.Claim.{Lent}
+use Rattle.link.specs.Lent.{freshEnd}
+use Rattle.bench_spec.specs.Bench.{Bench, benchOf, bufferQuestions, roomQuestions, soundQuestions, At, octetsAsk, restartedBy, restartedEnd, neither, lineAsks, comes, endOf, benchAfter}
 use Rattle.bench_answer.specs.Text.{answerRoom, benchText, askedWith}
 use Rattle.line_split.specs.Split.{cut}
 use Rattle.line_split.proofs.Long.{asks-cut}
@@ -22,9 +23,26 @@ use Rattle.line_io.proofs.Steps.{free, free-room}
 use Rattle.line_io.proofs.Program.{program-run}
 use Rattle.bench.specs.Ends.{bothEnds, freshBench}
 
+-- the end that a line restarts, as an outcome of its characters
+endIn : Outcome ℕ → ℕ
+endIn (refused n) = neither
+endIn (ok k) = k
+
+named : (n k : ℕ) → ifEq n 0 k neither ≡ endIn (refusing n (ok k))
+unfolding ifEq when refusing
+named zero k = refl
+named (suc n) k = refl
+
+restarts-in : (l : List ℕ) → restartedEnd l ≡ endIn (refusing (first (lineQuestions l)) (ok (restartedBy (unhex l))))
+unfolding restartedEnd
+restarts-in l = named (first (lineQuestions l)) (restartedBy (unhex l))
+
+restarts-cut : (l : List ℕ) → restartedEnd (cut l) ≡ restartedEnd l
+restarts-cut l = restarts-in (cut l) ∙ ap endIn (asks-cut [] tt (λ (x : List ℕ). ok (restartedBy (unhex x))) l) ∙ sym (restarts-in l)
+
 same : (w : Bench) (l : List ℕ) → lineAsks w (cut l) (rooms longestFrame longestBlock) ≡ lineAsks w l (rooms longestFrame longestBlock)
 unfolding lineAsks
-same w l = asks-cut (bufferQuestions w (roomQuestions (rooms longestFrame longestBlock) (soundQuestions w []))) tt (λ (x : List ℕ). octetsAsk w (unhex x) (rooms longestFrame longestBlock)) l
+same w l = rw (restarts-cut l) (asks-cut (bufferQuestions w (roomQuestions (rooms longestFrame longestBlock) (soundQuestions (restartedEnd l) w []))) tt (λ (x : List ℕ). octetsAsk w (unhex x) (rooms longestFrame longestBlock)) l)
 
 pub cuts : Cuts bothEnds
 cuts =
@@ -35,7 +53,7 @@ cuts =
 
 -- A line counts as its normal form, so an input is answered in either case with the same text.
 either-case : (w : Bench) (l : List ℕ) → lineAsks w (normal l) (rooms longestFrame longestBlock) ≡ lineAsks w l (rooms longestFrame longestBlock)
-unfolding lineAsks
+unfolding lineAsks restartedEnd
 either-case w l = rw (asked-alike l, unhex-normal l) refl
 
 pub either-case-text : (input : List ℕ) → inputText bothEnds freshBench (normal input) ≡ inputText bothEnds freshBench input
@@ -51,7 +69,7 @@ unfolding askedWith first when outcome
 asks-with w line out filled h = rw (le-leb answerRoom (length (free out filled)) (free-room out filled answerRoom h)) refl
 
 -- a bench of two fresh ends
-pub both-fresh : {a b log : List ℕ} {count : ℕ} → a ≡ freshRecord → b ≡ freshRecord → benchOf a b log count ≡ benchOf freshRecord freshRecord log count
+pub both-fresh : {a b : Lent} {log : List ℕ} {count : ℕ} → a ≡ freshEnd → b ≡ freshEnd → benchOf a b log count ≡ benchOf freshEnd freshEnd log count
 both-fresh e f = rw (e, f) refl
 
 -- THE theorem, of the program: from fresh ends and an empty log to its end after the end of the input, however the input came in pieces, all that was

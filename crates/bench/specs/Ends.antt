@@ -2,7 +2,7 @@
 use lib.ListN.{replicate}
 use Rattle.octets.specs.Sizes.{longestFrame, longestBlock}
 use Rattle.call_spec.specs.Calls.{rooms}
-use Rattle.link.specs.Lent.{freshRecord}
+use Rattle.link.specs.Lent.{freshEnd}
 use Rattle.bench_log.specs.Log.{logSize}
 use Rattle.bench_spec.specs.Bench.{Bench, benchOf, lineAsks, comes, endOf, benchAfter}
 use Rattle.bench_answer.specs.Text.{benchText}
@@ -17,6 +17,6 @@ bothEnds =
       says = λ w line. benchText w (lineAsks w line (rooms longestFrame longestBlock));
     }
 
--- what it begins with: fresh ends and an empty log
+-- what it begins with: fresh ends on new pages, and an empty log
 abbrev pub freshBench : Bench
-freshBench = benchOf freshRecord freshRecord (replicate logSize 0) 0
+freshBench = benchOf freshEnd freshEnd (replicate logSize 0) 0

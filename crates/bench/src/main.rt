@@ -4,7 +4,9 @@ use line_io::Place;
 ghost use mathlib.Core.Path.{_≡_};
 ghost use Prim.Native.Nat.{_+_, _≤_, _<_};
 ghost use lib.ListN.{length};
-ghost use Rattle.link.specs.Lent.{freshRecord};
+ghost use Rattle.page.specs.Page.{newPage};
+ghost use Rattle.call_spec.specs.Claim.{lent};
+ghost use Rattle.link.specs.Lent.{freshEnd};
 ghost use Rattle.bench_spec.specs.Bench.{benchOf};
 ghost use Rattle.bench_answer.specs.Text.{answerRoom};
 ghost use Rattle.line_io.specs.Place.{PlaceFits};
@@ -16,6 +18,8 @@ ghost use Rattle.bench.specs.Ends.{bothEnds};
 fn answer(
     a: &mut [u8],
     b: &mut [u8],
+    a_page: &mut [u8],
+    b_page: &mut [u8],
     log: &mut [u8],
     count: &mut usize,
     line: &[u8],
@@ -23,9 +27,9 @@ fn answer(
     filled: usize,
 ) -> usize
     requires { ⌜ filled + answerRoom ≤ length (now out) ⌝ }
-    ensures { λ r. ⌜ Replied bothEnds (benchOf (now (a .entry)) (now (b .entry)) (now (log .entry)) (now (count .entry))) (now (line .entry)) (now (out .entry)) filled (benchOf (now (a .exit)) (now (b .exit)) (now (log .exit)) (now (count .exit))) (now (out .exit)) r ⌝ }
+    ensures { λ r. ⌜ Replied bothEnds (benchOf (lent (now (a .entry)) (now («a_page» .entry))) (lent (now (b .entry)) (now («b_page» .entry))) (now (log .entry)) (now (count .entry))) (now (line .entry)) (now (out .entry)) filled (benchOf (lent (now (a .exit)) (now («a_page» .exit))) (lent (now (b .exit)) (now («b_page» .exit))) (now (log .exit)) (now (count .exit))) (now (out .exit)) r ⌝ }
 {
-    let reply = bench_answer::answer(a, b, log, count, line, &mut out[filled..]);
+    let reply = bench_answer::answer(a, b, a_page, b_page, log, count, line, &mut out[filled..]);
     match reply {
         Output::Written(n) => n,
         Output::Refused(_) => 0,
@@ -36,6 +40,8 @@ fn answer(
 fn step(
     a: &mut [u8; link::RECORD_SIZE],
     b: &mut [u8; link::RECORD_SIZE],
+    a_page: &mut [u8; octets::PAGE_SIZE],
+    b_page: &mut [u8; octets::PAGE_SIZE],
     log: &mut [u8; bench_log::LOG_SIZE],
     count: &mut usize,
     buf: &mut [u8; line_io::BUFFER_SIZE],
@@ -44,7 +50,7 @@ fn step(
     p: Place,
 ) -> Place
     requires { ⌜ (PlaceFits p) × (0 < p .steps) ⌝ }
-    ensures { λ r. ⌜ Stepped bothEnds answerRoom (benchOf (now (a .entry)) (now (b .entry)) (now (log .entry)) (now (count .entry))) (now (buf .entry)) (now (line .entry)) (now (out .entry)) p (benchOf (now (a .exit)) (now (b .exit)) (now (log .exit)) (now (count .exit))) (now (buf .exit)) (now (line .exit)) (now (out .exit)) r ⌝ }
+    ensures { λ r. ⌜ Stepped bothEnds answerRoom (benchOf (lent (now (a .entry)) (now («a_page» .entry))) (lent (now (b .entry)) (now («b_page» .entry))) (now (log .entry)) (now (count .entry))) (now (buf .entry)) (now (line .entry)) (now (out .entry)) p (benchOf (lent (now (a .exit)) (now («a_page» .exit))) (lent (now (b .exit)) (now («b_page» .exit))) (now (log .exit)) (now (count .exit))) (now (buf .exit)) (now (line .exit)) (now (out .exit)) r ⌝ }
 {
     let q = line_io::next(buf, line, out, bench_answer::ANSWER_ROOM, p);
     if q.lines == 0 {
@@ -53,6 +59,8 @@ fn step(
     let n = answer(
         a,
         b,
+        a_page,
+        b_page,
         log,
         count,
         line_io::ready(buf, line, q),
@@ -62,23 +70,26 @@ fn step(
     line_io::answered(q, n)
 }
 
-// Two fresh ends, and steps while some are left.
+// Restarts on two new pages, which make two fresh ends, and steps while some are left.
 fn run(
     a: &mut [u8; link::RECORD_SIZE],
     b: &mut [u8; link::RECORD_SIZE],
+    a_page: &mut [u8; octets::PAGE_SIZE],
+    b_page: &mut [u8; octets::PAGE_SIZE],
     log: &mut [u8; bench_log::LOG_SIZE],
     count: &mut usize,
     buf: &mut [u8; line_io::BUFFER_SIZE],
     line: &mut [u8; line_io::LONGEST_KEPT],
     out: &mut [u8; line_io::BUFFER_SIZE],
 ) -> Place
-    ensures { λ r. ⌜ (Ran bothEnds answerRoom (benchOf freshRecord freshRecord (now (log .entry)) (now (count .entry))) (benchOf (now (a .exit)) (now (b .exit)) (now (log .exit)) (now (count .exit))) (now (buf .exit)) (now (line .exit)) (now (out .exit)) r) × (r .steps ≡ 0) ⌝ }
+    requires { ⌜ (now «a_page» ≡ newPage) × (now «b_page» ≡ newPage) ⌝ }
+    ensures { λ r. ⌜ (Ran bothEnds answerRoom (benchOf freshEnd freshEnd (now (log .entry)) (now (count .entry))) (benchOf (lent (now (a .exit)) (now («a_page» .exit))) (lent (now (b .exit)) (now («b_page» .exit))) (now (log .exit)) (now (count .exit))) (now (buf .exit)) (now (line .exit)) (now (out .exit)) r) × (r .steps ≡ 0) ⌝ }
 {
-    link::make_fresh(a);
-    link::make_fresh(b);
+    link::restart(a, a_page);
+    link::restart(b, b_page);
     let mut p = line_io::start();
     while p.steps > 0 {
-        p = step(a, b, log, count, buf, line, out, p);
+        p = step(a, b, a_page, b_page, log, count, buf, line, out, p);
     }
     p
 }
@@ -86,6 +97,8 @@ fn run(
 fn main() {
     let mut a = [0u8; link::RECORD_SIZE];
     let mut b = [0u8; link::RECORD_SIZE];
+    let mut a_page = [page::UNUSED; octets::PAGE_SIZE];
+    let mut b_page = [page::UNUSED; octets::PAGE_SIZE];
     let mut log = [0u8; bench_log::LOG_SIZE];
     let mut count = 0;
     let mut buf = [0u8; line_io::BUFFER_SIZE];
@@ -94,6 +107,8 @@ fn main() {
     run(
         &mut a,
         &mut b,
+        &mut a_page,
+        &mut b_page,
         &mut log,
         &mut count,
         &mut buf,

@@ -19,10 +19,10 @@ use Rattle.call_spec.specs.Answers.{sentIn, blockOf, blockPart}
 use Rattle.endpoint.specs.Record.{recordSize}
 use Rattle.link.specs.declared.Answer.{Answer}
 use Rattle.link.specs.Record.{format}
-use Rattle.link.specs.Lent.{sentOf, answerOf, Called}
+use Rattle.link.specs.Lent.{sentOf, answerOf, Called, lentAfter}
 use Rattle.link.proofs.Answers.{sent-fits, sent-taken}
 use Rattle.bench_log.specs.Log.{places}
-use Rattle.bench_spec.specs.Bench.{sends, logged, callOutcome, logAfter, countAfter, lentAfter}
+use Rattle.bench_spec.specs.Bench.{sends, logged, callOutcome, logAfter, countAfter}
 use Rattle.bench_call.specs.declared.BenchAnswer.{BenchAnswer}
 use Rattle.bench_call.specs.Answer.{blockAt, benchAnswerOf}
 use Rattle.bench_call.specs.Internal.{noted, notedCount, blockPlace, answerFrom, Does}
@@ -106,7 +106,7 @@ module _ (i : ℕ) (l : Lent) (log : List ℕ) (count start : ℕ) (c : Argument
   pub does : Stands start (logAfter i log count o) up′ (blockOf o) → {page′ : List ℕ} → page′ ≡ pageAfter (l .page) o → {log′ : List ℕ} {r : BenchAnswer}
       → r ≡ answerFrom i m start count → log′ ≡ noted i log count (take (m .sent) out′)
       → Does i l log count start (c .call) o out up (lent rec′ page′) log′ out′ up′ r
-  unfolding benchAnswerOf lentAfter
+  unfolding benchAnswerOf
   does h g e k =
       let a = e ∙ ap (λ (x : Answer). answerFrom i x start count) (w .answer) ∙ tells i (l .rec) count start o in
       let d = k ∙ ap (noted i log count) (sent-taken out o (w .buffer) sent-is) ∙ enters i log count o in

@@ -20,7 +20,8 @@ use Rattle.endpoint.specs.Record.{recordSize}
 use Rattle.link.specs.declared.Answer.{Answer}
 use Rattle.link.specs.Record.{format, pagedFor}
 use Rattle.bench_log.specs.Log.{placeSize, places, place}
-use Rattle.bench_spec.specs.Bench.{callOutcome, logAfter, lentAfter}
+use Rattle.bench_spec.specs.Bench.{callOutcome, logAfter}
+use Rattle.link.specs.Lent.{lentAfter}
 use Rattle.bench_call.specs.declared.BenchAnswer.{BenchAnswer}
 use Rattle.bench_call.specs.Answer.{blockAt, benchAnswerOf}
 

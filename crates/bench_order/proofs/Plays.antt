@@ -19,9 +19,9 @@ use Rattle.call_spec.specs.Claim.{Lent, Act, call, restart}
 use Rattle.call_spec.specs.Answers.{blockOf, blockBufferAfter}
 use Rattle.bench_log.specs.Log.{senderAt, frameLogged, holds}
 use Rattle.bench_log.proofs.Log.{held}
-use Rattle.bench_spec.specs.Bench.{Bench, benchOf, lentAt, At, delivery, octetsAsk, restartAsk, restartedBy, neither, endNamed, callOutcome, comes, endOf, logAfter, countAfter, lentAfter, benchAfter, requestOfA, requestOfB, deliver, restartKind}
+use Rattle.bench_spec.specs.Bench.{Bench, benchOf, lentAt, At, delivery, octetsAsk, restartAsk, restartedBy, neither, endNamed, callOutcome, comes, endOf, logAfter, countAfter, benchAfter, requestOfA, requestOfB, deliver, restartKind}
+use Rattle.link.specs.Lent.{lentAfter, answerOf}
 use Rattle.link.specs.declared.Answer.{Answer}
-use Rattle.link.specs.Lent.{answerOf}
 use Rattle.bench_checks.proofs.Passed.{Fit, Passed}
 use Rattle.bench_call.specs.declared.BenchAnswer.{BenchAnswer}
 use Rattle.bench_call.specs.Answer.{blockStart, blockAt, benchAnswerOf}
@@ -52,7 +52,7 @@ module _ (a b : Lent) (log : List ℕ) (count : ℕ) where
   -- a refused line leaves all as it is
   pub declines : {q : Outcome At} (start k : ℕ) (out up : List ℕ) {r : BenchAnswer} → q ≡ refused k → r ≡ benchAnswerOf 0 (a .rec) count start (refused k)
       → Performed w q start out up a b log out up r
-  unfolding comes endOf callOf andThen lentAt benchAfter lentAfter benchAnswerOf recordAfter pageAfter bufferAfter blockBufferAfter mapped left logAfter countAfter blockOf blockAt ifEq when
+  unfolding comes endOf callOf andThen lentAt benchAfter benchAnswerOf recordAfter pageAfter bufferAfter blockBufferAfter mapped left logAfter countAfter blockOf blockAt ifEq when
   declines start k out up e h =
       rw e (record { answer = h; bench = λ i. benchOf a b log (h i .count); buffer = refl; block-buffer = refl; handed = rw h refl })
 

@@ -29,7 +29,8 @@ use Rattle.call_spec.proofs.Lift.{LiesIn, lies}
 use Rattle.link.specs.Record.{format, ends}
 use Rattle.link.proofs.Demand.{lawful, no-end-alone, no-number-twice}
 use Rattle.bench_log.specs.Log.{places, logSize}
-use Rattle.bench_spec.specs.Bench.{Bench, At, lentAt, lineAsks, sends, logged, callOutcome, comes, endOf, logAfter, countAfter, lentAfter, benchAfter}
+use Rattle.bench_spec.specs.Bench.{Bench, At, lentAt, lineAsks, sends, logged, callOutcome, comes, endOf, logAfter, countAfter, benchAfter}
+use Rattle.link.specs.Lent.{lentAfter}
 use Rattle.bench_spec.specs.Run.{LentLine, lineAfter, linesAfter, entry, entriesOf, callsOf, newEnds, newBench, Holds}
 use Rattle.bench_spec.proofs.Sends.{grows, has-sent, encode-short}
 use Rattle.bench_spec.proofs.Logged.{Among, Logged, Grows, still, logs}
@@ -51,7 +52,7 @@ record Beside (w : Bench) (e : Two ends) : Type 0 where
 
 -- a refusal leaves the bench
 refusal : {w : Bench} {e : Two ends} → Beside w e → (i n : ℕ) → Beside (benchAfter i w (refused n)) e
-unfolding benchAfter lentAfter recordAfter pageAfter mapped octets.left logAfter countAfter
+unfolding benchAfter recordAfter pageAfter mapped octets.left logAfter countAfter
 refusal {w} {e} h i n =
     record {
       a = if-eq (λ (x : Lent). x ≡ e .a .rec) i 0 (λ _. h .a) (λ _. h .a);

@@ -11,10 +11,11 @@ use Rattle.hex.specs.Line.{unhex, lineQuestions}
 use Rattle.frame.specs.Read.{kindOf}
 use Rattle.protocol.specs.Table.{Sent, nothing, frame, Step}
 use Rattle.call_spec.specs.declared.Call.the-variants.{Request, Receive}
-use Rattle.call_spec.specs.Calls.{Rooms, given, wire, recordAfter, pageAfter}
-use Rattle.call_spec.specs.Claim.{Lent, lent, Act, call, restart, comesBy}
+use Rattle.call_spec.specs.Calls.{Rooms, given, wire}
+use Rattle.call_spec.specs.Claim.{Lent, Act, call, restart, comesBy}
 use Rattle.page.specs.Page.{runs}
 use Rattle.link.specs.Record.{format, pagedFor}
+use Rattle.link.specs.Lent.{lentAfter}
 use Rattle.bench_log.specs.Log.{placeSize, places, logSize, senderAt, frameLogged, holds, place}
 
 -- two ends with their records and pages, the log, and how many places of it are in use
@@ -152,11 +153,7 @@ unfoldable pub countAfter : ℕ → Outcome Step → ℕ
 countAfter count (refused n) = count
 countAfter count (ok x) = when (sends (x .sent)) (count + 1) count
 
--- the record and the page that this leaves; a restart leaves the page, whose octets reserve its number already
-unfoldable pub lentAfter : Lent → Outcome Step → Lent
-lentAfter r o = lent (recordAfter format (r .rec) o) (pageAfter (r .page) o)
-
--- the bench after a call at end i with this outcome
+-- the bench after a call at end i with this outcome, or its restart, which leaves the page: its octets reserve the number already
 unfoldable pub benchAfter : ℕ → Bench → Outcome Step → Bench
 benchAfter i w o =
     record {

@@ -23,6 +23,7 @@ use Rattle.page.proofs.Laws.{goes-so, goes-last, stays}
 use Rattle.protocol.specs.Endpoint as abstract
 use Rattle.protocol.specs.Endpoint.{lengthsOf}
 use Rattle.protocol.specs.Table.{Step}
+use Rattle.protocol.proofs.Calls.{Next, same-number}
 use Rattle.protocol.proofs.Sound.{length-at}
 use Rattle.call_spec.specs.declared.Call.{Call}
 use Rattle.call_spec.specs.declared.Call.the-variants as call
@@ -46,7 +47,7 @@ use Rattle.endpoint.proofs.Sounds.{by-lt, tidy, tidy-held, lengths-held, facts}
 use Rattle.endpoint_step.specs.declared.StepAnswer.{StepAnswer}
 use Rattle.endpoint_step.specs.Calls.{outcomeOf, stepAnswerOf, Advances}
 use Rattle.endpoint_step.specs.Internal.{joinsQueue, joinsHeld, Plans, PlansAny, placesAfter, InEight, Fits, lengthsAfter, blocksAfter, carried, blockFrom, Handy, handedTo, HandsUp}
-use Rattle.endpoint_step.proofs.Numbers.{Follows, same, local-after}
+use Rattle.endpoint_step.proofs.Numbers.{local-after}
 use Rattle.endpoint_step.proofs.Ready.{ready, Passes, passes}
 use Rattle.endpoint_step.proofs.HeldPlaces.{held-lengths-after, held-blocks-after}
 
@@ -219,11 +220,10 @@ page-is a page (refused n) h = stays (a .local) page h
 page-is a page (ok x) h = refl
 
 -- the number left by a call that has passed 11, 12 and 15
-follows : (a : abstract.Endpoint) (o : Outcome Step) → ((x : Step) → o ≡ ok x → Follows (a .local) (x .endpoint .local))
-    → Follows (a .local) (endpointAfter a o .local)
+next : (a : abstract.Endpoint) (o : Outcome Step) → ((x : Step) → o ≡ ok x → Next a (x .endpoint)) → Next a (endpointAfter a o)
 unfolding endpointAfter
-follows a (refused n) h = same refl
-follows a (ok x) h = h x refl
+next a (refused n) h = same-number refl
+next a (ok x) h = h x refl
 
 -- the parts of an accepted answer
 accepted-is : (e : Endpoint) (o : Outcome Step) → numberOf o ≡ 0
@@ -288,20 +288,19 @@ module _ (e : Endpoint) (long : Long e) (page : List ℕ) (c : Arguments) {p : P
     unfolding view
     local-is = ap (λ (a : abstract.Endpoint). a .local) (w .endpoint)
 
-    local-follows : Follows (e .local) (p .numbers .local)
+    local-next : Next (view e) (endpointAfter (view e) o)
     unfolding outcomeOf asked view
-    local-follows =
-        subst (Follows (e .local)) (sym local-is)
-        (follows (view e) o (λ x h. local-after (c .call) (c .octets) (view e) x (passing (first (ownQuestions (sound e) (e .local) page c)) h .1)))
+    local-next =
+        next (view e) o (λ x h. local-after (view e) (c .call) (c .octets) (passing (first (ownQuestions (sound e) (e .local) page c)) h .1))
 
     pub reservable : ((pageSize ≤ length page) × (runs page ≡ true))
         × ((p .numbers .local ≤ lastIncarnation) × (p .numbers .local ≤ numbersEach * pages.count page + numbersEach))
+    unfolding view
     reservable =
         let g = goes-so (e .local) page (passed .goes) in
-        let l = local-follows in (
-          (passed .page-long, g .0),
-          (l .1 .1 (goes-last (e .local) page (passed .page-long) (passed .goes)), omega arith),
-        )
+        let l = local-next in
+        let n = l .left (goes-last (e .local) page (passed .page-long) (passed .goes)) in
+        ((passed .page-long, g .0), (omega (arith, local-is, n), omega (arith, local-is, l .most)))
 
     -- and reserving it is what the call leaves of the page
     pub reserves : {page′ : List ℕ} → page′ ≡ reserving (p .numbers .local) page → page′ ≡ pageAfter page o

@@ -2,18 +2,17 @@
 use Prim.Native.Nat.{ℕ, _+_, _≤_}
 use mathlib.Core.Path.{_≡_, refl, ap, _∙_}
 use mathlib.Core.List.{List, [], _∷_}
-use lib.ListN.{length, replicate}
-use Rattle.octets.specs.Sizes.{pageSize}
+use lib.ListN.{length}
 use Rattle.octets.specs.Test.{ok}
 use Rattle.hex.specs.Line.{unhex, normal}
 use Rattle.hex.proofs.Normal.{asked-alike, unhex-normal}
-use Rattle.page.specs.Page.{unused, pageOf, newPage}
 use Rattle.call_spec.specs.Calls.{performed}
 use Rattle.call_spec.specs.Claim.{Lent, lent}
 use Rattle.link.specs.Record.{format}
 use Rattle.answer_text.specs.declared.Output.{Output}
 use Rattle.answer_text.specs.Text.{answerRoom}
-use Rattle.line_answer.specs.Line.{lineCall, readyOutcome, lineOutcome, lentAfter}
+use Rattle.link.specs.Lent.{lentAfter, freshEnd}
+use Rattle.line_answer.specs.Line.{lineCall, readyOutcome, lineOutcome}
 use Rattle.line_answer.specs.Text.{text, inRoom, recordLeft, pageLeft, LineAnswered}
 use Rattle.line_answer.proofs.Lines.{in-room}
 use Rattle.line_answer.proofs.Runs.{Holds, fresh-holds, stays-put, line-leaves}
@@ -25,12 +24,7 @@ use Rattle.line_io.specs.Program.{Ran, Over, concat}
 use Rattle.line_io.proofs.Answers.{input-normal}
 use Rattle.line_io.proofs.Steps.{free, free-room}
 use Rattle.line_io.proofs.Program.{program-run}
-use Rattle.line.specs.Ends.{oneEnd, freshEnd, others}
-
--- an array of FF is a new page
-pub all-unused : replicate pageSize unused ≡ newPage
-unfolding pageOf
-all-unused = refl
+use Rattle.line.specs.Ends.{oneEnd, others}
 
 -- A line counts as what is kept of it.
 asks-alike : (rec page l : List ℕ) → readyOutcome rec page (cut l) ≡ readyOutcome rec page l

@@ -1,14 +1,13 @@
 -- What answers the lines of the line program: one end.
 use Prim.Native.Nat.{ℕ}
 use mathlib.Core.List.{List, [], _∷_}
-use Rattle.page.specs.Page.{newPage}
-use Rattle.call_spec.specs.Claim.{Lent, lent}
-use Rattle.link.specs.Lent.{freshRecord}
-use Rattle.line_answer.specs.Line.{lineOutcome, lentAfter}
+use Rattle.call_spec.specs.Claim.{Lent}
+use Rattle.link.specs.Lent.{lentAfter}
+use Rattle.line_answer.specs.Line.{lineOutcome}
 use Rattle.line_answer.specs.Text.{text}
 use Rattle.line_io.specs.Answering.{Answering}
 
--- Its state is the record and the page. A line's text is that of its outcome.
+-- Its state is the record and the page; each start of the program begins with freshEnd. A line's text is that of its outcome.
 abbrev pub oneEnd : Answering
 oneEnd =
     record {
@@ -16,10 +15,6 @@ oneEnd =
       next = λ r line. lentAfter r (lineOutcome (r .rec) (r .page) line);
       says = λ r line. text (r .rec) (lineOutcome (r .rec) (r .page) line);
     }
-
--- Each start of the program begins with a fresh record and a new page.
-abbrev pub freshEnd : Lent
-freshEnd = lent freshRecord newPage
 
 -- the lines that have a character, which are all but those that ask how the end stands (document 02, N5)
 unfoldable pub others : List (List ℕ) → List (List ℕ)

@@ -7,10 +7,11 @@ ghost use lib.ListN.{length};
 ghost use Rattle.page.specs.Page.{newPage};
 ghost use Rattle.call_spec.specs.Claim.{lent};
 ghost use Rattle.answer_text.specs.Text.{answerRoom};
+ghost use Rattle.link.specs.Lent.{freshEnd};
 ghost use Rattle.line_io.specs.Place.{PlaceFits};
 ghost use Rattle.line_io.specs.Step.{Replied, Stepped};
 ghost use Rattle.line_io.specs.Program.{Ran};
-ghost use Rattle.line.specs.Ends.{oneEnd, freshEnd};
+ghost use Rattle.line.specs.Ends.{oneEnd};
 
 // Answers a line into the free part of out; how many characters the answer has.
 fn answer(rec: &mut [u8], page: &mut [u8], line: &[u8], out: &mut [u8], filled: usize) -> usize

@@ -21,10 +21,10 @@ use Rattle.call_spec.proofs.Holding.{keeps}
 use Rattle.call_spec.proofs.Lift.{LiesIn, holding, asks, lies}
 use Rattle.link.specs.Record.{format, recordQuestions}
 use Rattle.link.specs.Record as link
-use Rattle.link.specs.Lent.{stands}
+use Rattle.link.specs.Lent.{stands, lentAfter}
 use Rattle.link.proofs.Stays.{is-ready}
 use Rattle.link.proofs.Demand.{lawful}
-use Rattle.line_answer.specs.Line.{lineCall, readyOutcome, lineOutcome, lentAfter}
+use Rattle.line_answer.specs.Line.{lineCall, readyOutcome, lineOutcome}
 use Rattle.line_answer.specs.Claim.{saidIn, ends}
 use Rattle.line_answer.proofs.Lines.{asks-standing}
 use Rattle.line_answer.proofs.Runs.{stays-put}

@@ -14,10 +14,10 @@ use Rattle.call_spec.specs.Calls.{performed, recordAfter, pageAfter}
 use Rattle.call_spec.specs.Claim.{Lent, lent}
 use Rattle.call_spec.proofs.Holding.{Holding}
 use Rattle.link.specs.Record.{format, recordQuestions}
-use Rattle.link.specs.Lent.{freshRecord}
+use Rattle.link.specs.Lent.{freshRecord, lentAfter}
 use Rattle.link.proofs.Stays.{fresh-holding, in-octets, goes-on, is-ready}
 use Rattle.link.proofs.Standing.{stands-still}
-use Rattle.line_answer.specs.Line.{lineCall, readyOutcome, lineOutcome, lentAfter}
+use Rattle.line_answer.specs.Line.{lineCall, readyOutcome, lineOutcome}
 use Rattle.line_answer.proofs.Lines.{asks-standing, asked-of, page-still}
 
 abbrev pub Holds : Lent → Type 0

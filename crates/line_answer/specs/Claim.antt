@@ -11,7 +11,8 @@ use Rattle.call_spec.specs.Calls.{said}
 use Rattle.call_spec.specs.Claim.{Lent, call, Due}
 use Rattle.link.specs.Record.{format}
 use Rattle.link.specs.Record as link
-use Rattle.line_answer.specs.Line.{lineCall, lineOutcome, lentAfter}
+use Rattle.link.specs.Lent.{lentAfter}
+use Rattle.line_answer.specs.Line.{lineCall, lineOutcome}
 
 -- The call of the protocol that a line says: 1 and 2 of the line, then 3 to 7. An empty line says none, 1 refuses it: how an end stands is no call of the
 -- list, and leaves no trace in the history (document 02, N5).

@@ -9,8 +9,7 @@ use Rattle.frame.specs.Read.{kindOf}
 use Rattle.protocol.specs.Table.{Step}
 use Rattle.call_spec.specs.declared.Call.{Call}
 use Rattle.call_spec.specs.declared.Call.the-variants.{Request, Receive}
-use Rattle.call_spec.specs.Calls.{Arguments, given, rooms, performed, recordAfter, pageAfter}
-use Rattle.call_spec.specs.Claim.{Lent, lent}
+use Rattle.call_spec.specs.Calls.{Arguments, given, rooms, performed}
 use Rattle.link.specs.Record.{format, recordQuestions}
 use Rattle.link.specs.Lent.{stands}
 
@@ -31,7 +30,3 @@ readyOutcome rec page (c ∷ line) = refusing (first (lineQuestions (c ∷ line)
 -- 11, 12 and 15 of the record and its page (N6) come first.
 unfoldable pub lineOutcome : List ℕ → List ℕ → List ℕ → Outcome Step
 lineOutcome rec page line = refusing (first (recordQuestions rec page)) (readyOutcome rec page line)
-
--- The record and the page that an outcome leaves.
-abbrev pub lentAfter : Lent → Outcome Step → Lent
-lentAfter r o = lent (recordAfter format (r .rec) o) (pageAfter (r .page) o)

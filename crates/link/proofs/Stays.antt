@@ -28,10 +28,11 @@ use Rattle.endpoint.proofs.Packs.{pack-view}
 use Rattle.endpoint.proofs.Record.{encode-decode}
 use Rattle.endpoint.proofs.Sounds.{tidy, tidy-held, view-sound}
 use Rattle.endpoint_step.proofs.Ready as ready
+use Rattle.endpoint_step.proofs.Numbers.{receive-local}
 use Rattle.endpoint_step.proofs.Laws.{InOctets, accepts}
 use Rattle.call_spec.specs.declared.Call.{Call}
 use Rattle.call_spec.specs.declared.Call.the-variants.{Request, Receive}
-use Rattle.call_spec.specs.Calls.{Arguments, performed, recordAfter, pageAfter}
+use Rattle.call_spec.specs.Calls.{Arguments, Rooms, given, ownQuestions, asked, performed, recordAfter, pageAfter}
 use Rattle.call_spec.specs.Claim.{lent, Passes}
 use Rattle.call_spec.proofs.Holding.{Holding, long, passes, keeps, page-enough, goes, passes-both, leaves}
 use Rattle.link.specs.Record.{format, pagedFor, recordQuestions}
@@ -96,6 +97,17 @@ goes-on {rec} {page} {e} k c i (ok x) h =
     (subst LeavesSound p (call-sound (a .call) e (k .is-sound) (a .readable)))
     (subst LeavesBounded p (call-bounded (a .call) e (k .is-sound) (k .bounded) (a .readable)))
     (subst (λ (o : Outcome Step). Next e (endpointLeft e o)) p (next-on (a .call) e))
+
+-- Receiving leaves the page: no number is begun, and the one at hand is reserved.
+pub receive-stays : (rec page s : List ℕ) (r : Rooms) (o : Outcome Step) → performed format rec page (given Receive s r) ≡ o → pageAfter page o ≡ page
+unfolding performed asked numberOf pageAfter
+receive-stays rec page s r (refused n) h = refl
+receive-stays rec page s r (ok x) h =
+    let c = given Receive s r in
+    let k = passing (first ((11, _) ∷ [])) h .1 in
+    let q = ready.passes (format .sound rec) page (format .holds rec) c (ap numberOf k) in
+    let l = receive-local (format .holds rec) s (passing (first (ownQuestions (format .sound rec) (format .holds rec .local) page c)) k .1) in
+    stays (x .endpoint .local) page (omega (arith, l, goes-so (format .holds rec .local) page (q .goes) .1))
 
 -- what an accepted call leaves passes 12 and 15
 pub stays-sound : (rec page : List ℕ) → Octets rec → (c : Arguments) → InOctets (c .call) (c .octets) → {x : Step} → performed format rec page c ≡ ok x

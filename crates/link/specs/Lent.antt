@@ -5,9 +5,11 @@ use mathlib.Core.List.{List}
 use lib.Dec.{leb}
 use lib.ListN.{length}
 use Rattle.octets.specs.Test.{when, Outcome, refused, ok, numberOf}
+use Rattle.page.specs.Page.{newPage}
 use Rattle.protocol.specs.Endpoint.{fresh}
 use Rattle.protocol.specs.Table.{none, Step, quiet}
 use Rattle.call_spec.specs.declared.Call.{Call}
+use Rattle.call_spec.specs.Claim.{Lent, lent}
 use Rattle.call_spec.specs.Answers.{noticeOf, blockOf, blockPart, blockBufferAfter}
 use Rattle.endpoint.specs.declared.Endpoint.{Endpoint}
 use Rattle.endpoint.specs.View.{pack}
@@ -52,6 +54,10 @@ pub record Called (c : Call) (o : Outcome Step) (rec s out up rec′ out′ up�
 abbrev pub lentCall : Call → List ℕ → List ℕ → List ℕ → Arguments
 lentCall c s out up = given c s (rooms (length out) (length up))
 
+-- the record and the page that an outcome leaves
+abbrev pub lentAfter : Lent → Outcome Step → Lent
+lentAfter r o = lent (recordAfter format (r .rec) o) (pageAfter (r .page) o)
+
 -- of a record and its page: what it comes to
 abbrev pub lentOutcome : Call → List ℕ → List ℕ → List ℕ → List ℕ → List ℕ → Outcome Step
 lentOutcome c rec page s out up = performed format rec page (lentCall c s out up)
@@ -73,3 +79,7 @@ answerIn number state notice local remote sent block =
 -- a fresh record: what a restart on a new page leaves
 abbrev pub freshRecord : List ℕ
 freshRecord = format .octets fresh
+
+-- and a fresh end: such a record on a new page
+abbrev pub freshEnd : Lent
+freshEnd = lent freshRecord newPage

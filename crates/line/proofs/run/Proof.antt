@@ -1,17 +1,13 @@
-use mathlib.Core.Path.{ap, _∙_}
 use borrow.Author.Needs.{needs}
 use denote.Ref.{now}
 use native.Mathlib.Omega.{arith}
-use mathlib.Core.List.{List}
-use Prim.Native.Nat.{ℕ}
-use Rattle.call_spec.specs.Calls.{restartedIn, recordAfter}
 use Rattle.call_spec.specs.Claim.{lent}
-use Rattle.link.specs.Record.{format}
-use Rattle.link.proofs.Fresh.{fresh-is}
+use Rattle.link.specs.Lent.{freshEnd}
+use Rattle.link.proofs.Fresh.{end-fresh}
 use Rattle.answer_text.specs.Text.{answerRoom}
 use Rattle.line_io.specs.Program.{Ran}
 use Rattle.line_io.proofs.Program.{ran-none, ran-more, ran-fits}
-use Rattle.line.specs.Ends.{oneEnd, freshEnd}
+use Rattle.line.specs.Ends.{oneEnd}
 use Rattle.line.proofs.run.Statement.{statement}
 use Rattle.line.proofs.run.Tie as tie
 
@@ -25,9 +21,7 @@ loop-holds : tie.Need-loop-holds Inv-loop μ-loop
 loop-holds c =
     let s = c .before .before .before .before .before in
     let a = s .args in
-    let p = c .before .restart .ensures .end ∙ ap (λ (x : List ℕ). recordAfter format (now (a .rec)) (restartedIn format (now (a .rec)) x)) (s .pre) ∙ fresh-is _ (omega arith) in
-    let q = s .pre in
-    ran-none (now (a .buf)) (now (a .line)) (now (a .out)) (λ i. record { rec = p i; page = q i }) (c .start .ensures)
+    ran-none (now (a .buf)) (now (a .line)) (now (a .out)) (end-fresh (c .before .restart .ensures) (omega arith) (s .pre)) (c .start .ensures)
 
 pub run-spec : {M : Type 1} → statement M
 run-spec =
