@@ -74,21 +74,22 @@ struct message {
     uint32_t at;               /* of STORING: which byte of the page */
 };
 
-#define TIMEOUT 2000   /* until a timer call */
-#define STAY 6000      /* a dock stays closed for so long at most: so that a partner who still sends hears that it is closed */
-#define PATIENCE 20000 /* it calls or listens for so long, and stays open for so long without hearing anything */
-#define DAWDLE 800     /* it dawdles for so long at most, around the store: so that many cuts fall there */
-#define BLOCKS 60      /* blocks that it sends in an incarnation, at most */
-#define AT_ONCE 32     /* messages that are read before the clock is looked at again */
+#define TIMEOUT 2000 /* until a timer call, and until a dock that has nothing to do looks around again */
+#define STAY 3       /* a dock stays closed for so many TIMEOUTs at most: so that a partner who still sends hears that it is closed */
+#define PATIENCE 25  /* it calls or listens, or stays open without hearing anything, for so many at most, */
+#define AT_LEAST 5   /* and for so many at least */
+#define DAWDLE 800   /* it dawdles for so long at most, around the store: so that many cuts fall there */
+#define BLOCKS 60    /* blocks that it sends in an incarnation, at most */
+#define AT_ONCE 32   /* messages that are read before the clock is looked at again */
 
 struct dock {
     /* What the program gives it. */
     int socket;
-    int directory;    /* where its page is, */
-    const char *name; /* in a file of this name */
-    const char *draft;
-    uint32_t calls;   /* so many of a hundred times it calls; else it listens */
-    int forget, late; /* the two ways to do it wrong */
+    int directory;     /* where its page is, */
+    const char *name;  /* in a file of this name; */
+    const char *draft; /* a new one has this name until it is whole */
+    uint32_t calls;    /* so many of a hundred times it calls; else it listens */
+    int forget, late;  /* the two ways to do it wrong */
     uint64_t seed;
 
     /* How it stands. */
@@ -97,9 +98,9 @@ struct dock {
     uint8_t state;
     unsigned waiting;  /* how many blocks wait for their acknowledgement */
     uint32_t left;     /* blocks still to be sent in this incarnation */
+    uint32_t patience; /* how often it will look around in vain; 0: it has had enough of its state */
     int64_t now;
-    int64_t timer_at;  /* when the timer call is due */
-    int64_t leaves_at; /* when it has had enough of its state */
+    int64_t due; /* when it looks around, and makes a timer call if that would send something */
 };
 
 /* Tells the driver. If that is gone the dock ends too. */
@@ -139,8 +140,7 @@ static void give_up(const struct dock *d, const char *why) {
 }
 
 static void dawdle(struct dock *d) {
-    if (below(&d->seed, 2) == 0)
-        nap(below(&d->seed, DAWDLE));
+    nap(below(&d->seed, DAWDLE));
 }
 
 /* The first start of all: there is no page yet. It gets its name only when it is whole and synced, so that a cut leaves either no page,
@@ -181,12 +181,18 @@ static void store(struct dock *d, uint8_t request, const dock_answer *a) {
     dawdle(d);
 }
 
+/* How long it will stay in its state. It counts its own looks, not the time: so it is as patient as the machine is busy. */
+static void have_patience(struct dock *d) {
+    if (d->state == DOCK_CLOSED)
+        d->patience = below(&d->seed, 1 + STAY);
+    else
+        d->patience = AT_LEAST + below(&d->seed, 1 + PATIENCE - AT_LEAST);
+}
+
 /* When the end has got into another state: how long it stays there, and how much it will send. */
 static void enter(struct dock *d, uint8_t state) {
     d->state = state;
-    d->leaves_at = d->now + PATIENCE;
-    if (state == DOCK_CLOSED)
-        d->leaves_at = d->now + (below(&d->seed, 2) == 0 ? below(&d->seed, STAY) : 0);
+    have_patience(d);
     if (state == DOCK_OPEN)
         d->left = 1 + below(&d->seed, BLOCKS);
 }
@@ -210,7 +216,7 @@ static void obey(struct dock *d, uint8_t request, const dock_answer *a) {
     if (stores && d->late)
         store(d, request, a);
     if (a->state != d->state || waiting != d->waiting)
-        d->timer_at = d->now + TIMEOUT;
+        d->due = d->now + TIMEOUT;
     if (a->state != d->state)
         enter(d, a->state);
     d->waiting = waiting;
@@ -231,7 +237,8 @@ static void hear(struct dock *d, const uint8_t *frame, size_t len) {
         give_up(d, dock_number_name(a.number));
     if (d->state == DOCK_OPEN && frame[0] == DOCK_REJ && a.notice == DOCK_CLOSED_BY_PARTNER)
         tell(d, HEALED, &a, NULL, 0);
-    d->leaves_at = d->state == DOCK_OPEN ? d->now + PATIENCE : d->leaves_at;
+    if (d->state == DOCK_OPEN)
+        have_patience(d);
     obey(d, 0, &a);
     while (a.block > 0) {
         a = dock_collect(&d->end);
@@ -268,41 +275,36 @@ static void send_more(struct dock *d) {
     }
 }
 
-/* In these states a timer call sends something. */
-static int needs_timer(const struct dock *d) {
-    return d->state == DOCK_CALLING || d->state == DOCK_ANSWERING || d->state == DOCK_CLOSING || d->waiting > 0;
-}
-
-static void look_at_clock(struct dock *d) {
-    if (!needs_timer(d) || d->now < d->timer_at)
+/* Looks around: nothing has moved for a while. In some states a timer call sends something then, and it does no harm in the others. */
+static void look_around(struct dock *d) {
+    if (d->now < d->due)
         return;
-    d->timer_at = d->now + TIMEOUT;
+    d->due = d->now + TIMEOUT;
+    d->patience -= d->patience > 0;
     ask(d, DOCK_TIMER);
 }
 
 /* What a dock does by itself. An end that is open and hears nothing for long has a partner who may have restarted and begun something
- * new, without a word about it: so it closes. One that is answering or closing needs no patience: its partner, restarted or not, ends it. */
+ * new, without a word about it: so it closes. One that is answering or closing needs no patience: its partner, restarted or not,
+ * ends it. */
 static void act(struct dock *d) {
-    int enough = d->now >= d->leaves_at;
     if (d->state == DOCK_OPEN)
         send_more(d);
-    if (d->state == DOCK_OPEN && (enough || (d->left == 0 && d->waiting == 0)))
+    if (d->state == DOCK_OPEN && (d->patience == 0 || (d->left == 0 && d->waiting == 0)))
         ask(d, DOCK_CLOSE);
-    else if (d->state == DOCK_CALLING && enough)
+    else if (d->state == DOCK_CALLING && d->patience == 0)
         ask(d, DOCK_CLOSE);
-    else if (d->state == DOCK_LISTENING && enough)
+    else if (d->state == DOCK_LISTENING && d->patience == 0)
         ask(d, DOCK_END_LISTENING);
-    else if (d->state == DOCK_CLOSED && enough)
+    else if (d->state == DOCK_CLOSED && d->patience == 0)
         ask(d, below(&d->seed, 100) < d->calls ? DOCK_CONNECT : DOCK_LISTEN);
 }
 
-/* Sleeps until a frame is there, or the dock has to do something by itself. */
+/* Sleeps until a frame is there, or it is time to look around. */
 static void wait_for_frame(const struct dock *d) {
     struct pollfd p = {.fd = d->socket, .events = POLLIN};
-    int64_t next = needs_timer(d) && d->timer_at < d->leaves_at ? d->timer_at : d->leaves_at;
-    int64_t left = next - clock_now();
-    left = left < PATIENCE ? left : PATIENCE;
-    (void)poll(&p, 1, left > 0 ? (int)((left + 999) / 1000) : needs_timer(d));
+    int64_t left = d->due - clock_now();
+    (void)poll(&p, 1, left > 0 ? (int)((left + 999) / 1000) : 0);
 }
 
 /* A life, from one cut to the next. A closed end does nothing in a timer call, but tells its number. */
@@ -313,11 +315,11 @@ static void live(struct dock *d) {
     d->now = clock_now();
     enter(d, DOCK_CLOSED);
     for (;;) {
+        act(d);
         wait_for_frame(d);
         d->now = clock_now();
         hear_all(d);
-        look_at_clock(d);
-        act(d);
+        look_around(d);
     }
 }
 
@@ -366,12 +368,12 @@ static void carry(struct mesh *mesh, uint64_t *seed, const uint8_t *bytes, size_
  * They go by what came out of the docks, in the order in which it came.
  *
  * Numbers: every frame of an end carries its L. A restarted end is closed, with an L that is not below any number used before; it may be
- * the last of them, where that was the last one reserved. It says so in REJ and DRACK, which a closed end sends. All other frames are of an
- * incarnation begun in this life, and its number is above all that came before.
+ * the last of them, where that was the last one reserved. It says so in REJ and DRACK, which a closed end sends. All other frames are of
+ * an incarnation begun in this life, and its number is above all that came before.
  *
- * Blocks: what an incarnation hands up is, block by block, what its partner accepted for it. A dock tells of a block before the frame goes
- * out that has it, so the driver has heard of it before it can come up; what was accepted and not told went to nobody. What was handed up
- * and not told is the last thing of its life, and of its incarnation.
+ * Blocks: what an incarnation hands up is, block by block, what its partner accepted for it. A dock tells of a block before the frame
+ * goes out that has it, so the driver has heard of it before it can come up; what was accepted and not told went to nobody. What was
+ * handed up and not told is the last thing of its life, and of its incarnation.
  */
 
 #define NUMBERS (DOCK_PAGE * DOCK_NUMBERS_EACH)
@@ -393,9 +395,9 @@ struct incarnation {
 /* What was seen of one end. */
 struct history {
     const char *name;
-    uint32_t before;  /* the highest number that came in its earlier lives, */
-    uint32_t highest; /* and in all */
-    uint32_t begun;   /* the incarnation begun last in this life, 0: none was */
+    uint32_t before;                  /* the highest number that came in its earlier lives, */
+    uint32_t highest;                 /* and in all */
+    uint32_t begun;                   /* the incarnation begun last in this life, 0: none was */
     struct incarnation *incarnations; /* by number */
     struct block *blocks;
     size_t blocks_len, blocks_room;
@@ -450,13 +452,14 @@ static void check_frame(struct history *h, const uint8_t *frame) {
 /* The partner's incarnation was begun, one of the two by a call, and if that one has opened too, it was toward this one. */
 static void check_opened(struct history *h, const struct history *partner, const struct message *m) {
     const struct incarnation *other = &partner->incarnations[m->remote <= NUMBERS ? m->remote : 0];
-    if (m->local != h->begun)
+    struct incarnation *own = &h->incarnations[h->begun];
+    if (h->begun == 0 || m->local != h->begun)
         find(h, "an incarnation opened that was not begun", m->local);
-    else if (other->request == 0 || (other->request == DOCK_LISTEN && h->incarnations[m->local].request == DOCK_LISTEN) ||
+    else if (other->request == 0 || (other->request == DOCK_LISTEN && own->request == DOCK_LISTEN) ||
              (other->remote != 0 && other->remote != m->local))
         find(h, "an end opened without its partner", m->remote);
-    h->incarnations[h->begun].remote = m->remote;
-    h->incarnations[h->begun].first = h->blocks_len;
+    own->remote = m->remote;
+    own->first = h->blocks_len;
     h->opened++;
 }
 
@@ -505,8 +508,10 @@ static void check_handed_up(struct history *h, const struct history *partner, co
     h->handed_up++;
 }
 
-/* One message of a dock. */
+/* One message of a dock. When something is wrong already, nothing that comes after it can be relied on. */
 static void check(struct history *h, const struct history *partner, const struct message *m) {
+    if (wrong != NULL)
+        return;
     if (m->what == STARTED)
         check_started(h, m);
     else if (m->what == BEGUN)
@@ -536,15 +541,16 @@ static void end_life(struct history *h) {
  * near a store, where they matter most.
  */
 
-#define LIFE 400           /* messages of a long life, at most, */
-#define SHORT_LIFE 12      /* and of a short one; one in four is short */
-#define LIFE_TIME 300000   /* no life lasts longer */
-#define MOMENT 600         /* until the cut, at most */
-#define DURING_STORE 6     /* one in so many stores is cut, */
-#define AFTER_STORE 3      /* and one in so many others just after it */
-#define OFF 8000           /* the power is off for so long, at most */
-#define AFTERWARDS 20000000 /* after the last cut both have to connect again within so long */
-#define LIMIT_TIME 120000000
+#define LIFE 600             /* messages of a long life, at most, */
+#define SHORT_LIFE 12        /* and of a short one; one in four is short */
+#define LIFE_TIME 500000     /* no life lasts longer */
+#define MOMENT 400           /* until the cut, at most */
+#define STORE (3 * DAWDLE)   /* a store takes so long, or longer */
+#define DURING_STORE 4       /* one in so many stores is cut, */
+#define AFTER_STORE 3        /* and one in so many others just after it */
+#define OFF 8000             /* the power is off for so long, at most */
+#define AFTERWARDS 20000000  /* after the last cut both have to connect again within so long */
+#define LIMIT_TIME 240000000 /* and all of it must not take longer */
 
 /* How the program was called. */
 struct options {
@@ -562,9 +568,9 @@ struct side {
     int64_t starts_at; /* when the power comes back */
     int64_t ends_at;
     uint32_t messages, life; /* of this life, and how many it is to have */
-    int storing;       /* the dock is about to store a byte of its page, */
-    uint32_t at;       /* this one */
-    int unsent;        /* it has stored one, and the frame of its call has not come */
+    int storing;             /* the dock is about to store a byte of its page, */
+    uint32_t at;             /* this one */
+    int unsent;              /* it has stored one, and the frame of its call has not come */
 };
 
 struct test {
@@ -683,8 +689,9 @@ static void stop(struct test *t, struct side *s) {
     close_file(&s->socket);
 }
 
-static void cut(struct test *t, struct side *s) {
-    nap(below(&t->seed, 1 + below(&t->seed, MOMENT)));
+/* Cuts the power, within this moment. */
+static void cut(struct test *t, struct side *s, uint32_t moment) {
+    nap(below(&t->seed, moment));
     stop(t, s);
     t->cuts++;
     t->cuts_storing += s->storing != 0;
@@ -696,10 +703,15 @@ static void cut(struct test *t, struct side *s) {
     s->starts_at = clock_now() + below(&t->seed, OFF);
 }
 
-/* Is it time to cut this dock's power? */
-static int is_cut(struct test *t, const struct side *s, const struct message *m) {
-    return t->cuts < t->options->cuts && (s->messages > s->life || (m->what == STORING && below(&t->seed, DURING_STORE) == 0) ||
-                                          (m->what == STORED && below(&t->seed, AFTER_STORE) == 0));
+/* Is it time to cut this dock's power, after this message? The moment within which that is, or 0. */
+static uint32_t moment_after(struct test *t, const struct side *s, const struct message *m) {
+    if (t->cuts == t->options->cuts)
+        return 0;
+    if (m->what == STORING && below(&t->seed, DURING_STORE) == 0)
+        return STORE;
+    if (m->what == STORED && below(&t->seed, AFTER_STORE) == 0)
+        return MOMENT;
+    return s->messages > s->life ? MOMENT : 0;
 }
 
 /* Hears a dock, as far as it has said something, and cuts its power when it is time. */
@@ -708,11 +720,12 @@ static void attend(struct test *t, struct side *s) {
     int came = 1;
     for (int i = 0; i < AT_ONCE && wrong == NULL && s->pid > 0 && (came = next_message(s, &m)) > 0; i++) {
         take_message(t, s, &m);
-        if (is_cut(t, s, &m))
-            cut(t, s);
+        uint32_t moment = moment_after(t, s, &m);
+        if (moment > 0)
+            cut(t, s, moment);
     }
     if (wrong == NULL && s->pid > 0 && (came < 0 || (t->cuts < t->options->cuts && clock_now() > s->ends_at)))
-        cut(t, s);
+        cut(t, s, MOMENT);
     if (wrong == NULL && s->pid == 0 && clock_now() >= s->starts_at)
         start(t, s);
 }
@@ -725,10 +738,20 @@ static void wait_for_messages(const struct test *t) {
     (void)poll(p, 2, 1);
 }
 
+/* Whoever stops the program shall leave no dock and no file behind. */
+static volatile sig_atomic_t is_stopped;
+
+static void stop_soon(int signal_number) {
+    (void)signal_number;
+    is_stopped = 1;
+}
+
 static void turn(struct test *t) {
     wait_for_messages(t);
     for (int i = 0; i < 2; i++)
         attend(t, &t->sides[i]);
+    if (is_stopped)
+        find(&t->sides[0].seen, "it was stopped", 0);
     if (clock_now() > t->limit)
         find(&t->sides[0].seen, "it took too long", 0);
 }
@@ -836,9 +859,10 @@ static int read_options(int argc, char **argv, struct options *o) {
 }
 
 int main(int argc, char **argv) {
-    static struct test t = {.sides = {{.seen = {.name = "dock"}, .page = "dock.page", .draft = "dock.new", .calls = 75, .socket = -1},
-                                      {.seen = {.name = "stock room"}, .page = "stock.page", .draft = "stock.new", .calls = 25, .socket = -1}},
-                            .directory = -1};
+    static struct test t = {
+        .sides = {{.seen = {.name = "dock"}, .page = "dock.page", .draft = "dock.new", .calls = 75, .socket = -1},
+                  {.seen = {.name = "stock room"}, .page = "stock.page", .draft = "stock.new", .calls = 25, .socket = -1}},
+        .directory = -1};
     struct options o = {.seed = 1, .cuts = 300};
     int well = 0;
     if (!read_options(argc, argv, &o)) {
@@ -847,6 +871,8 @@ int main(int argc, char **argv) {
     }
     /* Whoever started this may have set it to be ignored: then the end of a child would not be told. */
     signal(SIGCHLD, SIG_DFL);
+    signal(SIGINT, stop_soon);
+    signal(SIGTERM, stop_soon);
     t.options = &o;
     t.seed = (2 * o.seed + 1) * 0x9e3779b97f4a7c15; /* far apart for numbers that are near each other, and never 0 */
     t.limit = clock_now() + LIMIT_TIME;
