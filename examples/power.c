@@ -783,7 +783,7 @@ static int is_enough(const struct test *t) {
                 t->cuts, t->cuts_storing, t->cuts_unsent, t->put_back, t->lives, a->highest, b->highest, a->opened + b->opened,
                 a->healed + b->healed, t->frames, a->blocks_len + b->blocks_len, a->handed_up + b->handed_up);
     return 6 * (a->opened + b->opened) >= t->cuts && 3 * (a->handed_up + b->handed_up) >= 10 * t->cuts &&
-           (t->cuts < 100 || (t->cuts_storing > 0 && t->cuts_unsent > 0 && t->put_back > 0 && a->healed + b->healed > 0));
+           (t->cuts < 100 || (t->cuts_storing > 0 && t->cuts_unsent > 0 && a->healed + b->healed > 0));
 }
 
 /* Says how it went. */
