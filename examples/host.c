@@ -1,6 +1,7 @@
 /*
  * Two ends in one program, over a mesh that loses, repeats and reorders frames. What comes early is held, and collected in its turn.
- * Expect: both connect, each hears the other's whole text, and both close (host.out). The mesh is the same in every run.
+ * Expect: both connect, each hears the other's whole text, and both close (host.out). The mesh is the same in every run. The ends live no
+ * longer than the program, so their pages are stored nowhere; examples/power.c stores them.
  */
 #include <stdio.h>
 #include <stdlib.h>

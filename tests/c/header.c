@@ -39,6 +39,7 @@ static void test_opening(dock_end *caller, dock_end *listener) {
     expect(a.number == DOCK_WRONG_STATE && a.state == DOCK_CLOSED && is_silent(&a), "a closed end does not collect");
     a = dock_ask_kind(listener, DOCK_LISTEN);
     expect(a.number == DOCK_OK && a.state == DOCK_LISTENING && a.local == 1 && is_silent(&a), "a fresh end listens");
+    expect(a.reserved == 1 && a.reserved_at == 0, "it has reserved its number");
     a = dock_ask_kind(caller, DOCK_CONNECT);
     expect(a.state == DOCK_CALLING && a.sent == 9 && a.sent_at == caller->out && a.sent_at[0] == DOCK_CRAO, "a fresh end calls");
     a = dock_hear(listener, a.sent_at, a.sent);
@@ -128,7 +129,7 @@ static void test_overtaking(dock_end *from, dock_end *to) {
 /* A refusal tells its number and how the end stands, and changes nothing. */
 static void expect_refused(dock_end *end, const dock_end *before, dock_answer a, unsigned number, const char *what) {
     expect(a.number == number && a.state == DOCK_OPEN && a.local == 1 && a.remote == 1 && is_silent(&a), what);
-    expect(memcmp(end, before, sizeof *end) == 0, "a refusal changes nothing");
+    expect(memcmp(end, before, sizeof *end) == 0 && a.reserved == 0, "a refusal changes nothing");
 }
 
 static void test_refusals(dock_end *end) {
@@ -162,6 +163,153 @@ static void test_unsound(dock_end *end) {
     end->record[0] = 6;
     dock_answer a = dock_ask_kind(end, DOCK_TIMER);
     expect(a.number == DOCK_UNSOUND && a.state == 6 && is_silent(&a), "a state of 6 is not sound");
+}
+
+/* The page with so many bytes used. */
+static void make_page(uint8_t *page, size_t used) {
+    memset(page, DOCK_PAGE_NEW, DOCK_PAGE);
+    memset(page, 0, used);
+}
+
+static int is_page(const uint8_t *page, size_t used) {
+    uint8_t right[DOCK_PAGE];
+    make_page(right, used);
+    return memcmp(page, right, DOCK_PAGE) == 0;
+}
+
+/* A closed end's timer call does nothing: is it closed, with this number? */
+static int is_closed(dock_end *end, uint32_t local) {
+    dock_answer a = dock_ask_kind(end, DOCK_TIMER);
+    return a.number == DOCK_OK && a.state == DOCK_CLOSED && a.local == local && a.remote == 0 && is_silent(&a) && a.reserved == 0;
+}
+
+/* A call, hung up at once, or listening, ended at once: does it begin with this number, and set this byte of the page, or none (-1)? */
+static int begins(dock_end *end, uint8_t request, uint32_t local, int at) {
+    dock_answer a = dock_ask_kind(end, request);
+    int right = a.number == DOCK_OK && a.local == local && a.reserved == (at < 0 ? 0U : 1U) && a.reserved_at == (at < 0 ? 0U : (size_t)at);
+    dock_answer again = dock_ask_kind(end, request);
+    right = right && again.number == DOCK_WRONG_STATE && again.reserved == 0;
+    a = dock_ask_kind(end, request == DOCK_CONNECT ? DOCK_CLOSE : DOCK_END_LISTENING);
+    return right && a.number == DOCK_OK && a.state == DOCK_CLOSED && a.reserved == 0;
+}
+
+/* Sixteen numbers are reserved by each byte, with the first of them. */
+static void test_reserving(dock_end *end) {
+    dock_init(end);
+    expect(is_page(end->page, 0) && is_closed(end, 0), "a fresh end has a new page");
+    for (uint32_t local = 1; local <= 50; local++) {
+        int at = local % 16 == 1 ? (int)(local / 16) : -1;
+        expect(begins(end, local % 3 == 0 ? DOCK_LISTEN : DOCK_CONNECT, local, at), "one in sixteen numbers sets a byte");
+        expect(is_page(end->page, (local + 15) / 16), "and no other byte is set");
+    }
+}
+
+/* An end restarts from its page alone. */
+static void test_restoring(dock_end *end) {
+    static const size_t used[] = {0, 1, 2, 3, 100, 4094, 4095};
+    for (size_t i = 0; i < sizeof used / sizeof used[0]; i++) {
+        memset(end->record, 0xee, sizeof end->record);
+        make_page(end->page, used[i]);
+        expect(dock_restore(end) == DOCK_OK && is_closed(end, (uint32_t)(16 * used[i])), "an end restarts from its page");
+        expect(is_page(end->page, used[i]), "which stays as it is");
+        expect(begins(end, i % 2 == 0 ? DOCK_CONNECT : DOCK_LISTEN, (uint32_t)(16 * used[i] + 1), (int)used[i]), "its next number is new");
+        expect(dock_restore(end) == DOCK_OK && is_closed(end, (uint32_t)(16 * used[i] + 16)), "a restart skips what was reserved");
+    }
+    make_page(end->page, DOCK_PAGE - 1);
+    expect(dock_restore(end) == DOCK_OK && begins(end, DOCK_CONNECT, 65521, DOCK_PAGE - 1), "the last byte is set");
+    for (uint32_t local = 65522; local <= 65536; local++)
+        expect(begins(end, DOCK_LISTEN, local, -1), "and has sixteen numbers too");
+    expect(dock_ask_kind(end, DOCK_CONNECT).number == DOCK_NO_NUMBER_LEFT && is_closed(end, 65536), "then the page is used up");
+    expect(dock_restore(end) == DOCK_OK && is_closed(end, 65536), "a used up page is a page");
+    expect(dock_ask_kind(end, DOCK_LISTEN).number == DOCK_NO_NUMBER_LEFT, "without a number left");
+}
+
+/* A page that is none: the restart is refused, and leaves the record. */
+static void expect_damaged(dock_end *end, size_t used, size_t at, uint8_t byte) {
+    uint8_t record[DOCK_RECORD];
+    memset(record, 0xee, sizeof record);
+    memset(end->record, 0xee, sizeof end->record);
+    make_page(end->page, used);
+    end->page[at] = byte;
+    expect(dock_restore(end) == DOCK_WRONG_PAGE && memcmp(end->record, record, sizeof record) == 0, "a damaged page is refused");
+}
+
+static void test_damaged(dock_end *end) {
+    expect_damaged(end, 0, 1, 0);
+    expect_damaged(end, 0, 0, 0x7f);
+    expect_damaged(end, 0, DOCK_PAGE - 1, 0);
+    expect_damaged(end, 3, 1, 0xff);
+    expect_damaged(end, 3, 3, 0xfe);
+    expect_damaged(end, 3, 2, 1);
+    expect_damaged(end, DOCK_PAGE, 0, 0xff);
+    expect_damaged(end, DOCK_PAGE, DOCK_PAGE - 1, 1);
+}
+
+/* A page that does not go with the record: every call is refused, and tells how the end stands. */
+static void test_wrong_page(dock_end *end) {
+    static const uint8_t call[] = {DOCK_CRAO, 0, 0, 0, 1, 0, 0, 0, 0};
+    static const size_t used[] = {0, 2, DOCK_PAGE};
+    dock_init(end);
+    (void)dock_ask_kind(end, DOCK_CONNECT);
+    for (size_t i = 0; i < sizeof used / sizeof used[0]; i++) {
+        make_page(end->page, used[i]);
+        const dock_end before = *end;
+        dock_answer a = dock_ask_kind(end, DOCK_TIMER);
+        expect(a.number == DOCK_WRONG_PAGE && a.state == DOCK_CALLING && a.local == 1 && is_silent(&a), "the timer call is refused");
+        a = dock_hear(end, call, sizeof call);
+        expect(a.number == DOCK_WRONG_PAGE && a.state == DOCK_CALLING && a.local == 1 && is_silent(&a), "a frame is refused");
+        a = dock_ask(end, call, 0);
+        expect(a.number == DOCK_WRONG_PAGE && a.reserved == 0, "what is no request is not looked at");
+        expect(memcmp(end, &before, sizeof before) == 0, "and nothing is changed");
+    }
+    end->record[0] = 6;
+    expect(dock_ask_kind(end, DOCK_TIMER).number == DOCK_UNSOUND, "the record is asked for first");
+}
+
+/* The plain calls ask for the lengths of what is lent. */
+static void test_short_buffers(dock_end *end) {
+    static const uint8_t timer[] = {DOCK_TIMER};
+    uint8_t state, notice;
+    uint32_t local, remote;
+    size_t sent, block;
+    make_page(end->page, 1);
+    end->page[0] = 1;
+    expect(dock_restart(end->record, DOCK_RECORD - 1, end->page, DOCK_PAGE) == DOCK_SHORT_BUFFER, "a restart needs a whole record");
+    expect(dock_restart(end->record, DOCK_RECORD, end->page, DOCK_PAGE - 1) == DOCK_SHORT_BUFFER, "and a whole page");
+    dock_init(end);
+    expect(dock_request(end->record, DOCK_RECORD, end->page, DOCK_PAGE - 1, timer, sizeof timer, end->out, DOCK_FRAME, end->up, DOCK_BLOCK,
+                        &state, &notice, &local, &remote, &sent, &block) == DOCK_SHORT_BUFFER,
+           "so does a request");
+    expect(dock_receive(end->record, DOCK_RECORD, end->page, DOCK_PAGE - 1, timer, sizeof timer, end->out, DOCK_FRAME, &state, &notice,
+                        &local, &remote, &sent, &block) == DOCK_SHORT_BUFFER,
+           "and a frame");
+}
+
+/* One of two open ends loses power, and stays closed: its partner is told so by the answer to the first thing that it sends. */
+static void test_healing(dock_end *caller, dock_end *listener) {
+    test_opening(caller, listener);
+    expect(dock_restore(listener) == DOCK_OK && is_closed(listener, 16), "an open end restarts");
+    dock_answer a = dock_send(caller, (const uint8_t *)"rice", 4);
+    a = dock_hear(listener, a.sent_at, a.sent);
+    expect(a.number == DOCK_OK && a.state == DOCK_CLOSED && a.block == 0 && a.sent == 9 && a.sent_at[0] == DOCK_REJ, "it refuses a block");
+    expect(a.sent_at[4] == 16 && a.sent_at[8] == 1, "with its new number");
+    a = dock_hear(caller, a.sent_at, a.sent);
+    expect(a.state == DOCK_CLOSED && a.notice == DOCK_CLOSED_BY_PARTNER && a.sent == 0, "its partner is closed");
+    expect(dock_waiting(caller) == 0 && is_closed(caller, 1), "and keeps its number, and no block");
+}
+
+/* One that listens at once says nothing: its partner stays open, until its user closes. */
+static void test_not_healing(dock_end *caller, dock_end *listener) {
+    test_opening(caller, listener);
+    expect(dock_restore(listener) == DOCK_OK && dock_ask_kind(listener, DOCK_LISTEN).local == 17, "a restarted end listens");
+    dock_answer a = dock_send(caller, (const uint8_t *)"rice", 4);
+    a = dock_hear(listener, a.sent_at, a.sent);
+    expect(a.number == DOCK_OK && a.state == DOCK_LISTENING && is_silent(&a), "it passes a block over");
+    a = dock_ask_kind(caller, DOCK_CLOSE);
+    a = dock_hear(listener, a.sent_at, a.sent);
+    expect(a.state == DOCK_LISTENING && a.sent_at[0] == DOCK_DRACK && a.notice == DOCK_NONE, "it hears a close");
+    a = dock_hear(caller, a.sent_at, a.sent);
+    expect(a.state == DOCK_CLOSED && a.notice == DOCK_CLOSE_FINISHED, "and its partner is closed");
 }
 
 static dock_answer line(dock_pair *pair, const char *text) {
@@ -202,12 +350,70 @@ static void test_bench(void) {
     expect(a.number == DOCK_NO_SUCH_FRAME && a.end == DOCK_A && is_silent(&a), "the book holds no frame 512");
 }
 
+/* The pages of a bench, and its restarts. */
+static void test_bench_restarts(void) {
+    static dock_pair pair, before;
+    dock_pair_init(&pair);
+    expect(is_page(pair.page[DOCK_A], 0) && is_page(pair.page[DOCK_B], 0), "both have new pages");
+    dock_answer a = line(&pair, "5141");
+    expect(a.local == 1 && is_page(pair.page[DOCK_B], 1) && is_page(pair.page[DOCK_A], 0), "B reserves numbers on its own page");
+    a = line(&pair, "5040");
+    expect(a.local == 1 && is_page(pair.page[DOCK_A], 1) && a.reserved == 0, "and A on its own");
+    expect(line(&pair, "520000").state == DOCK_ANSWERING && line(&pair, "520001").state == DOCK_OPEN, "B answers, A opens");
+    expect(line(&pair, "53").number == DOCK_BAD_SIZE && line(&pair, "535150").number == DOCK_BAD_SIZE, "a restart names one end");
+    expect(line(&pair, "5352").number == DOCK_UNKNOWN_KIND && line(&pair, "5300").number == DOCK_UNKNOWN_KIND, "A or B");
+    pair.record[DOCK_B][0] = 6;
+    expect(line(&pair, "5350").number == DOCK_UNSOUND && dock_pair_some_frame(&pair) == DOCK_NO_FRAME, "the other end has to be sound");
+    before = pair;
+    a = line(&pair, "5351");
+    expect(a.number == DOCK_OK && a.end == DOCK_B && is_silent(&a), "B restarts");
+    expect(a.state == DOCK_CLOSED && a.local == 16 && a.remote == 0, "from its page");
+    expect(memcmp(pair.record[DOCK_A], before.record[DOCK_A], DOCK_RECORD) == 0 && pair.count == before.count, "A stays as it is");
+    expect(memcmp(pair.page, before.page, sizeof pair.page) == 0, "and so do the pages");
+    a = line(&pair, "520002");
+    expect(a.end == DOCK_B && a.state == DOCK_CLOSED && a.sent == 9 && a.sent_at[0] == DOCK_REJ, "B refuses what A sent to it");
+    expect(dock_pair_some_frame(&pair) == 3, "that matters to A");
+    a = line(&pair, "520003");
+    expect(a.end == DOCK_A && a.state == DOCK_CLOSED && a.notice == DOCK_CLOSED_BY_PARTNER, "which is closed");
+    pair.page[DOCK_B][1] = 0;
+    expect(line(&pair, "5045").number == DOCK_WRONG_PAGE && dock_pair_some_frame(&pair) == DOCK_NO_FRAME, "a page goes with its record");
+    expect(line(&pair, "5350").number == DOCK_WRONG_PAGE, "also where the other end restarts");
+    a = line(&pair, "5351");
+    expect(a.number == DOCK_OK && a.local == 32, "but any page will do for the end that restarts");
+    expect(line(&pair, "5041").local == 2 && is_page(pair.page[DOCK_A], 1), "A listens, on the page that it has");
+    expect(line(&pair, "5140").local == 33 && is_page(pair.page[DOCK_B], 3), "and B calls, with a number that it never used");
+    expect(dock_pair_some_frame(&pair) != DOCK_NO_FRAME, "its call matters");
+    pair.page[DOCK_B][0] = 1;
+    expect(line(&pair, "5351").number == DOCK_WRONG_PAGE, "if it is one");
+}
+
+/* The plain calls of the bench ask for the lengths of the pages. */
+static void test_bench_short_pages(void) {
+    static dock_pair pair;
+    uint8_t end, state, notice;
+    uint32_t local, remote;
+    size_t sent, at, block, frame;
+    dock_pair_init(&pair);
+    for (size_t i = 0; i < 2; i++) {
+        size_t a_len = i == 0 ? DOCK_PAGE - 1 : DOCK_PAGE, b_len = i == 1 ? DOCK_PAGE - 1 : DOCK_PAGE;
+        expect(dock_bench(pair.record[DOCK_A], DOCK_RECORD, pair.record[DOCK_B], DOCK_RECORD, pair.page[DOCK_A], a_len, pair.page[DOCK_B],
+                          b_len, pair.book, DOCK_BOOK, &pair.count, (const uint8_t *)"5045", 4, pair.out, DOCK_FRAME, pair.up, DOCK_BLOCK,
+                          &end, &state, &notice, &local, &remote, &sent, &at, &block) == DOCK_SHORT_BUFFER,
+               "a line needs both pages whole");
+        expect(dock_some_frame(pair.record[DOCK_A], DOCK_RECORD, pair.record[DOCK_B], DOCK_RECORD, pair.page[DOCK_A], a_len,
+                               pair.page[DOCK_B], b_len, pair.book, DOCK_BOOK, pair.count, &frame) == DOCK_SHORT_BUFFER &&
+                   frame == DOCK_NO_FRAME,
+               "so does the question for a frame");
+    }
+}
+
 static void test_names(void) {
     expect(same_text(dock_number_name(DOCK_OK), "ok"), "number 0");
     expect(same_text(dock_number_name(DOCK_WRONG_STATE), "request not allowed in this state"), "number 8");
     expect(same_text(dock_number_name(DOCK_SHORT_BUFFER), "buffer too small"), "number 11");
     expect(same_text(dock_number_name(DOCK_BOOK_FULL), "book full"), "number 14");
-    expect(same_text(dock_number_name(15), "unknown"), "no number 15");
+    expect(same_text(dock_number_name(DOCK_WRONG_PAGE), "page that does not go with the record"), "number 15");
+    expect(same_text(dock_number_name(16), "unknown"), "no number 16");
     expect(same_text(dock_state_name(DOCK_CLOSED), "closed") && same_text(dock_state_name(DOCK_CLOSING), "closing"), "the states");
     expect(same_text(dock_state_name(6), "unknown"), "no state 6");
     expect(same_text(dock_notice_name(DOCK_NONE), "none") && same_text(dock_notice_name(DOCK_HANDED_UP), "block handed up"), "the notices");
@@ -229,7 +435,16 @@ int main(void) {
     test_refusals(&caller);
     test_window(&caller);
     test_unsound(&caller);
+    test_reserving(&caller);
+    test_restoring(&caller);
+    test_damaged(&caller);
+    test_wrong_page(&caller);
+    test_short_buffers(&caller);
+    test_healing(&caller, &listener);
+    test_not_healing(&caller, &listener);
     test_bench();
+    test_bench_restarts();
+    test_bench_short_pages();
     test_names();
     printf("%u passed, %u failed\n", passed, failed);
     return failed == 0 ? 0 : 1;
