@@ -46,12 +46,12 @@ module _ (i : ℕ) (rec page : List ℕ) (n : ℕ) where
       (record { end = i; status = r .status; sent = r .sent; at = 0; block = r .block; count = n })
 
   refused-leaves : (k : ℕ) → Leaves (refused k)
-  unfolding lentAfter pageAfter logAfter countAfter bufferAfter blockBufferAfter benchAnswerOf answerOf sentOf blockOf blockAt mapped left ifEq when
+  unfolding pageAfter logAfter countAfter bufferAfter blockBufferAfter benchAnswerOf answerOf sentOf blockOf blockAt mapped left ifEq when
   refused-leaves k rec′ r a e log out up start =
       record { answer = rw a refl; end = λ j. lent (e j) page; entered = refl; buffer = refl; block-buffer = refl; handed = rw a refl }
 
   restarted-leaves : Leaves (ok (quiet (restarted (count page)) none))
-  unfolding lentAfter pageAfter logAfter countAfter bufferAfter blockBufferAfter benchAnswerOf answerOf sentOf blockOf blockIn blockAt sends wire mapped left ifEq when
+  unfolding pageAfter logAfter countAfter bufferAfter blockBufferAfter benchAnswerOf answerOf sentOf blockOf blockIn blockAt sends wire mapped left ifEq when
   restarted-leaves rec′ r a e log out up start =
       record {
         answer = rw a refl;

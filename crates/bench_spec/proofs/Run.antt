@@ -80,7 +80,7 @@ page-stays rec page {y} h =
 
 -- so what an accepted line leaves is what the list leaves
 leaves-so : (l : Lent) (c : Act) {y : Step} → FromLine l c → ends .comes l c ≡ ok y → lentAfter l (ok y) ≡ ends .leaves l c (ok y)
-unfolding lentAfter renewed
+unfolding renewed
 leaves-so l (call c) f h = refl
 leaves-so l (restart rec) {y} f h = λ i. lent (recordAfter format (sym f i) (ok y)) (page-stays rec (l .page) h i)
 leaves-so l (cut c rec) f h = absurd f

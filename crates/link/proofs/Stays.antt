@@ -9,7 +9,7 @@ use lib.ListN.{length, drop, take-append-drop}
 use Rattle.octets.specs.Sizes.{pageSize}
 use Rattle.octets.specs.Test.{when, first, Outcome, refused, ok, numberOf}
 use Rattle.page.specs.Page.{newPage}
-use Rattle.page.proofs.Laws.{goes-last, page-is}
+use Rattle.page.proofs.Laws.{goes-last, page-is, stays, goes-so}
 use Rattle.octets.specs.Octets.{Octets}
 use Rattle.octets.proofs.Octets.{field-32}
 use Rattle.octets.proofs.Test.{passing, all-yes}
