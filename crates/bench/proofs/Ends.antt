@@ -2,9 +2,11 @@
 use Prim.Native.Nat.{ℕ, zero, suc, _+_, _≤_}
 use mathlib.Core.Path.{_≡_, refl, sym, ap, _∙_}
 use mathlib.Core.List.{List, []}
+use native.Mathlib.Omega.{arith}
 use borrow.Author.Tests.{le-leb}
 use lib.ListN.{length}
 use Rattle.octets.specs.Test.{when, ifEq, first, Outcome, refused, ok, outcome, refusing}
+use Rattle.octets.proofs.Test.{eq-yes, eq-no}
 use Rattle.octets.specs.Sizes.{longestFrame, longestBlock}
 use Rattle.call_spec.specs.Calls.{rooms}
 use Rattle.hex.specs.Line.{unhex, lineQuestions, normal}
@@ -24,14 +26,14 @@ use Rattle.line_io.proofs.Program.{program-run}
 use Rattle.bench.specs.Ends.{bothEnds, freshBench}
 
 -- the end that a line restarts, as an outcome of its characters
-endIn : Outcome ℕ → ℕ
+abbrev endIn : Outcome ℕ → ℕ
 endIn (refused n) = neither
 endIn (ok k) = k
 
 named : (n k : ℕ) → ifEq n 0 k neither ≡ endIn (refusing n (ok k))
-unfolding ifEq when refusing
-named zero k = refl
-named (suc n) k = refl
+unfolding refusing
+named zero k = eq-yes 0 0 k neither refl
+named (suc n) k = eq-no (suc n) 0 k neither (λ z. omega arith)
 
 restarts-in : (l : List ℕ) → restartedEnd l ≡ endIn (refusing (first (lineQuestions l)) (ok (restartedBy (unhex l))))
 unfolding restartedEnd

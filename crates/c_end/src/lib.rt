@@ -67,7 +67,18 @@ pub extern "C" fn dock_receive(
     ensures { λ r. ⌜ Called Receive (lentOutcome Receive (now (rec .entry)) (now (page .entry)) (now (s .entry)) (now (out .entry)) []) (now (rec .entry)) (now (s .entry)) (now (out .entry)) [] (now (rec .exit)) (now (out .exit)) [] (answerIn r (now (state .exit)) (now (notice .exit)) (now (local .exit)) (now (remote .exit)) (now (sent .exit)) (now (block .exit))) ⌝ }
 {
     let mut number: u8 = 0;
-    let up = link::receive(rec, page, s, out, &mut number, state, notice, local, remote, sent);
+    let up = link::receive(
+        rec,
+        page,
+        s,
+        out,
+        &mut number,
+        state,
+        notice,
+        local,
+        remote,
+        sent,
+    );
     *block = up.len();
     number
 }

@@ -260,8 +260,7 @@ no-number-twice format law = protocol-theorem.no-number-twice (ends format) (lie
 -- 12 and 15 refuse nothing
 pub never-refused : (format : Format) → Lawful format → NeverRefused format
 never-refused format law start f calls d =
-    let k = kept (ends format) roomy (lies format law) start f calls d in
-    (
+    let k = kept (ends format) roomy (lies format law) start f calls d in (
       passes-both format law (holding (k .both) (k .this .0) (k .this .1)),
       passes-both format law (holding (roomy .turns _ _ (k .both)) (k .other .0) (k .other .1)),
     )

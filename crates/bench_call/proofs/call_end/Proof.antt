@@ -70,8 +70,7 @@ returns-2 : tie.Need-returns-2
 returns-2 c =
     let s = c .before .before .before .before .before .before .before .before .before .before .before .before .before .before .before .before .before .before .before .before .before .before .before in
     let w = plans (c .before .before .before .before .before .before .before .before .before .before .before .before .before .before .before .before) in
-    let o = left (c .before .before .before .before .before .before .before .before .before .before .before .before .before .before) in
-    (
+    let o = left (c .before .before .before .before .before .before .before .before .before .before .before .before .before .before) in (
       rw o (c .before .before .before .before .before .before .finish .ensures (now (s .args .page)) w),
       reserved (now (s .args .rec)) (s .pre .0 .0 .0) (now (s .args .page)) (call-of s) w (c .before .before .before .before .before .before .before .before .before .before .before .before .reserve .ensures) ∙ ap (pageAfter (now (s .args .page))) (sym o),
     )

@@ -35,8 +35,7 @@ returns-2 c =
     let s = c .before .before .before .before .before .before .before .before .before .before .before .before .before .before .before .before .before .before .before .before .before .before .before in
     let d = now (s .args .rec) in
     let w = c .before .before .before .before .before .before .before .before .before .before .before .before .before .before .plan-call in
-    let r = c .before .before .before .before .before .before .before .before .before .before .before .before .reserve .ensures in
-    (
+    let r = c .before .before .before .before .before .before .before .before .before .before .before .before .reserve .ensures in (
       c .before .before .before .before .before .before .finish .ensures (now (s .args .page)) (w .ensures),
       reserved d (omega (arith, c .before .before .before .before .before .before .before .before .before .before .before .before .before .before .before .before .before .if1 .left)) (now (s .args .page)) (call-of s) (w .ensures) r,
     )
