@@ -128,6 +128,10 @@ mod tests {
                 include_str!("../../../../examples/hang-up-full-book.in"),
                 include_str!("../../../../examples/hang-up-full-book.out"),
             ),
+            (
+                include_str!("../../../../examples/restart.in"),
+                include_str!("../../../../examples/restart.out"),
+            ),
         ] {
             assert_eq!(output(input), answers);
         }
