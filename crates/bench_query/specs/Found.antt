@@ -12,8 +12,6 @@ use Rattle.link.specs.Record.{format}
 use Rattle.bench_spec.specs.Bench.{Bench, lentAt, neither, bufferQuestions, soundQuestions, delivery, comes, endOf}
 use Rattle.bench_query.specs.declared.Found.{Found}
 use Rattle.bench_query.specs.declared.Found.the-variants.{Frame, Nothing, Refused}
--- a record and its page, for those who only ask the question
-pub use Rattle.call_spec.specs.Claim.{lent}
 
 -- A call with this outcome is accepted and changes the record.
 pub record Changes (rec : List ℕ) (o : Outcome Step) : Type 0 where

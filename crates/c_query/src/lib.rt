@@ -1,7 +1,7 @@
 // The question of the bench for C, on numbers and byte buffers alone; include/dock.h declares it.
 use bench_query::Found;
 ghost use Rattle.bench_spec.specs.Bench.{benchOf};
-ghost use Rattle.bench_query.specs.Found.{lent};
+ghost use Rattle.call_spec.specs.Claim.{lent};
 ghost use Rattle.c_query.specs.Answers.{FrameNamed};
 
 // Answers the number; the frame's goes to the last, 512 where there is none.
