@@ -10,10 +10,10 @@ use borrow.Author.Tests.{eqb-true, eq-eqb, ne-eqb}
 use lib.Bits.{bitAnd, and-le-l, and-le-r}
 use lib.Dec.{eqb}
 use lib.ListN.{length, take, drop, set, getD}
-use lib.Seq.{take-suc, drop-cons, take-add, take-take, length-take-le, getD-take}
+use lib.Seq.{take-suc, take-add, length-take-le, getD-take}
 use Rattle.octets.specs.Sizes.{pageSize, numbersEach, lastIncarnation}
 use Rattle.octets.specs.Test.{when, zeros}
-use Rattle.octets.proofs.Test.{by-eq, eq-yes, eq-no, lt-yes, both, joined}
+use Rattle.octets.proofs.Test.{if-lt, by-eq, eq-yes, eq-no, lt-yes, both, joined}
 use Rattle.octets.proofs.Each.{alike}
 use Rattle.page.specs.Page.{used, unused, usedFor, only, isRun, leading, runs, count, goesWith, reserving}
 use Rattle.page.proofs.Laws.{count≤, goes-so, goes-last, stays}
@@ -47,6 +47,9 @@ and-unused a b h k =
 pub bits-more : (s : List ℕ) (i : ℕ) → i < length s → getD s i 0 ≤ unused → (x : ℕ) → x ≤ unused → eqb x unused ≡ only unused (take i s)
     → eqb (bitAnd x (getD s i 0)) unused ≡ only unused (take (i + 1) s)
 bits-more s i h k x f e = and-unused x (getD s i 0) f k ∙ rw e (only-more unused s i h)
+
+by-lt : {A : Type 0} (a b : ℕ) → (a < b → A) → (b ≤ a → A) → A
+by-lt {A} a b f g = if-lt (λ (_ : ℕ). A) a b {x = 0} {y = 0} f g
 
 -- what is left of a page from the place i
 abbrev pub left : ℕ → List ℕ → List ℕ
@@ -100,16 +103,30 @@ whole (x ∷ a) b r =
     let w = whole a b (joined (v .1) (u .1)) in
     (run-yes x (a ++ b) e ∙ w .0, omega (arith, leading-yes x (a ++ b) e, w .1))
 
--- the octets that are counted are 00, and the next one is not
-leading-only : (s : List ℕ) → only used (take (leading s) s) ≡ true
+-- a part more
+only-append : (x : ℕ) (a b : List ℕ) → only x (a ++ b) ≡ (only x a && only x b)
 unfolding only
-leading-only [] = rw leading-none refl
-leading-only (x ∷ s) =
+only-append x [] b = refl
+only-append x (y ∷ a) b = rw (only-append x a b) (sym (and-assoc (eqb y x) (only x a) (only x b)))
+
+pub only-part : (x : ℕ) (s : List ℕ) (i n : ℕ) → (only x (take i s) && only x (take n (drop i s))) ≡ only x (take (i + n) s)
+only-part x s i n = sym (ap (only x) (take-add i n s) ∙ only-append x (take i s) (take n (drop i s)))
+
+only-at : (x : ℕ) (s : List ℕ) → only x s ≡ true → (i : ℕ) → i < length s → getD s i 0 ≡ x
+unfolding only
+only-at x [] h i k = absurd (omega arith)
+only-at x (y ∷ s) h zero k = eqb-true y x (both (eqb y x) (only x s) h .0)
+only-at x (y ∷ s) h (suc i) k = only-at x s (both (eqb y x) (only x s) h .1) i (omega arith)
+
+-- the octets that are counted are 00, and the next one is not; in a run all from there on are FF
+run-after : (s : List ℕ) → isRun s ≡ true → (i : ℕ) → leading s ≤ i → i < length s → getD s i 0 ≡ unused
+run-after [] h i m k = absurd (omega arith)
+run-after (x ∷ s) h zero m k =
+    by-eq x used (λ e. absurd (omega (arith, leading-yes x s e))) (λ n. only-at unused (x ∷ s) (sym (run-no x s n) ∙ h) 0 k)
+run-after (x ∷ s) h (suc i) m k =
     by-eq x used
-    (λ e.
-    let k : leading (x ∷ s) ≡ suc (leading s) = omega (arith, leading-yes x s e) in
-    rw k (joined (eq-eqb x used e) (leading-only s)))
-    (λ n. rw (leading-no x s n) refl)
+    (λ e. run-after s (sym (run-yes x s e) ∙ h) i (omega (arith, leading-yes x s e)) (omega arith))
+    (λ n. only-at unused (x ∷ s) (sym (run-no x s n) ∙ h) (suc i) k)
 
 leading-below : (s : List ℕ) (i : ℕ) → i < leading s → getD s i 0 ≡ used
 leading-below [] i h = refl
@@ -124,22 +141,6 @@ leading-next (x ∷ s) (suc i) e h =
     by-eq x used (λ z. leading-next s i (omega (arith, leading-yes x s z)) (omega arith)) (λ n. absurd (omega (arith, leading-no x s n)))
 
 module _ (s : List ℕ) (l : pageSize ≤ length s) where
-  -- the scan for the count, at the place i
-  left-is : (i : ℕ) → i < pageSize → left i s ≡ getD s i 0 ∷ left (i + 1) s
-  left-is i h =
-      let e : pageSize - i ≡ suc (pageSize - suc i) = omega arith in
-      let k : i < length s = omega arith in
-      rw (e, drop-cons s i 0 k, add-one) refl
-
-  pub count-on : (i : ℕ) → i < pageSize → getD s i 0 ≡ used → leading (left i s) ≡ leading (left (i + 1) s) + 1
-  count-on i h e = ap leading (left-is i h) ∙ leading-yes _ _ e
-
-  pub count-end : (i : ℕ) → i < pageSize → getD s i 0 ≢ used → leading (left i s) ≡ 0
-  count-end i h n = ap leading (left-is i h) ∙ leading-no _ _ n
-
-  pub count-past : (i : ℕ) → i ≡ pageSize → leading (left i s) ≡ 0
-  count-past i e = rw e leading-none
-
   -- the page, cut at c
   cut : (c : ℕ) → c ≤ pageSize → take pageSize s ≡ take c s ++ left c s
   cut c h =
@@ -158,26 +159,32 @@ module _ (s : List ℕ) (l : pageSize ≤ length s) where
       let w = whole (take c s) (left c s) r in
       (ap isRun (cut c h) ∙ w .0, ap leading (cut c h) ∙ w .1 ∙ length-take-le c s (omega arith))
 
-  counted : only used (take (count s) s) ≡ true
-  unfolding count
-  counted = ap (only used) (sym (take-take (leading (take pageSize s)) pageSize s (count≤ s l))) ∙ leading-only (take pageSize s)
-
-  -- question 15 of a restart
-  pub runs-is : only unused (left (count s) s) ≡ runs s
-  runs-is =
-      alike _ _
-      (λ r. together (count s) (count≤ s l) (joined counted r) .0)
-      (λ r. both (only used (take (count s) s)) (only unused (left (count s) s)) (apart (count s) (count≤ s l) r refl) .1)
-
-  -- question 15 of a call
-  pub goes-is : (n : ℕ) → n ≤ lastIncarnation → (zeros (take (usedFor n) s) && only unused (left (usedFor n) s)) ≡ goesWith n s
-  unfolding goesWith
-  goes-is n h =
-      let k : usedFor n ≤ pageSize = omega arith in
-      ap (λ (b : Bool). b && only unused (left (usedFor n) s)) (zeros-only (take (usedFor n) s))
+  -- the page that has so many octets of 00, and no other, and FF in all others
+  pub is-at : (c : ℕ) → c ≤ pageSize → (zeros (take c s) && only unused (left c s)) ≡ (runs s && eqb (count s) c)
+  is-at c k =
+      ap (λ (b : Bool). b && only unused (left c s)) (zeros-only (take c s))
       ∙ alike _ _
-      (λ r. let w = together (usedFor n) k r in joined (w .0) (eq-eqb _ _ (w .1)))
-      (λ r. let w = goes-so n s r in apart (usedFor n) k (w .0) (w .1))
+      (λ r. let w = together c k r in joined (w .0) (eq-eqb _ _ (w .1)))
+      (λ r. let w = both (runs s) (eqb (count s) c) r in apart c k (w .0) (eqb-true (count s) c (w .1)))
+
+  -- question 15 of a restart: c is the count of a page that is a run
+  pub runs-is : (c : ℕ) → (runs s ≡ true → c ≡ count s) → (runs s && eqb (count s) c) ≡ runs s
+  runs-is c h = alike _ _ (λ r. both (runs s) (eqb (count s) c) r .0) (λ r. joined r (eq-eqb (count s) c (sym (h r))))
+
+  -- what an octet of a page says of its count
+  pub at-most : (i : ℕ) → getD s i 0 ≢ used → i < pageSize → count s ≤ i
+  unfolding count
+  at-most i n k =
+      by-lt i (count s)
+      (λ h. absurd (n (sym (getD-take pageSize s i 0 k) ∙ leading-below (take pageSize s) i h)))
+      (λ h. h)
+
+  pub at-least : runs s ≡ true → (i : ℕ) → getD s i 0 ≡ used → i < pageSize → i < count s
+  unfolding runs count
+  at-least r i e k =
+      by-lt i (count s)
+      (λ h. h)
+      (λ h. absurd (omega (arith, e, getD-take pageSize s i 0 k, run-after (take pageSize s) r i h (omega (arith, length-take-le pageSize s l)))))
 
   pub goes-not : (n : ℕ) → lastIncarnation < n → false ≡ goesWith n s
   goes-not n h = alike _ _ (λ r. absurd (false≢true r)) (λ r. absurd (omega (arith, goes-last n s l r)))

@@ -3,9 +3,10 @@ use octets::LAST_INCARNATION;
 use octets::NUMBERS_EACH;
 use octets::PAGE_SIZE;
 ghost use mathlib.Core.Path.{_≡_};
-ghost use mathlib.Core.Bool.{true};
+ghost use mathlib.Core.Bool.{true, _&&_};
 ghost use Prim.Native.Nat.{_+_, _*_, _≤_};
 ghost use lib.ListN.{length};
+ghost use lib.Dec.{eqb};
 ghost use Rattle.octets.specs.Sizes.{pageSize, numbersEach, lastIncarnation};
 ghost use Rattle.page.specs.Page.{unused, only, runs, count, goesWith, reserving};
 
@@ -13,6 +14,9 @@ ghost use Rattle.page.specs.Page.{unused, only, runs, count, goesWith, r
 const USED: u8 = 0;
 
 pub const UNUSED: u8 = 255;
+
+// So many octets are scanned at once where there are as many.
+const PART: usize = 512;
 
 // Whether all of s is FF: then every octet has every bit. The loop has no branch, so that it takes many octets at once.
 fn is_unused(s: &[u8]) -> bool
@@ -27,19 +31,43 @@ fn is_unused(s: &[u8]) -> bool
     bits == UNUSED
 }
 
-// The 00 octets at the front of a page: what a restart goes by.
+// The same of a long s, part by part: a scan of a fixed length takes the machine fewer instructions an octet.
+fn are_unused(s: &[u8]) -> bool
+    ensures { λ r. ⌜ r ≡ only unused (now (s .entry)) ⌝ }
+{
+    let mut all = true;
+    let mut i = 0;
+    while s.len() - i >= PART {
+        all = all & is_unused(&s[i..i + PART]);
+        i += PART;
+    }
+    all & is_unused(&s[i..])
+}
+
+// Whether so many octets of a page are 00, and all others FF.
+fn is_page(used: usize, page: &[u8]) -> bool
+    requires { ⌜ (pageSize ≤ length (now page)) × (used ≤ pageSize) ⌝ }
+    ensures { λ r. ⌜ r ≡ (runs (now (page .entry)) && eqb (count (now (page .entry))) used) ⌝ }
+{
+    octets::is_clear(&page[..used]) & are_unused(&page[used..PAGE_SIZE])
+}
+
+// The count of 00 in a page that is a run of 00 followed only by FF, by halves: an octet before its end is 00, and one after it is not.
 pub fn count_used(page: &[u8]) -> usize
     requires { ⌜ pageSize ≤ length (now page) ⌝ }
-    ensures { λ r. ⌜ r ≡ count (now (page .entry)) ⌝ }
+    ensures { λ r. ⌜ (r ≤ pageSize) × (runs (now (page .entry)) ≡ true → r ≡ count (now (page .entry))) ⌝ }
 {
-    let mut i = 0;
-    while i < PAGE_SIZE {
-        if page[i] != USED {
-            return i;
+    let mut low = 0;
+    let mut high = PAGE_SIZE;
+    while low < high {
+        let middle = low + (high - low) / 2;
+        if page[middle] == USED {
+            low = middle + 1;
+        } else {
+            high = middle;
         }
-        i += 1;
     }
-    i
+    low
 }
 
 // Question 15 of a restart: is the page a run of 00 followed only by FF?
@@ -47,8 +75,7 @@ pub fn is_run(page: &[u8]) -> bool
     requires { ⌜ pageSize ≤ length (now page) ⌝ }
     ensures { λ r. ⌜ r ≡ runs (now (page .entry)) ⌝ }
 {
-    let used = count_used(page);
-    is_unused(&page[used..PAGE_SIZE])
+    is_page(count_used(page), page)
 }
 
 // Question 15 of a call, beside a record with this L: is the page a run of 00 followed only by FF, and is its count of 00 L/16 rounded up?
@@ -59,8 +86,7 @@ pub fn goes_with(local: u32, page: &[u8]) -> bool
     if local > LAST_INCARNATION {
         return false;
     }
-    let used = ((local + 15) / NUMBERS_EACH) as usize;
-    octets::is_clear(&page[..used]) & is_unused(&page[used..PAGE_SIZE])
+    is_page(((local + 15) / NUMBERS_EACH) as usize, page)
 }
 
 // The one store of a call that leaves the number local: where no octet of the page reserves it yet, the next one is set to 00. Nothing else is

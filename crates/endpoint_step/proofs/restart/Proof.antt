@@ -1,9 +1,7 @@
 use Prim.Native.Nat.{ℕ}
 use mathlib.Core.Path.{sym, ap, _∙_}
-use native.Mathlib.Omega.{arith}
 use denote.Ref.{now}
 use borrow.Author.Tests.{not-true, not-false}
-use Rattle.page.proofs.Laws.{count≤}
 use Rattle.protocol.specs.Restart.{restarted}
 use Rattle.protocol.specs.Table.{noticeNumber}
 use Rattle.call_spec.specs.Calls.{wire}
@@ -24,13 +22,14 @@ returns-2 c =
     (c .unchanged2 .ensures)
 
 restarted-requires : tie.Need-restarted-requires
-restarted-requires c κs = omega (arith, c .count-used .ensures, count≤ (now (c .before .before .before .before .before .args .page)) (c .before .before .before .if1 .left))
+restarted-requires c κs = c .count-used .ensures .0
 
 returns-3 : tie.Need-returns-3
 unfolding stepAnswerOf noticeNumber wire blockIn
 returns-3 c =
-    let e = c .restarted .ensures ∙ ap (λ (n : ℕ). pack (restarted n)) (c .before .count-used .ensures) in
-    rw (restarts (now (c .before .before .before .before .before .before .args .page)) (c .before .before .before .before .if1 .left) (sym (c .before .before .before .is-run .ensures) ∙ not-false (c .before .before .before .is-run .result) (c .before .before .if2 .left)))
+    let r = sym (c .before .before .before .is-run .ensures) ∙ not-false (c .before .before .before .is-run .result) (c .before .before .if2 .left) in
+    let e = c .restarted .ensures ∙ ap (λ (n : ℕ). pack (restarted n)) (c .before .count-used .ensures .1 r) in
+    rw (restarts (now (c .before .before .before .before .before .before .args .page)) (c .before .before .before .before .if1 .left) r)
     (λ i. record { number = 0; endpoint = e i; notice = 0; sent = 0; block = 0 })
 
 pub restart-spec : {M : Type 1} → statement M

@@ -4,7 +4,6 @@ use native.Mathlib.Omega.{arith}
 use lib.ListN.{length}
 use denote.Ref.{now}
 use borrow.Author.Tests.{not-true, not-false}
-use Rattle.page.proofs.Laws.{count≤}
 use Rattle.endpoint.specs.declared.Endpoint.{Endpoint}
 use Rattle.endpoint.specs.Record.{encode}
 use Rattle.link.proofs.Restarts.{restart-refused, short-record, short-page, wrong-page, restarts}
@@ -28,17 +27,16 @@ returns-3 c =
     restart-refused (now (a .rec)) (now (a .page)) (wrong-page (now (a .rec)) (now (a .page)) (omega (arith, c .before .before .before .before .before .if1 .left)) (omega (arith, c .before .before .before .before .if2 .left)) (sym (r .ensures) ∙ not-true (r .result) (c .before .before .if3 .taken))) (c .refuse3 .ensures)
 
 restarted-requires : tie.Need-restarted-requires
-restarted-requires c κs =
-    let a = c .before .before .before .before .before .before .before .args in
-    omega (arith, c .count-used .ensures, count≤ (now (a .page)) (omega (arith, c .before .before .before .if2 .left)))
+restarted-requires c κs = c .count-used .ensures .0
 
 returns-4 : tie.Need-returns-4
 returns-4 c =
     let a = c .before .before .before .before .before .before .before .before .before .before .before .before .args in
     let r = c .before .before .before .before .before .before .before .is-run in
-    let n = c .before .before .before .before .before .count-used .ensures in
+    let run = sym (r .ensures) ∙ not-false (r .result) (c .before .before .before .before .before .before .if3 .left) in
+    let n = c .before .before .before .before .before .count-used .ensures .1 run in
     let e = c .before .before .before .before .restarted .ensures in
-    restarts (now (a .rec)) (now (a .page)) (omega (arith, c .before .before .before .before .before .before .before .before .before .if1 .left)) (omega (arith, c .before .before .before .before .before .before .before .before .if2 .left)) (sym (r .ensures) ∙ not-false (r .result) (c .before .before .before .before .before .before .if3 .left)) n e (c .before .before .encode .ensures)
+    restarts (now (a .rec)) (now (a .page)) (omega (arith, c .before .before .before .before .before .before .before .before .before .if1 .left)) (omega (arith, c .before .before .before .before .before .before .before .before .if2 .left)) run n e (c .before .before .encode .ensures)
 
 pub restart-spec : {M : Type 1} → statement M
 restart-spec =
