@@ -13,13 +13,13 @@ use Rattle.frame.specs.Frame.{Frame}
 use Rattle.frame.specs.Layout.{encode}
 use Rattle.protocol.specs.Table.{Step, Sent, nothing, frame}
 use Rattle.call_spec.specs.declared.Call.the-variants.{Request}
-use Rattle.call_spec.specs.Calls.{Arguments, wire, performed, pageAfter}
+use Rattle.call_spec.specs.Calls.{Arguments, wire, pageAfter}
 use Rattle.call_spec.specs.Claim.{Lent, lent, Act, call, comesBy}
 use Rattle.call_spec.specs.Answers.{sentIn, blockOf, blockPart}
 use Rattle.endpoint.specs.Record.{recordSize}
 use Rattle.link.specs.declared.Answer.{Answer}
 use Rattle.link.specs.Record.{format}
-use Rattle.link.specs.Lent.{sentOf, answerOf, Called, lentAfter}
+use Rattle.link.specs.Lent.{sentOf, answerOf, Called}
 use Rattle.link.proofs.Answers.{sent-fits, sent-taken}
 use Rattle.bench_log.specs.Log.{places}
 use Rattle.bench_spec.specs.Bench.{sends, logged, callOutcome, logAfter, countAfter}

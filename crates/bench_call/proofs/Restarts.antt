@@ -18,9 +18,8 @@ use Rattle.call_spec.specs.Claim.{lent}
 use Rattle.call_spec.specs.Answers.{blockIn, blockOf, blockBufferAfter}
 use Rattle.link.specs.declared.Answer.{Answer}
 use Rattle.link.specs.Record.{format}
-use Rattle.link.specs.Lent.{sentOf, answerOf, Restarted, lentAfter}
+use Rattle.link.specs.Lent.{sentOf, answerOf, Restarted}
 use Rattle.bench_spec.specs.Bench.{sends, callOutcome, logAfter, countAfter}
-use Rattle.bench_call.specs.declared.BenchAnswer.{BenchAnswer}
 use Rattle.bench_call.specs.Answer.{blockAt, benchAnswerOf}
 use Rattle.bench_call.specs.Internal.{restartAt, Does}
 use Rattle.bench_call.proofs.Moves.{quiet-logs}

@@ -1,5 +1,5 @@
 -- What holds where questions 11, 12 and 15 are passed.
-use Prim.Native.Nat.{ℕ, _≤_}
+use Prim.Native.Nat.{_≤_}
 use mathlib.Core.Path.{_≡_}
 use mathlib.Core.Bool.{true}
 use borrow.Author.Tests.{leb-true}
@@ -12,7 +12,7 @@ use Rattle.octets.proofs.Test.{all-yes}
 use Rattle.call_spec.specs.Calls.{Rooms}
 use Rattle.call_spec.specs.Claim.{Lent}
 use Rattle.link.specs.Record.{format, pagedFor}
-use Rattle.bench_spec.specs.Bench.{Bench, neither, soundAt, pagedAt}
+use Rattle.bench_spec.specs.Bench.{Bench, neither}
 use Rattle.bench_checks.specs.Ready.{readyQuestions}
 
 -- of an end that is not restarted

@@ -13,7 +13,7 @@ use Rattle.hex.specs.Line.{unhex, lengthOk, lineQuestions}
 use Rattle.hex.proofs.Asked as reading
 use Rattle.hex.proofs.Digits.{length-unhex}
 use Rattle.call_spec.specs.Calls.{Rooms}
-use Rattle.bench_spec.specs.Bench.{Bench, At, neither, bufferQuestions, roomQuestions, soundQuestions, octetsAsk, restartedBy, restartedEnd, lineAsks}
+use Rattle.bench_spec.specs.Bench.{Bench, At, neither, bufferQuestions, roomQuestions, soundQuestions, octetsAsk, restartedEnd, lineAsks}
 use Rattle.bench_checks.specs.Ready.{readyQuestions}
 use Rattle.bench_line.specs.Internal.{readAsks}
 

@@ -20,7 +20,7 @@ use Rattle.call_spec.specs.Answers.{blockOf, blockBufferAfter}
 use Rattle.bench_log.specs.Log.{senderAt, frameLogged, holds}
 use Rattle.bench_log.proofs.Log.{held}
 use Rattle.bench_spec.specs.Bench.{Bench, benchOf, lentAt, At, delivery, octetsAsk, restartAsk, restartedBy, neither, endNamed, callOutcome, comes, endOf, logAfter, countAfter, benchAfter, requestOfA, requestOfB, deliver, restartKind}
-use Rattle.link.specs.Lent.{lentAfter, answerOf}
+use Rattle.link.specs.Lent.{answerOf}
 use Rattle.link.specs.declared.Answer.{Answer}
 use Rattle.bench_checks.proofs.Passed.{Fit, Passed}
 use Rattle.bench_call.specs.declared.BenchAnswer.{BenchAnswer}

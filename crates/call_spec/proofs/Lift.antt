@@ -25,11 +25,10 @@ use Rattle.protocol.specs.Table.{none, Step, quiet}
 use Rattle.protocol.specs.Restart.{restarted, afterRestart}
 use Rattle.protocol.specs.History.{History, now, sent, endpointLeft}
 use Rattle.protocol.specs.History as protocol
-use Rattle.protocol.specs.World.{Ends}
 use Rattle.protocol.specs.Claim.{blockSent, NoEndAlone, NoNumberTwice}
 use Rattle.protocol.specs.Limits.{Sized}
 use Rattle.protocol.proofs.Calls.{Next, next-on}
-use Rattle.protocol.proofs.World.{asking, Asks, Simulates, kept, no-end-alone}
+use Rattle.protocol.proofs.World.{Asks, Simulates, kept, no-end-alone}
 use Rattle.protocol.proofs.Theorem.{Roomy, roomy, limited}
 use Rattle.protocol.proofs.Theorem as protocol-theorem
 use Rattle.call_spec.specs.declared.Call.{Call}

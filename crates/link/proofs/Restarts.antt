@@ -6,11 +6,11 @@ use mathlib.Core.List.{List}
 use borrow.Author.Tests.{le-leb, lt-leb}
 use lib.ListN.{length}
 use Rattle.octets.specs.Sizes.{pageSize}
-use Rattle.octets.specs.Test.{when, first, Outcome, refused, ok, refusing, mapped, numberOf}
+use Rattle.octets.specs.Test.{when, first, refused, ok, refusing, mapped, numberOf}
 use Rattle.octets.specs.Octets.{put, left}
 use Rattle.page.specs.Page.{runs, count}
 use Rattle.protocol.specs.Restart.{restarted}
-use Rattle.protocol.specs.Table.{none, Step, quiet, noticeNumber}
+use Rattle.protocol.specs.Table.{none, quiet, noticeNumber}
 use Rattle.call_spec.specs.Calls.{wire, restarting, restartedIn, recordAfter}
 use Rattle.call_spec.specs.Answers.{noticeOf, blockIn, blockOf}
 use Rattle.endpoint.specs.declared.Endpoint.{Endpoint}

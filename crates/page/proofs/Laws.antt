@@ -130,15 +130,15 @@ only-is x (y ∷ s) h = let u = both (eqb y x) (only x s) h in ap₂ (λ (z : �
 abbrev run-of-both : ℕ → ℕ → List ℕ
 run-of-both n m = replicate n used ++ replicate m unused
 
-leading-yes : (x : ℕ) (s : List ℕ) → x ≡ used → leading (x ∷ s) ≡ suc (leading s)
+pub leading-yes : (x : ℕ) (s : List ℕ) → x ≡ used → leading (x ∷ s) ≡ suc (leading s)
 unfolding leading
 leading-yes x s e = let k : leading s + 1 ≡ suc (leading s) = omega arith in eq-yes _ _ _ _ e ∙ k
 
-leading-no : (x : ℕ) (s : List ℕ) → x ≢ used → leading (x ∷ s) ≡ 0
+pub leading-no : (x : ℕ) (s : List ℕ) → x ≢ used → leading (x ∷ s) ≡ 0
 unfolding leading
 leading-no x s n = eq-no _ _ _ _ n
 
-leading-none : leading [] ≡ 0
+pub leading-none : leading [] ≡ 0
 unfolding leading
 leading-none = refl
 

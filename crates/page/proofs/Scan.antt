@@ -13,10 +13,10 @@ use lib.ListN.{length, take, drop, set, getD}
 use lib.Seq.{take-suc, take-add, length-take-le, getD-take}
 use Rattle.octets.specs.Sizes.{pageSize, numbersEach, lastIncarnation}
 use Rattle.octets.specs.Test.{when, zeros}
-use Rattle.octets.proofs.Test.{if-lt, by-eq, eq-yes, eq-no, lt-yes, both, joined}
+use Rattle.octets.proofs.Test.{by-eq, by-lt, lt-yes, both, joined}
 use Rattle.octets.proofs.Each.{alike}
-use Rattle.page.specs.Page.{used, unused, usedFor, only, isRun, leading, runs, count, goesWith, reserving}
-use Rattle.page.proofs.Laws.{count≤, goes-so, goes-last, stays}
+use Rattle.page.specs.Page.{used, unused, only, isRun, leading, runs, count, goesWith, reserving}
+use Rattle.page.proofs.Laws.{leading-yes, leading-no, leading-none, goes-last, stays}
 
 pub zeros-only : (s : List ℕ) → zeros s ≡ only used s
 unfolding zeros only
@@ -48,9 +48,6 @@ pub bits-more : (s : List ℕ) (i : ℕ) → i < length s → getD s i 0 ≤ unu
     → eqb (bitAnd x (getD s i 0)) unused ≡ only unused (take (i + 1) s)
 bits-more s i h k x f e = and-unused x (getD s i 0) f k ∙ rw e (only-more unused s i h)
 
-by-lt : {A : Type 0} (a b : ℕ) → (a < b → A) → (b ≤ a → A) → A
-by-lt {A} a b f g = if-lt (λ (_ : ℕ). A) a b {x = 0} {y = 0} f g
-
 -- what is left of a page from the place i
 abbrev pub left : ℕ → List ℕ → List ℕ
 left i s = take (pageSize - i) (drop i s)
@@ -64,21 +61,9 @@ module _ (x : ℕ) (s : List ℕ) where
   unfolding isRun when
   run-no n = rw (ne-eqb x used n, when)
 
-  leading-yes : x ≡ used → leading (x ∷ s) ≡ leading s + 1
-  unfolding leading
-  leading-yes e = eq-yes _ _ _ _ e
-
-  leading-no : x ≢ used → leading (x ∷ s) ≡ 0
-  unfolding leading
-  leading-no n = eq-no _ _ _ _ n
-
 run-none : isRun [] ≡ true
 unfolding isRun
 run-none = refl
-
-leading-none : leading [] ≡ 0
-unfolding leading
-leading-none = refl
 
 -- a run of 00 followed only by FF, cut where the 00 end
 parts : (a b : List ℕ) → isRun (a ++ b) ≡ true → leading (a ++ b) ≡ length a → (only used a && only unused b) ≡ true

@@ -8,10 +8,10 @@ use native.Mathlib.Decide.{ℕ-discrete}
 use Rattle.frame.specs.Frame.{Block, CRAO, Frame, control, connect}
 use Rattle.protocol.specs.Endpoint.{Endpoint}
 use Rattle.protocol.specs.Restart.{restarted}
-use Rattle.protocol.specs.Table.{none, Sent, nothing, Notice, Step, quiet}
+use Rattle.protocol.specs.Table.{none, Sent, Notice, Step, quiet}
 use Rattle.protocol.specs.Requests.{begun, accept}
 use Rattle.protocol.specs.History.{ask, Act, call, Event, History, now, sent}
-use Rattle.protocol.specs.Claim.{BegunByConnect, Opens, Promised, Restarts, RestartedWhile, Met}
+use Rattle.protocol.specs.Claim.{BegunByConnect, Opens, Restarts, RestartedWhile, Met}
 use Rattle.protocol.proofs.Facts.{Laden, none-lengths, load, Move, stays, answers, recalls, opens, joins, relistens, resets, hangs-up, drops}
 use Rattle.protocol.proofs.Facts.{Says, silence, crao, crpo, crack, rej, reset-said, dr, drack, drack-to-other, datum, ack, Fires, fires, Carry, stepTo}
 use Rattle.protocol.proofs.Calls.{Of, Heard, no-frame, from, with-new, event, Deed, refuses, connects, listens, goes, restarts}

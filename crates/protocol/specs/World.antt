@@ -1,7 +1,7 @@
 -- Two ends and a list of calls at them, whatever form their records have (document 01, "Demand 3, over a list of calls").
 use mathlib.Core.Path.{_≡_}
 use mathlib.Core.List.{List, [], _∷_}
-use Rattle.octets.specs.Test.{Outcome, refused, ok}
+use Rattle.octets.specs.Test.{Outcome, ok}
 use Rattle.protocol.specs.Endpoint.{Endpoint, fresh}
 use Rattle.protocol.specs.Table.{Step}
 use Rattle.protocol.specs.History.{endpointLeft, Act, does, History, recorded, Due}

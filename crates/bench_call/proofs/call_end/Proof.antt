@@ -1,11 +1,8 @@
 use mathlib.Core.Path.{_≡_, sym, ap, _∙_}
 use denote.Ref.{now}
-use mathlib.Core.List.{List}
-use Prim.Native.Nat.{ℕ}
 use lib.ListN.{length}
 use borrow.Author.Tests.{not-true, not-false}
-use Rattle.octets.specs.Test.{when, Outcome, refused}
-use Rattle.protocol.specs.Table.{Step}
+use Rattle.octets.specs.Test.{when, refused}
 use Rattle.call_spec.specs.Calls.{Arguments, rooms, performed, pageAfter}
 use Rattle.call_spec.specs.Claim.{Lent, lent}
 use Rattle.call_spec.proofs.Sequence.{has-room}

@@ -1,4 +1,4 @@
-use mathlib.Core.Path.{refl, sym, _∙_}
+use mathlib.Core.Path.{refl}
 use Rattle.octets.specs.Test.{when}
 use borrow.Author.Needs.{needs}
 use Rattle.bench_checks.proofs.is_sound.Statement.{statement}

@@ -1,11 +1,10 @@
-use mathlib.Core.Path.{_≡_, refl, sym, ap, _∙_}
+use mathlib.Core.Path.{refl, sym, ap, _∙_}
 use mathlib.Core.List.{List}
 use Prim.Native.Nat.{ℕ}
 use denote.Ref.{now}
 use lib.ListN.{length, replicate}
 use lib.Seq.{length-take-le}
 use Rattle.octets.specs.Sizes.{longestFrame}
-use Rattle.octets.specs.Test.{Outcome, refused}
 use Rattle.hex.specs.Line.{unhex}
 use Rattle.hex.proofs.Asked.{Passed, passed, fits, reads, turned-away}
 use Rattle.call_spec.specs.Calls.{Rooms, rooms}

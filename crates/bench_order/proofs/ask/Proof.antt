@@ -13,7 +13,7 @@ use Rattle.call_spec.specs.Claim.{Lent, lent, call}
 use Rattle.link.specs.Lent.{lentCall}
 use Rattle.bench_spec.specs.Bench.{Bench, benchOf, neither, restartKind}
 use Rattle.bench_checks.specs.Ready.{readyQuestions}
-use Rattle.bench_checks.proofs.Passed.{Passed, passed}
+use Rattle.bench_checks.proofs.Passed.{passed}
 use Rattle.bench_order.specs.Performed.{lineStart, callBy}
 use Rattle.bench_order.proofs.Plays.{ready-a, ready-b, declines, at-a, at-b, asks-a, asks-b, asks-restart, asks-none, asks-short, asks-frame, restarts-neither, starts-none, starts-at, number-of}
 use native.Mathlib.Omega.{arith}

@@ -1,5 +1,4 @@
-use mathlib.Core.Path.{_≡_, sym, _∙_}
-use native.Mathlib.Omega.{arith}
+use mathlib.Core.Path.{sym, _∙_}
 use Rattle.octets.proofs.Test.{eq-yes, eq-no}
 use Rattle.frame.specs.Read.{kindOf}
 use Rattle.bench_spec.specs.Bench.{restartedBy}

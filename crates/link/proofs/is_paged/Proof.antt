@@ -1,6 +1,5 @@
-use mathlib.Core.Path.{sym, ap, _∙_}
+use mathlib.Core.Path.{ap, _∙_}
 use denote.Ref.{now}
-use Prim.Native.Nat.{ℕ}
 use Rattle.page.specs.Page.{goesWith}
 use Rattle.step_rules.specs.declared.Numbers.{Numbers}
 use Rattle.endpoint.specs.View.{view}

@@ -2,7 +2,6 @@ use mathlib.Core.Path.{_∙_}
 use denote.Ref.{now}
 use Rattle.page.proofs.Scan.{runs-is}
 use borrow.Author.Needs.{needs}
-use native.Mathlib.Omega.{arith}
 use Rattle.page.proofs.is_run.Statement.{statement}
 use Rattle.page.proofs.is_run.Tie as tie
 
