@@ -11,6 +11,47 @@ use reference::frame::LONGEST_FRAME;
 use reference::record::{Record, RECORD};
 use reference::Frame;
 
+/// An end that is the reference but for the calls that it makes otherwise.
+trait Faulty {
+    fn restart(record: &mut [u8], page: &[u8]) -> u8 {
+        Reference::restart(record, page)
+    }
+
+    fn request(
+        record: &mut [u8],
+        page: &mut [u8],
+        request: &[u8],
+        out: &mut [u8],
+        up: &mut [u8],
+    ) -> Reply {
+        Reference::request(record, page, request, out, up)
+    }
+
+    fn receive(record: &mut [u8], page: &[u8], frame: &[u8], out: &mut [u8]) -> Reply {
+        Reference::receive(record, page, frame, out)
+    }
+}
+
+impl<T: Faulty> End for T {
+    fn restart(record: &mut [u8], page: &[u8]) -> u8 {
+        <T as Faulty>::restart(record, page)
+    }
+
+    fn request(
+        record: &mut [u8],
+        page: &mut [u8],
+        request: &[u8],
+        out: &mut [u8],
+        up: &mut [u8],
+    ) -> Reply {
+        <T as Faulty>::request(record, page, request, out, up)
+    }
+
+    fn receive(record: &mut [u8], page: &[u8], frame: &[u8], out: &mut [u8]) -> Reply {
+        <T as Faulty>::receive(record, page, frame, out)
+    }
+}
+
 /// The reference, with its promises checked at each call.
 struct Checked;
 
@@ -141,7 +182,7 @@ impl<const FAULT: u8> Broken<FAULT> {
     }
 }
 
-impl<const FAULT: u8> End for Broken<FAULT> {
+impl<const FAULT: u8> Faulty for Broken<FAULT> {
     fn restart(record: &mut [u8], page: &[u8]) -> u8 {
         let number = Reference::restart(record, page);
         match record.get_mut(RECORD) {

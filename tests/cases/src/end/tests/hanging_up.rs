@@ -1,7 +1,7 @@
 //! What is wrong about a call that is hung up is found.
 
 use super::super::{End, Reply};
-use super::failed_requests;
+use super::{failed_requests, Faulty};
 use crate::records::Numbers;
 use crate::Reference;
 use reference::frame::{Body, Signal};
@@ -22,11 +22,7 @@ const TELLS_OF_THE_END_TOO_EARLY: u8 = 7;
 const FORGETS_THE_PARTNER: u8 = 8;
 const HANGS_UP_WHILE_ANSWERING: u8 = 9;
 
-impl<const FAULT: u8> End for Broken<FAULT> {
-    fn restart(record: &mut [u8], page: &[u8]) -> u8 {
-        Reference::restart(record, page)
-    }
-
+impl<const FAULT: u8> Faulty for Broken<FAULT> {
     fn request(
         record: &mut [u8],
         page: &mut [u8],
@@ -50,10 +46,6 @@ impl<const FAULT: u8> End for Broken<FAULT> {
             }
         }
         reply
-    }
-
-    fn receive(record: &mut [u8], page: &[u8], frame: &[u8], out: &mut [u8]) -> Reply {
-        Reference::receive(record, page, frame, out)
     }
 }
 

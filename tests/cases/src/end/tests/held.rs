@@ -1,7 +1,7 @@
 //! What is wrong about held blocks is found.
 
 use super::super::{End, Reply};
-use super::{failed_frames, failed_requests};
+use super::{failed_frames, failed_requests, Faulty};
 use crate::records::unsound::{self, Fault};
 use crate::records::{held, hold, Numbers, HELD_LENGTHS};
 use crate::Reference;
@@ -27,11 +27,7 @@ const LEAVES_WHAT_IT_COLLECTS: u8 = 9;
 const TELLS_NO_NOTICE: u8 = 10;
 const CLOSES_WITH_BLOCKS_HELD: u8 = 11;
 
-impl<const FAULT: u8> End for BrokenRequest<FAULT> {
-    fn restart(record: &mut [u8], page: &[u8]) -> u8 {
-        Reference::restart(record, page)
-    }
-
+impl<const FAULT: u8> Faulty for BrokenRequest<FAULT> {
     fn request(
         record: &mut [u8],
         page: &mut [u8],
@@ -67,10 +63,6 @@ impl<const FAULT: u8> End for BrokenRequest<FAULT> {
             _ => {}
         }
         reply
-    }
-
-    fn receive(record: &mut [u8], page: &[u8], frame: &[u8], out: &mut [u8]) -> Reply {
-        Reference::receive(record, page, frame, out)
     }
 }
 
@@ -165,21 +157,7 @@ const CASCADES: u8 = 6;
 const IS_HUNG_UP_ON_WITH_BLOCKS_HELD: u8 = 7;
 const HANDS_UP_THE_COPY: u8 = 8;
 
-impl<const FAULT: u8> End for BrokenData<FAULT> {
-    fn restart(record: &mut [u8], page: &[u8]) -> u8 {
-        Reference::restart(record, page)
-    }
-
-    fn request(
-        record: &mut [u8],
-        page: &mut [u8],
-        request: &[u8],
-        out: &mut [u8],
-        up: &mut [u8],
-    ) -> Reply {
-        Reference::request(record, page, request, out, up)
-    }
-
+impl<const FAULT: u8> Faulty for BrokenData<FAULT> {
     fn receive(record: &mut [u8], page: &[u8], frame: &[u8], out: &mut [u8]) -> Reply {
         let before = record.to_vec();
         let mut reply = Reference::receive(record, page, frame, out);
@@ -280,11 +258,7 @@ impl<const FAULT: usize> Lenient<FAULT> {
     }
 }
 
-impl<const FAULT: usize> End for Lenient<FAULT> {
-    fn restart(record: &mut [u8], page: &[u8]) -> u8 {
-        Reference::restart(record, page)
-    }
-
+impl<const FAULT: usize> Faulty for Lenient<FAULT> {
     fn request(
         record: &mut [u8],
         page: &mut [u8],

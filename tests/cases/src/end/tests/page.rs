@@ -1,7 +1,7 @@
 //! What is wrong about pages and restarts is found.
 
 use super::super::{nothing_met, restarts, End, Reply};
-use super::{failed_frames, failed_requests};
+use super::{failed_frames, failed_requests, Faulty};
 use crate::pages::{self, Sort};
 use crate::records::Numbers;
 use crate::Reference;
@@ -30,7 +30,7 @@ impl<const SORT: usize> Lenient<SORT> {
     }
 }
 
-impl<const SORT: usize> End for Lenient<SORT> {
+impl<const SORT: usize> Faulty for Lenient<SORT> {
     fn restart(record: &mut [u8], page: &[u8]) -> u8 {
         Reference::restart(record, &Self::mended(record, page))
     }
@@ -105,11 +105,7 @@ impl<const FAULT: u8> Broken<FAULT> {
     }
 }
 
-impl<const FAULT: u8> End for Broken<FAULT> {
-    fn restart(record: &mut [u8], page: &[u8]) -> u8 {
-        Reference::restart(record, page)
-    }
-
+impl<const FAULT: u8> Faulty for Broken<FAULT> {
     fn request(
         record: &mut [u8],
         page: &mut [u8],
@@ -178,7 +174,7 @@ const RESTARTS_ONE_NUMBER_ON: u8 = 4;
 const ASKS_NO_LENGTH: u8 = 5;
 const CUTS_THE_NUMBER: u8 = 6;
 
-impl<const FAULT: u8> End for BrokenRestart<FAULT> {
+impl<const FAULT: u8> Faulty for BrokenRestart<FAULT> {
     fn restart(record: &mut [u8], page: &[u8]) -> u8 {
         let before = record.to_vec();
         let number = match FAULT {
@@ -205,20 +201,6 @@ impl<const FAULT: u8> End for BrokenRestart<FAULT> {
             _ => {}
         }
         number
-    }
-
-    fn request(
-        record: &mut [u8],
-        page: &mut [u8],
-        request: &[u8],
-        out: &mut [u8],
-        up: &mut [u8],
-    ) -> Reply {
-        Reference::request(record, page, request, out, up)
-    }
-
-    fn receive(record: &mut [u8], page: &[u8], frame: &[u8], out: &mut [u8]) -> Reply {
-        Reference::receive(record, page, frame, out)
     }
 }
 

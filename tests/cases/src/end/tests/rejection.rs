@@ -1,7 +1,7 @@
 //! What is wrong about the rows that tell a partner of a restart is found.
 
 use super::super::{End, Reply};
-use super::failed_frames;
+use super::{failed_frames, Faulty};
 use crate::records::Numbers;
 use crate::Reference;
 use reference::frame::{Body, Signal};
@@ -39,21 +39,7 @@ impl<const FAULT: u8> Broken<FAULT> {
     }
 }
 
-impl<const FAULT: u8> End for Broken<FAULT> {
-    fn restart(record: &mut [u8], page: &[u8]) -> u8 {
-        Reference::restart(record, page)
-    }
-
-    fn request(
-        record: &mut [u8],
-        page: &mut [u8],
-        request: &[u8],
-        out: &mut [u8],
-        up: &mut [u8],
-    ) -> Reply {
-        Reference::request(record, page, request, out, up)
-    }
-
+impl<const FAULT: u8> Faulty for Broken<FAULT> {
     fn receive(record: &mut [u8], page: &[u8], frame: &[u8], out: &mut [u8]) -> Reply {
         let before = record.to_vec();
         let mut reply = Reference::receive(record, page, frame, out);
