@@ -9,9 +9,9 @@ use lib.Dec.{ltb, leb}
 use lib.ListN.{length, take, drop, replicate}
 use lib.Seq.{take-length}
 use Rattle.octets.specs.Sizes.{longestFrame}
-use Rattle.octets.specs.Octets.{put, padded}
+use Rattle.octets.specs.Octets.{put, padded, Octets}
 use Rattle.octets.proofs.Test.{both, within}
-use Rattle.octets.proofs.Octets.{put-more}
+use Rattle.octets.proofs.Octets.{put-more, octets-cons, octets-append, octets-zeros}
 use Rattle.bench_log.specs.Log.{senderAt, lengthAt, holds, place, placeSize}
 
 -- a number that is too high
@@ -47,6 +47,12 @@ length-zeros (suc n) = ap suc (length-zeros n)
 
 zeros-from : (k : ℕ) → k ≤ longestFrame → take (longestFrame - k) (drop k (zeros longestFrame)) ≡ zeros (longestFrame - k)
 zeros-from k h = rw (rest-zeros longestFrame k) (ap (λ (n : ℕ). take n (zeros (longestFrame - k))) (sym (length-zeros (longestFrame - k))) ∙ take-length (zeros (longestFrame - k)))
+
+-- what is entered is octets, where the frame is
+pub octets-place : (sender : ℕ) (s : List ℕ) → sender < 256 → length s < 256 → Octets s → Octets (place sender s)
+unfolding place padded
+octets-place sender s h k o =
+    octets-cons sender _ h (octets-cons (length s) _ k (octets-append s _ o (octets-zeros (longestFrame - length s))))
 
 -- sender, length, frame, zeros, one after the other
 pub entered : (d frame : List ℕ) (at sender : ℕ) → length frame ≤ longestFrame → at + placeSize ≤ length d → {w x y z : List ℕ} → w ≡ put d at (sender ∷ [])

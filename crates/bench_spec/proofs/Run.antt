@@ -62,7 +62,7 @@ refusal {w} {e} h i n =
     }
 
 -- what an accepted call came to: its own outcome, and a place left if it sends
-came : (l : Lent) (count : ℕ) (c : Act) {y : Step} → callOutcome l count c ≡ ok y
+pub came : (l : Lent) (count : ℕ) (c : Act) {y : Step} → callOutcome l count c ≡ ok y
     → (ends .comes l c ≡ ok y) × (when (sends (y .sent)) (ltb count places) true ≡ true)
 unfolding callOutcome logged
 came l count c h =
