@@ -164,11 +164,12 @@ uint8_t dock_bench(uint8_t *a, size_t a_len, uint8_t *b, size_t b_len, uint8_t *
                    uint32_t *remote, size_t *sent, size_t *at, size_t *block);
 
 /*
- * Names some frame in the book whose delivery now would be accepted and change the receiver's record: frame is its number, counted
- * from 0, or DOCK_NO_FRAME where there is none or the question is refused. Answers 0, 11, 12 or 15, and writes nothing else.
+ * Names the first frame of the book, the lowest numbered one, whose delivery now would be accepted and change the receiver's record:
+ * frame is its number, counted from 0, or DOCK_NO_FRAME where there is none or the question is refused. Answers 0, 11, 12 or 15, and
+ * writes nothing else.
  */
-uint8_t dock_some_frame(const uint8_t *a, size_t a_len, const uint8_t *b, size_t b_len, const uint8_t *a_page, size_t a_page_len,
-                        const uint8_t *b_page, size_t b_page_len, const uint8_t *book, size_t book_len, size_t count, size_t *frame);
+uint8_t dock_first_frame(const uint8_t *a, size_t a_len, const uint8_t *b, size_t b_len, const uint8_t *a_page, size_t a_page_len,
+                         const uint8_t *b_page, size_t b_page_len, const uint8_t *book, size_t book_len, size_t count, size_t *frame);
 
 /*
  * What a host writes: an end with its buffers, and one answer for every call. Later editions add fields to both.
@@ -297,12 +298,22 @@ static inline dock_answer dock_pair_line(dock_pair *pair, const char *line, size
     return a;
 }
 
-/* Some frame whose delivery would change a record, or DOCK_NO_FRAME. */
-static inline size_t dock_pair_some_frame(const dock_pair *pair) {
+/* Delivers the frame of this number, counted from 0: the line 52 with that number. One that the book does not hold is refused by 13. */
+static inline dock_answer dock_pair_deliver(dock_pair *pair, size_t frame) {
+    static const char digits[] = "0123456789abcdef";
+    const size_t number = frame < UINT16_MAX ? frame : UINT16_MAX;
+    const char line[] = {'5', '2', digits[number >> 12], digits[number >> 8 & 15], digits[number >> 4 & 15], digits[number & 15]};
+    return dock_pair_line(pair, line, sizeof line);
+}
+
+/* The first frame of the book, the lowest numbered one, whose delivery now would be accepted and change the receiver's record, or
+ * DOCK_NO_FRAME. Delivering what it names, again and again, ends: after at most three deliveries for each place that the book has left,
+ * and 18 more, there is none. */
+static inline size_t dock_pair_first_frame(const dock_pair *pair) {
     size_t frame;
-    (void)dock_some_frame(pair->record[DOCK_A], sizeof pair->record[DOCK_A], pair->record[DOCK_B], sizeof pair->record[DOCK_B],
-                          pair->page[DOCK_A], sizeof pair->page[DOCK_A], pair->page[DOCK_B], sizeof pair->page[DOCK_B], pair->book,
-                          sizeof pair->book, pair->count, &frame);
+    (void)dock_first_frame(pair->record[DOCK_A], sizeof pair->record[DOCK_A], pair->record[DOCK_B], sizeof pair->record[DOCK_B],
+                           pair->page[DOCK_A], sizeof pair->page[DOCK_A], pair->page[DOCK_B], sizeof pair->page[DOCK_B], pair->book,
+                           sizeof pair->book, pair->count, &frame);
     return frame;
 }
 

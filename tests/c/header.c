@@ -319,12 +319,12 @@ static dock_answer line(dock_pair *pair, const char *text) {
 static void test_bench(void) {
     static dock_pair pair;
     dock_pair_init(&pair);
-    expect(dock_pair_some_frame(&pair) == DOCK_NO_FRAME, "an empty book has nothing to deliver");
+    expect(dock_pair_first_frame(&pair) == DOCK_NO_FRAME, "an empty book has nothing to deliver");
     dock_answer a = line(&pair, "5141");
     expect(a.number == DOCK_OK && a.end == DOCK_B && a.state == DOCK_LISTENING && is_silent(&a), "B listens");
     a = line(&pair, "5040");
     expect(a.end == DOCK_A && a.state == DOCK_CALLING && a.sent == 9 && a.sent_at == pair.out && pair.count == 1, "A calls");
-    expect(dock_pair_some_frame(&pair) == 0, "the call matters");
+    expect(dock_pair_first_frame(&pair) == 0, "the call matters");
     expect(line(&pair, "520000").state == DOCK_ANSWERING && line(&pair, "520001").state == DOCK_OPEN, "B answers, A opens");
     a = line(&pair, "520002");
     expect(a.end == DOCK_B && is_open(&a), "B opens");
@@ -336,7 +336,10 @@ static void test_bench(void) {
     expect(a.end == DOCK_B && a.notice == DOCK_HANDED_UP && a.block == 3 && memcmp(a.block_at, "abc", 3) == 0, "B has it");
     expect(a.block_at == pair.book + 3 * DOCK_PLACE + 2 + DOCK_BLOCK_AT, "it stands in the book");
     expect(line(&pair, "50440164").number == DOCK_OK && line(&pair, "50440165").number == DOCK_OK, "A sends two more");
-    expect(dock_pair_some_frame(&pair) != DOCK_NO_FRAME, "both matter");
+    expect(dock_pair_first_frame(&pair) == 4, "what B has is not acknowledged yet");
+    a = dock_pair_deliver(&pair, 4);
+    expect(a.number == DOCK_OK && a.end == DOCK_A && is_silent(&a), "its acknowledgement is delivered");
+    expect(dock_pair_first_frame(&pair) == 5, "of the two others the first is named");
     a = line(&pair, "520006");
     expect(a.end == DOCK_B && a.block == 0 && a.sent == 13, "the second arrives first, and is held");
     a = line(&pair, "5146");
@@ -348,6 +351,29 @@ static void test_bench(void) {
     expect(a.sent == 13 && a.sent_at == pair.out && pair.count == 10, "and acknowledged");
     a = line(&pair, "520200");
     expect(a.number == DOCK_NO_SUCH_FRAME && a.end == DOCK_A && is_silent(&a), "the book holds no frame 512");
+}
+
+/* Every frame that the book holds is delivered by its number, and the first that matters is named. Each is a call with another number. */
+static void test_bench_deliveries(void) {
+    static const size_t beyond[] = {DOCK_PLACES - 1, DOCK_PLACES, 0xffff, 0x10000, SIZE_MAX};
+    static dock_pair pair, after;
+    dock_pair_init(&pair);
+    (void)line(&pair, "5141");
+    for (pair.count = 0; pair.count < DOCK_PLACES - 1; pair.count++) {
+        size_t s = pair.count + 1;
+        const uint8_t place[] = {DOCK_A, 9, DOCK_CRAO, 0, 0, (uint8_t)(s >> 8), (uint8_t)s, 0, 0, 0, 0};
+        memcpy(pair.book + pair.count * DOCK_PLACE, place, sizeof place);
+    }
+    for (size_t frame = 0; frame < pair.count; frame++) {
+        after = pair;
+        dock_answer a = dock_pair_deliver(&after, frame);
+        expect(a.end == DOCK_B && a.state == DOCK_ANSWERING && a.remote == frame + 1, "the frame of that number is delivered");
+        expect(dock_pair_first_frame(&pair) == frame, "the first that is left is named");
+        memset(pair.book + frame * DOCK_PLACE, 0, DOCK_PLACE);
+    }
+    expect(dock_pair_first_frame(&pair) == DOCK_NO_FRAME, "none is left");
+    for (size_t i = 0; i < sizeof beyond / sizeof beyond[0]; i++)
+        expect(dock_pair_deliver(&pair, beyond[i]).number == DOCK_NO_SUCH_FRAME, "the book holds no such frame");
 }
 
 /* The pages of a bench, and its restarts. */
@@ -363,7 +389,7 @@ static void test_bench_restarts(void) {
     expect(line(&pair, "53").number == DOCK_BAD_SIZE && line(&pair, "535150").number == DOCK_BAD_SIZE, "a restart names one end");
     expect(line(&pair, "5352").number == DOCK_UNKNOWN_KIND && line(&pair, "5300").number == DOCK_UNKNOWN_KIND, "A or B");
     pair.record[DOCK_B][0] = 6;
-    expect(line(&pair, "5350").number == DOCK_UNSOUND && dock_pair_some_frame(&pair) == DOCK_NO_FRAME, "the other end has to be sound");
+    expect(line(&pair, "5350").number == DOCK_UNSOUND && dock_pair_first_frame(&pair) == DOCK_NO_FRAME, "the other end has to be sound");
     before = pair;
     a = line(&pair, "5351");
     expect(a.number == DOCK_OK && a.end == DOCK_B && is_silent(&a), "B restarts");
@@ -372,17 +398,20 @@ static void test_bench_restarts(void) {
     expect(memcmp(pair.page, before.page, sizeof pair.page) == 0, "and so do the pages");
     a = line(&pair, "520002");
     expect(a.end == DOCK_B && a.state == DOCK_CLOSED && a.sent == 9 && a.sent_at[0] == DOCK_REJ, "B refuses what A sent to it");
-    expect(dock_pair_some_frame(&pair) == 3, "that matters to A");
+    expect(dock_pair_first_frame(&pair) == 3, "that matters to A");
     a = line(&pair, "520003");
     expect(a.end == DOCK_A && a.state == DOCK_CLOSED && a.notice == DOCK_CLOSED_BY_PARTNER, "which is closed");
     pair.page[DOCK_B][1] = 0;
-    expect(line(&pair, "5045").number == DOCK_WRONG_PAGE && dock_pair_some_frame(&pair) == DOCK_NO_FRAME, "a page goes with its record");
+    expect(line(&pair, "5045").number == DOCK_WRONG_PAGE && dock_pair_first_frame(&pair) == DOCK_NO_FRAME, "a page goes with its record");
     expect(line(&pair, "5350").number == DOCK_WRONG_PAGE, "also where the other end restarts");
     a = line(&pair, "5351");
     expect(a.number == DOCK_OK && a.local == 32, "but any page will do for the end that restarts");
     expect(line(&pair, "5041").local == 2 && is_page(pair.page[DOCK_A], 1), "A listens, on the page that it has");
     expect(line(&pair, "5140").local == 33 && is_page(pair.page[DOCK_B], 3), "and B calls, with a number that it never used");
-    expect(dock_pair_some_frame(&pair) != DOCK_NO_FRAME, "its call matters");
+    expect(dock_pair_first_frame(&pair) == 0, "A's old call matters to B");
+    a = dock_pair_deliver(&pair, 0);
+    expect(a.end == DOCK_B && a.state == DOCK_CALLING && a.remote == 1 && a.sent == 9, "which quotes it");
+    expect(dock_pair_first_frame(&pair) == 4, "then B's call matters to A");
     pair.page[DOCK_B][0] = 1;
     expect(line(&pair, "5351").number == DOCK_WRONG_PAGE, "if it is one");
 }
@@ -400,8 +429,8 @@ static void test_bench_short_pages(void) {
                           b_len, pair.book, DOCK_BOOK, &pair.count, (const uint8_t *)"5045", 4, pair.out, DOCK_FRAME, pair.up, DOCK_BLOCK,
                           &end, &state, &notice, &local, &remote, &sent, &at, &block) == DOCK_SHORT_BUFFER,
                "a line needs both pages whole");
-        expect(dock_some_frame(pair.record[DOCK_A], DOCK_RECORD, pair.record[DOCK_B], DOCK_RECORD, pair.page[DOCK_A], a_len,
-                               pair.page[DOCK_B], b_len, pair.book, DOCK_BOOK, pair.count, &frame) == DOCK_SHORT_BUFFER &&
+        expect(dock_first_frame(pair.record[DOCK_A], DOCK_RECORD, pair.record[DOCK_B], DOCK_RECORD, pair.page[DOCK_A], a_len,
+                                pair.page[DOCK_B], b_len, pair.book, DOCK_BOOK, pair.count, &frame) == DOCK_SHORT_BUFFER &&
                    frame == DOCK_NO_FRAME,
                "so does the question for a frame");
     }
@@ -443,6 +472,7 @@ int main(void) {
     test_healing(&caller, &listener);
     test_not_healing(&caller, &listener);
     test_bench();
+    test_bench_deliveries();
     test_bench_restarts();
     test_bench_short_pages();
     test_names();

@@ -1,2 +1,3 @@
-pub mod Plans
 pub mod Delivery
+pub mod Lowest
+pub mod Plans

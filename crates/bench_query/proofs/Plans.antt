@@ -2,7 +2,7 @@
 use Prim.Native.Nat.{ℕ, _≤_}
 use mathlib.Core.Path.{_≡_, refl, sym, ap, _∙_}
 use mathlib.Core.Logic.{_≢_}
-use mathlib.Core.Bool.{Bool, true, false, not, _&&_, false≢true}
+use mathlib.Core.Bool.{true, false, not, _&&_, false≢true}
 use mathlib.Core.List.{List, [], _∷_}
 use native.Mathlib.Omega.{arith}
 use borrow.Author.Tests.{eqb-true, eq-eqb}
@@ -13,6 +13,7 @@ use Rattle.octets.specs.Sizes.{longestFrame, longestBlock, heldSize, pageSize}
 use Rattle.octets.specs.Test.{when, Outcome, refused, ok, mapped, andThen, numberOf}
 use Rattle.octets.specs.Octets.{put, left, Octets}
 use Rattle.octets.proofs.Test.{both, joined}
+use Rattle.octets.proofs.Each.{alike}
 use Rattle.frame.specs.Frame.{Block}
 use Rattle.protocol.specs.Endpoint as abstract
 use Rattle.protocol.specs.Table.{Step, firstCopy, heldAt}
@@ -46,8 +47,9 @@ use Rattle.link.proofs.Stays.{bounded}
 use Rattle.bench_spec.specs.Bench.{logged, callOutcome}
 use Rattle.bench_call.specs.Internal.{outcomeAt, hasPlace}
 use Rattle.bench_call.proofs.Moves.{by-plan}
-use Rattle.bench_query.specs.Found.{Changes}
-use Rattle.bench_query.specs.Internal.{Says, sameNumbers, staying}
+use Rattle.bench_query.specs.Found.{equal, changes}
+use Rattle.bench_query.specs.Internal.{sameNumbers, staying}
+use Rattle.bench_query.proofs.Lowest.{equal-so, so-equal}
 
 -- the test of the numbers
 same-so : (n m : Numbers) → sameNumbers n m ≡ true → n ≡ m
@@ -76,10 +78,17 @@ so-same n m h =
     (joined (eq-eqb _ _ (ap (λ (x : Numbers). x .accepted) h))
     (joined (eq-eqb _ _ (ap (λ (x : Numbers). x .delivered) h)) (eq-eqb _ _ (ap (λ (x : Numbers). x .waiting) h))))))
 
--- by a test that says the contrary
-contrary : {P : Type 0} (b : Bool) → (b ≡ true → P → ⊥) → (b ≡ false → P) → Says (not b) P
-contrary true h g = h refl
-contrary false h g = g refl
+-- a refusal changes nothing
+refused-none : (rec : List ℕ) (o : Outcome Step) → numberOf o ≢ 0 → false ≡ changes rec o
+unfolding changes numberOf
+refused-none rec (refused n) h = refl
+refused-none rec (ok x) h = absurd (h refl)
+
+-- what changes is what differs, since a refusal leaves the record
+differs : (rec : List ℕ) (o : Outcome Step) → not (equal (recordAfter format rec o) rec) ≡ changes rec o
+unfolding changes recordAfter mapped left
+differs rec (refused n) = ap not (so-equal rec)
+differs rec (ok x) = refl
 
 -- a call with 14 is accepted only where the call is
 passes : (o : Outcome Step) (count : ℕ) → numberOf (andThen o (logged count)) ≡ 0 → numberOf o ≡ 0
@@ -146,8 +155,8 @@ module _ (rec : List ℕ) (long : recordSize ≤ length rec) (fine : sound (deco
         let l = leaves end (decode-long rec long) page call os (ready-is ∙ e) in
         sym (lawful .keeps (x .endpoint) _ (l .is-sound) (l .bounded (bounded rec oc long))) ∙ ap (format .holds) h
 
-    abbrev Change : Type 0
-    Change = Changes rec (outcomeAt (lent rec page) count-used call)
+    abbrev made : Outcome Step
+    made = outcomeAt (lent rec page) count-used call
 
     module _ {p : Plan} (h : PlansAny end Receive s p) where
       abbrev joins : Block
@@ -167,16 +176,16 @@ module _ (rec : List ℕ) (long : recordSize ≤ length rec) (fine : sound (deco
       by-14 = by-plan (lent rec page) long count-used call {p = p} plans
 
       -- refused by 3 to 7
-      pub refuses : p .number ≢ 0 → Change → ⊥
+      pub refuses : p .number ≢ 0 → false ≡ changes rec made
       unfolding callOutcome
-      refuses z x = z (planned .number ∙ ap numberOf (sym comes-to) ∙ passes (performed format rec page call) count-used (x .accepted))
+      refuses z = refused-none rec made (λ k. z (planned .number ∙ ap numberOf (sym comes-to) ∙ passes (performed format rec page call) count-used k))
 
       -- refused by 14, and not
-      pub too-full : hasPlace (p .reply) count-used ≡ false → Change → ⊥
+      pub too-full : hasPlace (p .reply) count-used ≡ false → false ≡ changes rec made
       unfolding when numberOf
-      too-full t x = omega (arith, rw (by-14, t) at (x .accepted))
+      too-full t = refused-none rec made (λ k. omega (arith, rw (by-14, t) at k))
 
-      is-made : hasPlace (p .reply) count-used ≡ true → outcomeAt (lent rec page) count-used call ≡ hears
+      is-made : hasPlace (p .reply) count-used ≡ true → made ≡ hears
       unfolding when
       is-made t = by-14 ∙ rw t comes-to
 
@@ -203,16 +212,16 @@ module _ (rec : List ℕ) (long : recordSize ≤ length rec) (fine : sound (deco
           held-stayed (p .held) early (view end .held) (length-tab heldSize (placeBlock (end .«held_lengths») (end .«held_blocks»))) (planned .place)
           (ap (λ (x : abstract.Endpoint). x .held) (planned .endpoint ∙ g))
 
-      pub tells : {n : Numbers} → n ≡ numbersOf end → Octets rec → Octets s → p .number ≡ 0 → hasPlace (p .reply) count-used ≡ true
-          → Says (not (sameNumbers (p .numbers) n && staying (p .held))) Change
-      tells {n} e oc os z t =
-          contrary (sameNumbers (p .numbers) n && staying (p .held))
-          (λ b x.
+      pub tells : {n : Numbers} → n ≡ numbersOf end → Octets rec → Octets s → hasPlace (p .reply) count-used ≡ true
+          → not (sameNumbers (p .numbers) n && staying (p .held)) ≡ changes rec made
+      tells {n} e oc os t =
+          ap not
+          (alike (sameNumbers (p .numbers) n && staying (p .held)) (equal (recordAfter format rec hears) rec)
+          (λ b.
           let k = both (sameNumbers (p .numbers) n) _ b in
-          x .changed (rw (is-made t) (keeps oc hears (unchanged (same-so (p .numbers) n (k .0) ∙ e) (k .1)))))
-          (λ b. record {
-            accepted = rw (is-made t) (sym (planned .number) ∙ z);
-            changed = λ r.
-                let g = kept oc os hears refl (rw (is-made t) at r) in
-                false≢true (sym b ∙ joined (so-same (p .numbers) n (same-numbers g ∙ sym e)) (same-held g));
-          })
+          rw (keeps oc hears (unchanged (same-so (p .numbers) n (k .0) ∙ e) (k .1))) (so-equal rec))
+          (λ b.
+          let g = kept oc os hears refl (equal-so (recordAfter format rec hears) rec b) in
+          joined (so-same (p .numbers) n (same-numbers g ∙ sym e)) (same-held g)))
+          ∙ differs rec hears
+          ∙ ap (changes rec) (sym (is-made t))

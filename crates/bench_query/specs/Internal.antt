@@ -13,11 +13,6 @@ use Rattle.bench_query.specs.Found.{questions}
 abbrev pub Ready : Bench → Type 0
 Ready w = first (questions w) ≡ 0
 
--- a test that tells whether P holds
-abbrev pub Says : Bool → Type 0 → Type 0
-Says true P = P
-Says false P = P → ⊥
-
 -- a plan leaves the held blocks as they are
 unfoldable pub staying : Places → Bool
 staying Keep = true

@@ -1,4 +1,4 @@
-// The question of the bench: some frame in the log whose delivery now would be accepted and change the receiver's record.
+// The question of the bench: the first frame in the log whose delivery now would be accepted and change the receiver's record.
 use call_spec::Call;
 use step_plan::Places;
 use step_rules::Numbers;
@@ -15,8 +15,8 @@ ghost use Rattle.call_spec.specs.Claim.{lent};
 ghost use Rattle.link.specs.Record.{format, pagedFor};
 ghost use Rattle.bench_spec.specs.Bench.{benchOf};
 ghost use Rattle.bench_call.specs.Internal.{outcomeAt};
-ghost use Rattle.bench_query.specs.Found.{Changes, WouldChange, Answers};
-ghost use Rattle.bench_query.specs.Internal.{sameNumbers, staying, Ready, Says};
+ghost use Rattle.bench_query.specs.Found.{changes, wouldChange, firstFrame};
+ghost use Rattle.bench_query.specs.Internal.{sameNumbers, staying, Ready};
 
 // What the question answers: a frame's number, none, or the number of a refusal.
 pub enum Found {
@@ -52,7 +52,7 @@ fn stays(held: Places) -> bool
 // for every page that goes with the record.
 fn changes(rec: &[u8], s: &[u8], count: usize) -> bool
     requires { ⌜ (recordSize ≤ length (now rec)) × (format .sound (now rec) ≡ true) ⌝ }
-    ensures { λ r. ⌜ ((page : List ℕ) → pageSize ≤ length page → pagedFor (now (rec .entry)) page ≡ true → Says r (Changes (now (rec .entry)) (outcomeAt (lent (now (rec .entry)) page) count (given Receive (now (s .entry)) (rooms longestFrame longestBlock))))) ⌝ }
+    ensures { λ r. ⌜ ((page : List ℕ) → pageSize ≤ length page → pagedFor (now (rec .entry)) page ≡ true → r ≡ changes (now (rec .entry)) (outcomeAt (lent (now (rec .entry)) page) count (given Receive (now (s .entry)) (rooms longestFrame longestBlock)))) ⌝ }
 {
     let n = endpoint::load_numbers(rec);
     let p = link::plan_sound(Call::Receive, rec, s);
@@ -71,7 +71,7 @@ fn changes(rec: &[u8], s: &[u8], count: usize) -> bool
 // Whether the delivery of frame n would, with any pages by which 15 is passed. It goes to the end that did not send it.
 fn would_change(a: &[u8], b: &[u8], log: &[u8], count: usize, n: usize) -> bool
     requires { ⌜ ((pa : List ℕ) × ((pb : List ℕ) × Ready (benchOf (lent (now a) pa) (lent (now b) pb) (now log) count))) ⌝ }
-    ensures { λ r. ⌜ ((pa pb : List ℕ) → Ready (benchOf (lent (now (a .entry)) pa) (lent (now (b .entry)) pb) (now (log .entry)) count) → Says r (WouldChange (benchOf (lent (now (a .entry)) pa) (lent (now (b .entry)) pb) (now (log .entry)) count) n)) ⌝ }
+    ensures { λ r. ⌜ ((pa pb : List ℕ) → Ready (benchOf (lent (now (a .entry)) pa) (lent (now (b .entry)) pb) (now (log .entry)) count) → r ≡ wouldChange (benchOf (lent (now (a .entry)) pa) (lent (now (b .entry)) pb) (now (log .entry)) count) n) ⌝ }
 {
     if !bench_log::holds(log, count, n) {
         return false;
@@ -83,8 +83,8 @@ fn would_change(a: &[u8], b: &[u8], log: &[u8], count: usize, n: usize) -> bool
     changes(a, s, count)
 }
 
-// Asks 11, 12 and 15 of the records, the pages, the log and the count, then frame by frame.
-pub fn some_frame(
+// Asks 11, 12 and 15 of the records, the pages, the log and the count, then frame by frame from the front.
+pub fn first_frame(
     a: &[u8],
     b: &[u8],
     a_page: &[u8],
@@ -92,7 +92,7 @@ pub fn some_frame(
     log: &[u8],
     count: usize,
 ) -> Found
-    ensures { λ r. ⌜ Answers (benchOf (lent (now (a .entry)) (now («a_page» .entry))) (lent (now (b .entry)) (now («b_page» .entry))) (now (log .entry)) count) r ⌝ }
+    ensures { λ r. ⌜ r ≡ firstFrame (benchOf (lent (now (a .entry)) (now («a_page» .entry))) (lent (now (b .entry)) (now («b_page» .entry))) (now (log .entry)) count) ⌝ }
 {
     let refusal = bench_checks::ready(
         bench_checks::NEITHER,

@@ -5,7 +5,7 @@ use Rattle.bench_log.specs.Log.{places}
 use Rattle.bench_spec.specs.Bench.{Bench}
 use Rattle.bench_query.specs.declared.Found.{Found}
 use Rattle.bench_query.specs.declared.Found.the-variants.{Frame, Nothing, Refused}
-use Rattle.bench_query.specs.Found.{Answers}
+use Rattle.bench_query.specs.Found.{firstFrame}
 
 -- The number, and the frame's number, which is below 512 where there is one.
 unfoldable pub numberIn : Found → ℕ
@@ -19,7 +19,5 @@ frameIn Nothing = places
 frameIn (Refused k) = places
 
 pub record FrameNamed (w : Bench) (number frame : ℕ) : Type 0 where
-  pub found : Found
-  pub answers : Answers w found
-  pub is-number : number ≡ numberIn found
-  pub is-frame : frame ≡ frameIn found
+  pub is-number : number ≡ numberIn (firstFrame w)
+  pub is-frame : frame ≡ frameIn (firstFrame w)

@@ -6,7 +6,7 @@ ghost use Rattle.c_query.specs.Answers.{FrameNamed};
 
 // Answers the number; the frame's goes to the last, 512 where there is none.
 #[no_mangle]
-pub extern "C" fn dock_some_frame(
+pub extern "C" fn dock_first_frame(
     a: &[u8],
     b: &[u8],
     a_page: &[u8],
@@ -17,7 +17,7 @@ pub extern "C" fn dock_some_frame(
 ) -> u8
     ensures { λ r. ⌜ FrameNamed (benchOf (lent (now (a .entry)) (now («a_page» .entry))) (lent (now (b .entry)) (now («b_page» .entry))) (now (log .entry)) count) r (now (frame .exit)) ⌝ }
 {
-    let found = bench_query::some_frame(a, b, a_page, b_page, log, count);
+    let found = bench_query::first_frame(a, b, a_page, b_page, log, count);
     match found {
         Found::Frame(n) => {
             *frame = n;

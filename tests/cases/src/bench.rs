@@ -3,22 +3,26 @@
 
 mod call;
 mod implementation;
+mod questions;
 mod scene;
 #[cfg(test)]
 mod tests;
+mod walks;
 
 pub use implementation::{Bench, Lent, Named, Reply, Shown};
 pub use scene::deliver;
 
 use crate::group::{Group, Score};
-use crate::met::{makes_step, Met};
+use crate::met::{self, makes_step};
 use crate::pages::{self, Role, Seen};
 use crate::random::Random;
 use call::Buffers;
+use questions::Questions;
 use reference::bench::book::{self, Place};
 use reference::bench::{Order, Side};
 use reference::line;
 use scene::Scene;
+use walks::Walks;
 
 /// So many scenes meet lines in a round, and so many lines each.
 const SCENES: usize = 250;
@@ -26,9 +30,17 @@ const LINES: usize = 40;
 /// So many scenes meet restarts in a round, and so many each.
 const RESTARTED: usize = 60;
 const RESTARTS: usize = 40;
-/// Of so many scenes the question is asked in a round, of each so often.
+/// So many scenes meet the question alone in a round, each so often.
 const ASKED: usize = 100;
 const QUESTIONS: usize = 3;
+/// So many walks are made in a round.
+const WALKS: usize = 50;
+
+/// What the calls of a bench met so far. The question is asked of every bench that is met.
+struct Met {
+    calls: met::Met,
+    questions: Questions,
+}
 
 /// Nothing is met yet by the calls of a bench.
 fn nothing_met() -> Met {
@@ -37,24 +49,30 @@ fn nothing_met() -> Met {
         roles.map(pages::Call::Line),
         roles.map(pages::Call::LineWithFullBook),
     ];
-    Met::new(&[lines.as_flattened(), &[pages::Call::Question]].concat())
+    let calls = [lines.as_flattened(), &[pages::Call::Question]].concat();
+    Met {
+        calls: met::Met::new(&calls),
+        questions: Questions::new(),
+    }
 }
 
-/// Compares the generated calls, so many rounds of more than 10,000, and reports them. Eight
+/// Compares the generated calls, so many rounds of more than 30,000, and reports them. Eight
 /// rounds make every step.
 pub fn compare<B: Bench>(rounds: usize) -> Score {
     let mut met = nothing_met();
     let calls = calls::<B>(rounds, &mut met);
-    [calls, met.report()].into_iter().sum()
+    let sights = met.questions.report_sights();
+    [calls, met.calls.report(), sights].into_iter().sum()
 }
 
 /// As `compare`, without a report of what the calls met, which is noted.
 fn calls<B: Bench>(rounds: usize, met: &mut Met) -> Score {
-    let lines = lines::<B>(rounds, met);
-    let restarts = restarts::<B>(rounds, met);
-    let [named, none] = questions::<B>(rounds, met);
-    let groups = [lines, restarts, named, none];
-    groups.iter().map(Group::report).sum()
+    let lines = lines::<B>(rounds, met).report();
+    let restarts = restarts::<B>(rounds, met).report();
+    let walks = walks::<B>(rounds, met).report();
+    questions::<B>(rounds, met);
+    let questions = met.questions.report();
+    [lines, restarts, walks, questions].into_iter().sum()
 }
 
 /// The end that a bench with these places in use calls with this line, and the message for it.
@@ -110,7 +128,7 @@ fn restarts<B: Bench>(rounds: usize, met: &mut Met) -> Group {
     group
 }
 
-/// This scene meets this line.
+/// This scene meets this line, and the question.
 fn meet<B: Bench>(
     random: &mut Random,
     group: &mut Group,
@@ -119,19 +137,16 @@ fn meet<B: Bench>(
     line: &[u8],
 ) {
     let buffers = Buffers::any(random, scene, line);
-    let number = buffers.compare_line::<B>(group);
-    see_pages(&mut met.pages, number, scene, line);
+    let number = buffers.compare_line::<B>(group).reply.end.number;
+    see_pages(&mut met.calls.pages, number, scene, line);
     if makes_step(number) {
-        see_step(met, scene, line);
+        see_step(&mut met.calls, scene, line);
     }
+    ask::<B>(met, scene, &buffers);
 }
 
-/// The question, asked where there is a frame to name, and where there is none or it is refused.
-fn questions<B: Bench>(rounds: usize, met: &mut Met) -> [Group; 2] {
-    let mut groups = [
-        Group::new("questions with a frame to name", &[0]),
-        Group::new("questions with none", &[0, 11, 12, 15]),
-    ];
+/// The question alone, often where there are few frames to name, or none.
+fn questions<B: Bench>(rounds: usize, met: &mut Met) {
     let mut random = Random::new(41);
     for _ in 0..rounds * ASKED {
         let mut scene = Scene::any(&mut random);
@@ -140,13 +155,32 @@ fn questions<B: Bench>(rounds: usize, met: &mut Met) -> [Group; 2] {
         for _ in 0..QUESTIONS {
             let scene = scene.damaged(&mut random, 6);
             let buffers = Buffers::any(&mut random, &scene, &[]);
-            let number = buffers.compare_question::<B>(&mut groups);
-            for (record, page) in scene.records.iter().zip(&scene.pages) {
-                met.pages.see(pages::Call::Question, number, record, page);
-            }
+            let named = ask::<B>(met, &scene, &buffers);
+            met.questions.see(buffers.shown(), &named);
         }
     }
-    groups
+}
+
+/// This scene meets the question, in these buffers. Gives the right answer.
+fn ask<B: Bench>(met: &mut Met, scene: &Scene, buffers: &Buffers) -> Named {
+    let named = met.questions.compare::<B>(buffers);
+    for (record, page) in scene.records.iter().zip(&scene.pages) {
+        let call = pages::Call::Question;
+        met.calls.pages.see(call, named.number, record, page);
+    }
+    named
+}
+
+/// Walks from scenes of all sorts.
+fn walks<B: Bench>(rounds: usize, met: &mut Met) -> Walks {
+    let mut walks = Walks::new();
+    let mut random = Random::new(43);
+    for _ in 0..rounds * WALKS {
+        let scene = Scene::any(&mut random);
+        let from = Buffers::exact(&mut random, &scene, b"520000");
+        walks.compare::<B>(&from, &mut met.questions);
+    }
+    walks
 }
 
 /// A line that answered this number met the pages of this scene.
@@ -168,7 +202,7 @@ fn see_pages(pages: &mut Seen, number: u8, scene: &Scene, line: &[u8]) {
 }
 
 /// Notes the step that this line makes, if it makes one.
-fn see_step(met: &mut Met, scene: &Scene, line: &[u8]) {
+fn see_step(met: &mut met::Met, scene: &Scene, line: &[u8]) {
     if let Some((side, message)) = meeting(scene.used(), line) {
         let record = &scene.records[side.index()];
         met.steps.see(record, &message);

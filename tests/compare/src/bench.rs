@@ -36,7 +36,7 @@ extern "C" {
         block: *mut usize,
     ) -> u8;
 
-    fn dock_some_frame(
+    fn dock_first_frame(
         a: *const u8,
         a_len: usize,
         b: *const u8,
@@ -97,12 +97,12 @@ impl Bench for Proved {
         reply
     }
 
-    fn some_frame(shown: Shown) -> Named {
+    fn first_frame(shown: Shown) -> Named {
         let [a, b] = shown.records;
         let [a_page, b_page] = shown.pages;
         let mut frame = usize::MAX;
         let number = unsafe {
-            dock_some_frame(
+            dock_first_frame(
                 a.as_ptr(),
                 a.len(),
                 b.as_ptr(),

@@ -7,7 +7,7 @@ use std::process::ExitCode;
 
 /// More than two million calls of an end on lent buffers.
 const END_ROUNDS: usize = 14;
-/// More than half a million calls of a bench.
+/// More than a million and a half calls of a bench.
 const BENCH_ROUNDS: usize = 52;
 
 fn main() -> ExitCode {

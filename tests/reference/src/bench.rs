@@ -49,9 +49,9 @@ pub fn line<'a>(
     })
 }
 
-/// The number of the first frame in the book whose delivery now would be accepted and change the
-/// receiver's record, if there is one. Questions 11, 12 and 15 come first.
-pub fn some_frame(
+/// The number of the first frame in the book, the lowest numbered one, whose delivery now would be
+/// accepted and change the receiver's record, if there is one. Questions 11, 12 and 15 come first.
+pub fn first_frame(
     records: [&[u8]; 2],
     pages: [&[u8]; 2],
     book: &[u8],

@@ -33,7 +33,7 @@ returns-3 c = λ page l g.
     let s = c .before .before .before .before .before .before .before .before .before .before .before in
     rw (c .before .same .ensures, c .stays .ensures)
     (tells (now (s .args .rec)) (s .pre .0) (s .pre .1) page l g (now (s .args .s)) (s .args .count) (c .before .before .before .before .before .before .before .plan-sound .ensures) (c .before .before .before .before .before .before .before .before .load-numbers .ensures)
-    (octets-rec (c .before .before .before .before .before .before .before .before .before .before)) (octets-s (c .before .before .before .before .before .before .before .before .before)) (c .before .before .before .before .before .if1 .left) (sym (c .before .before .before .before .has-place .ensures) ∙ not-false (c .before .before .before .before .has-place .result) (c .before .before .before .if2 .left)))
+    (octets-rec (c .before .before .before .before .before .before .before .before .before .before)) (octets-s (c .before .before .before .before .before .before .before .before .before)) (sym (c .before .before .before .before .has-place .ensures) ∙ not-false (c .before .before .before .before .has-place .result) (c .before .before .before .if2 .left)))
 
 pub changes-spec : {M : Type 1} → statement M
 changes-spec =

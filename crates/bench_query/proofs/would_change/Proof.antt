@@ -33,7 +33,7 @@ holds-requires c κs = let r = is-ready (c .before .before .before) in (r .long-
 returns : tie.Need-returns
 returns c = λ pa pb h.
     let s = c .before .before .before .before .before in
-    not-held (bench s pa pb) (s .args .n) (sym (c .before .holds .ensures) ∙ not-true (c .before .holds .result) (c .if1 .taken))
+    sym (not-held (bench s pa pb) (s .args .n) (sym (c .before .holds .ensures) ∙ not-true (c .before .holds .result) (c .if1 .taken)))
 
 frame-of-requires : tie.Need-frame-of-requires
 frame-of-requires c κs =
@@ -55,8 +55,8 @@ returns-2 : tie.Need-returns-2
 returns-2 c = λ pa pb h.
     let s = c .before .before .before .before .before .before .before .before .before in
     let r = ready (bench s pa pb) h .fit-b in
-    to-b (bench s pa pb) (s .args .n) (is-held (c .before .before .before .before)) (c .changes .result) (sym (c .before .before .sender-of .ensures) ∙ c .before .if2 .taken)
-    (rw (c .before .before .before .frame-of .ensures) at (c .changes .ensures pb (r .page-long) (r .goes)))
+    rw (c .before .before .before .frame-of .ensures) at (c .changes .ensures pb (r .page-long) (r .goes))
+    ∙ sym (to-b (bench s pa pb) (s .args .n) (is-held (c .before .before .before .before)) (sym (c .before .before .sender-of .ensures) ∙ c .before .if2 .taken))
 
 changes-requires-2 : tie.Need-changes-requires-2
 changes-requires-2 c κs = let r = is-ready (c .before .before .before .before .before .before .before .before) in (r .fit-a .long, r .fit-a .is-sound)
@@ -65,8 +65,8 @@ returns-3 : tie.Need-returns-3
 returns-3 c = λ pa pb h.
     let s = c .before .before .before .before .before .before .before .before .before in
     let r = ready (bench s pa pb) h .fit-a in
-    to-a (bench s pa pb) (s .args .n) (is-held (c .before .before .before .before)) (c .changes2 .result) (λ z. c .before .if2 .left (c .before .before .sender-of .ensures ∙ z))
-    (rw (c .before .before .before .frame-of .ensures) at (c .changes2 .ensures pa (r .page-long) (r .goes)))
+    rw (c .before .before .before .frame-of .ensures) at (c .changes2 .ensures pa (r .page-long) (r .goes))
+    ∙ sym (to-a (bench s pa pb) (s .args .n) (is-held (c .before .before .before .before)) (λ z. c .before .if2 .left (c .before .before .sender-of .ensures ∙ z)))
 
 pub would-change-spec : {M : Type 1} → statement M
 would-change-spec =

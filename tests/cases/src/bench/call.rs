@@ -1,7 +1,7 @@
 //! One call, the buffers lent to it, and what it answers and leaves there.
 
 use super::implementation::{Bench, Lent, Named, Reply, Shown};
-use super::scene::Scene;
+use super::scene::{deliver, Scene};
 use crate::group::Group;
 use crate::guarded::Guarded;
 use crate::random::Random;
@@ -9,6 +9,7 @@ use crate::Reference;
 use reference::bench::book::PLACES;
 use reference::block::LONGEST_BLOCK;
 use reference::frame::LONGEST_FRAME;
+use reference::line;
 use std::fmt::{self, Debug};
 
 /// Counts above 512, some of which are small numbers where only their last bytes are looked at.
@@ -60,36 +61,49 @@ impl Buffers {
         }
     }
 
-    /// One case: this implementation and the reference take the line. Gives the right number.
-    pub fn compare_line<B: Bench>(&self, group: &mut Group) -> u8 {
-        let found = self.after(Self::line::<B>);
-        let right = self.after(Self::line::<Reference>);
-        let number = right.reply.end.number;
-        group.check(self, number, &found, &right);
-        number
+    /// Buffers with this scene and line that are just large enough.
+    pub fn exact(random: &mut Random, scene: &Scene, line: &[u8]) -> Self {
+        Self {
+            count: scene.count,
+            line: Guarded::of(random, line),
+            records: scene.records.map(|record| Guarded::of(random, &record)),
+            pages: scene.pages.map(|page| Guarded::of(random, &page)),
+            book: Guarded::of(random, &scene.book),
+            out: Guarded::any(random, LONGEST_FRAME),
+            up: Guarded::any(random, LONGEST_BLOCK),
+        }
     }
 
-    /// One case, in the group `named` if there is a frame to name, else in `none`: what this
-    /// implementation names is right. Gives the right number.
-    pub fn compare_question<B: Bench>(&self, [named, none]: &mut [Group; 2]) -> u8 {
-        let found = self.after(Self::some_frame::<B>);
-        let mut right = self.after(Self::some_frame::<Reference>);
+    /// One case: this implementation and the reference take the line. Gives what is right.
+    pub fn compare_line<B: Bench>(&self, group: &mut Group) -> After<'_, Reply> {
+        let found = self.after(Self::line::<B>);
+        let right = self.after(Self::line::<Reference>);
+        group.check(self, right.reply.end.number, &found, &right);
+        right
+    }
+
+    /// The same where the line delivers this frame. Gives the buffers as they then are.
+    pub fn delivered<B: Bench>(mut self, frame: usize, group: &mut Group) -> Self {
+        let line = line::write(&deliver(frame));
+        self.line.bytes_mut().copy_from_slice(&line);
+        let right = self.compare_line::<B>(group);
+        Self {
+            count: right.reply.count,
+            ..right.after
+        }
+    }
+
+    /// One case, in the group `named` if there is a frame to name, else in `none`: this
+    /// implementation and the reference are asked. Gives the right answer.
+    pub fn compare_question<B: Bench>(&self, [named, none]: &mut [Group; 2]) -> Named {
+        let found = self.after(Self::first_frame::<B>);
+        let right = self.after(Self::first_frame::<Reference>);
         let group = match right.reply.frame {
             Some(_) => named,
             None => none,
         };
-        if self.is_right(found.reply.frame) {
-            right.reply.frame = found.reply.frame;
-        }
-        let number = right.reply.number;
-        group.check(self, number, &found, &right);
-        number
-    }
-
-    /// Is it the number of a frame whose delivery now would be accepted and change a record?
-    fn is_right(&self, frame: Option<usize>) -> bool {
-        let changing = self.shown().changing().unwrap_or_default();
-        frame.is_some_and(|frame| changing.contains(&frame))
+        group.check(self, right.reply.number, &found, &right);
+        right.reply
     }
 
     /// Makes the call on a copy of the buffers.
@@ -117,12 +131,12 @@ impl Buffers {
     }
 
     /// The question, asked of this implementation.
-    fn some_frame<B: Bench>(&mut self) -> Named {
-        B::some_frame(self.shown())
+    fn first_frame<B: Bench>(&mut self) -> Named {
+        B::first_frame(self.shown())
     }
 
     /// What the question is lent.
-    fn shown(&self) -> Shown<'_> {
+    pub fn shown(&self) -> Shown<'_> {
         Shown {
             records: self.records.each_ref().map(Guarded::bytes),
             pages: self.pages.each_ref().map(Guarded::bytes),
@@ -133,9 +147,9 @@ impl Buffers {
 }
 
 /// What a call answered, and all buffers after it. Two are equal if all their bytes are.
-struct After<'a, R> {
+pub struct After<'a, R> {
     before: &'a Buffers,
-    reply: R,
+    pub reply: R,
     after: Buffers,
 }
 

@@ -9,9 +9,9 @@ use reference::{refusal, Refusal};
 pub trait Bench {
     /// A bench line, without its line feed.
     fn line(lent: Lent, line: &[u8]) -> Reply;
-    /// The question: names some frame in the book whose delivery now would be accepted and change
-    /// the receiver's record.
-    fn some_frame(shown: Shown) -> Named;
+    /// The question: names the first frame in the book, the lowest numbered one, whose delivery now
+    /// would be accepted and change the receiver's record.
+    fn first_frame(shown: Shown) -> Named;
 }
 
 /// What is lent to a bench line.
@@ -42,7 +42,8 @@ pub struct Shown<'a> {
 }
 
 impl Shown<'_> {
-    /// The numbers of all frames that may be named.
+    /// The numbers of all frames whose delivery now would be accepted and change the receiver's
+    /// record, in their order.
     pub fn changing(self) -> Result<Vec<usize>, Refusal> {
         bench::changing(self.records, self.pages, self.book, self.count)
     }
@@ -88,8 +89,8 @@ impl Bench for Reference {
         }
     }
 
-    fn some_frame(shown: Shown) -> Named {
-        let named = bench::some_frame(shown.records, shown.pages, shown.book, shown.count);
+    fn first_frame(shown: Shown) -> Named {
+        let named = bench::first_frame(shown.records, shown.pages, shown.book, shown.count);
         Named {
             number: refusal::number(named),
             frame: named.ok().flatten(),

@@ -136,7 +136,8 @@ impl Scene {
         &self.book.as_chunks().0[..self.count]
     }
 
-    /// Damages frames until the delivery of this many at most would change a record.
+    /// Damages frames until the delivery of this many at most would change a record. One of them
+    /// stays where it is, or changes places with the first frame or the last.
     pub fn thin(&mut self, random: &mut Random, left: usize) {
         let changing = self.shown().changing();
         let mut changing = changing.expect("the records are sound and the pages right");
@@ -149,6 +150,10 @@ impl Scene {
                 2 => place[HEAD] = random.pick(&[0, 0x0a, 0x40]),
                 _ => place[HEAD + 1..HEAD + 9].fill(0),
             }
+        }
+        if let Some(&number) = changing.first() {
+            let other = random.pick(&[0, number, self.count - 1]);
+            self.places_mut().swap(number, other);
         }
     }
 
@@ -337,12 +342,16 @@ mod tests {
     #[test]
     fn a_scene_is_thinned_to_what_is_left() {
         let mut random = Random::new(1);
+        let [mut first, mut last] = [0; 2];
         for left in [0, 1, 2].repeat(30) {
             let mut scene = Scene::any(&mut random);
             scene.thin(&mut random, left);
             let changing = scene.shown().changing().unwrap();
             assert!(changing.len() <= left, "{changing:?}");
+            first += usize::from(changing.contains(&0));
+            last += usize::from(changing.iter().any(|frame| frame + 1 == scene.count));
         }
+        assert!(first > 10 && last > 10, "{first} {last}");
     }
 
     #[test]

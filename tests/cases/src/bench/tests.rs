@@ -4,8 +4,9 @@ mod hanging_up;
 mod held;
 mod restart;
 
-use super::{calls, compare, lines, nothing_met, questions, Bench, Lent, Named, Reply, Shown};
-use crate::group::Group;
+use super::questions::Delivery;
+use super::{calls, compare, lines, nothing_met, questions, walks};
+use super::{Bench, Lent, Named, Reply, Shown};
 use crate::records::{self, HELD_LENGTHS};
 use crate::{pages, Reference};
 use reference::bench::book::{self, Place, BOOK, HEAD, PLACE, PLACES};
@@ -16,6 +17,27 @@ use reference::line;
 use reference::page::{self, PAGE};
 use reference::record::{Record, RECORD};
 use reference::Frame;
+
+/// A bench that is the reference but for the calls that it makes otherwise.
+trait Faulty {
+    fn line(lent: Lent, line: &[u8]) -> Reply {
+        Reference::line(lent, line)
+    }
+
+    fn first_frame(shown: Shown) -> Named {
+        Reference::first_frame(shown)
+    }
+}
+
+impl<T: Faulty> Bench for T {
+    fn line(lent: Lent, line: &[u8]) -> Reply {
+        <T as Faulty>::line(lent, line)
+    }
+
+    fn first_frame(shown: Shown) -> Named {
+        <T as Faulty>::first_frame(shown)
+    }
+}
 
 /// The reference, with its promises checked at each call.
 struct Checked;
@@ -48,8 +70,8 @@ impl Bench for Checked {
         reply
     }
 
-    fn some_frame(shown: Shown) -> Named {
-        let named = Reference::some_frame(shown);
+    fn first_frame(shown: Shown) -> Named {
+        let named = Reference::first_frame(shown);
         match named.number {
             0 => assert_named(shown, named.frame),
             _ => assert_eq!(named.frame, None),
@@ -100,25 +122,37 @@ fn assert_accepted(before: &All, after: &All, count: usize, reply: &Reply) {
     assert!(reply.count <= PLACES);
 }
 
-/// Deliveries say the same: all frames up to the one named change nothing, and that one does.
+/// So many frames up to the one that is named are delivered by lines too.
+const DELIVERED: usize = 5;
+
+/// Deliveries say the same: that of the frame that is named changes a record, and no lower one does.
 fn assert_named(shown: Shown, frame: Option<usize>) {
-    let changes = |number: usize| {
-        let [mut a, mut b] = shown.records.map(<[u8]>::to_vec);
-        let [mut a_page, mut b_page] = shown.pages.map(<[u8]>::to_vec);
-        let lent = Lent {
-            records: [&mut a, &mut b],
-            pages: [&mut a_page, &mut b_page],
-            book: &mut shown.book.to_vec(),
-            count: shown.count,
-            out: &mut [0; LONGEST_FRAME],
-            up: &mut [0; LONGEST_BLOCK],
-        };
-        let reply = Reference::line(lent, format!("52{number:04x}").as_bytes());
-        reply.end.number == 0 && [a, b] != shown.records.map(<[u8]>::to_vec)
-    };
-    let last = frame.map_or(shown.count, |frame| frame + 1);
-    let first_change = (last.saturating_sub(20)..last).find(|&number| changes(number));
+    let mut deliveries = (0..shown.count).map(|frame| Delivery::of(shown, frame));
+    let first_change = deliveries.position(|delivery| delivery == Delivery::CHANGING);
     assert_eq!(first_change, frame);
+    let end = frame.map_or(shown.count, |frame| frame + 1);
+    for frame in end.saturating_sub(DELIVERED)..end {
+        assert_delivery(shown, frame);
+    }
+}
+
+/// A line that delivers this frame says the same of it.
+fn assert_delivery(shown: Shown, frame: usize) {
+    let [mut a, mut b] = shown.records.map(<[u8]>::to_vec);
+    let [mut a_page, mut b_page] = shown.pages.map(<[u8]>::to_vec);
+    let lent = Lent {
+        records: [&mut a, &mut b],
+        pages: [&mut a_page, &mut b_page],
+        book: &mut shown.book.to_vec(),
+        count: shown.count,
+        out: &mut [0; LONGEST_FRAME],
+        up: &mut [0; LONGEST_BLOCK],
+    };
+    let reply = Reference::line(lent, format!("52{frame:04x}").as_bytes());
+    let delivery = Delivery::of(shown, frame);
+    assert_eq!(reply.end.number, delivery.number);
+    let changes = delivery == Delivery::CHANGING;
+    assert_eq!([a, b] != shown.records.map(<[u8]>::to_vec), changes);
 }
 
 #[test]
@@ -140,39 +174,25 @@ fn failed_lines<B: Bench>() -> u64 {
 
 /// How many questions of four rounds fail.
 fn failed_questions<B: Bench>() -> u64 {
-    let groups = questions::<B>(4, &mut nothing_met());
-    groups
-        .iter()
-        .map(Group::report)
-        .map(|score| score.failed)
-        .sum()
+    let mut met = nothing_met();
+    questions::<B>(4, &mut met);
+    met.questions.report().failed
 }
 
-/// Names the last frame of all that may be named.
-struct Last;
-
-impl Bench for Last {
-    fn line(lent: Lent, line: &[u8]) -> Reply {
-        Reference::line(lent, line)
-    }
-
-    fn some_frame(shown: Shown) -> Named {
-        match shown.changing() {
-            Ok(changing) => Named {
-                number: 0,
-                frame: changing.last().copied(),
-            },
-            Err(refusal) => Named {
-                number: refusal.number(),
-                frame: None,
-            },
-        }
-    }
+/// How many walks of a round and deliveries of theirs fail.
+fn failed_walks<B: Bench>() -> u64 {
+    walks::<B>(1, &mut nothing_met()).report().failed
 }
 
 #[test]
-fn any_frame_of_the_right_ones_may_be_named() {
-    assert_eq!(failed::<Last>(), 0);
+fn few_rounds_are_enough_for_what_is_right() {
+    let failed = [
+        failed::<Reference>(),
+        failed_lines::<Reference>(),
+        failed_questions::<Reference>(),
+        failed_walks::<Reference>(),
+    ];
+    assert_eq!(failed, [0; 4]);
 }
 
 /// The reference with a fault in its lines.
@@ -196,7 +216,7 @@ const TAKES_A_LENGTH_OF_8: u8 = 14;
 const CUTS_THE_COUNT: u8 = 15;
 const FAULTS: usize = 16;
 
-impl<const FAULT: u8> Bench for Broken<FAULT> {
+impl<const FAULT: u8> Faulty for Broken<FAULT> {
     fn line(lent: Lent, line: &[u8]) -> Reply {
         let Lent {
             records: [a, b],
@@ -247,10 +267,6 @@ impl<const FAULT: u8> Bench for Broken<FAULT> {
             _ => {}
         }
         reply
-    }
-
-    fn some_frame(shown: Shown) -> Named {
-        Reference::some_frame(shown)
     }
 }
 
@@ -324,6 +340,17 @@ fn every_fault_of_a_line_is_found() {
     assert!(failed.iter().all(|&failed| failed > 0), "{failed:?}");
 }
 
+#[test]
+fn faults_of_a_line_are_found_on_walks_too() {
+    let failed = [
+        failed_walks::<Broken<LEAVES_THE_REST_OF_THE_PLACE>>(),
+        failed_walks::<Broken<FORGETS_THE_COUNT>>(),
+        failed_walks::<Broken<WRONG_SENDER>>(),
+        failed_walks::<Broken<BLOCK_IN_THE_FRAME>>(),
+    ];
+    assert!(failed.iter().all(|&failed| failed > 0), "{failed:?}");
+}
+
 /// The reference with a fault as it reads a line.
 struct Misreading<const FAULT: u8>;
 
@@ -346,7 +373,7 @@ fn replaced(line: &[u8], wrong: u8, right: u8) -> Vec<u8> {
     line.iter().map(character).collect()
 }
 
-impl<const FAULT: u8> Bench for Misreading<FAULT> {
+impl<const FAULT: u8> Faulty for Misreading<FAULT> {
     fn line(lent: Lent, line: &[u8]) -> Reply {
         let is_capital = |character: &u8| matches!(character, b'A'..=b'F');
         let mut reply = match FAULT {
@@ -376,10 +403,6 @@ impl<const FAULT: u8> Bench for Misreading<FAULT> {
             _ => {}
         }
         reply
-    }
-
-    fn some_frame(shown: Shown) -> Named {
-        Reference::some_frame(shown)
     }
 }
 
@@ -411,35 +434,41 @@ const NAMES_WHAT_14_REFUSES: u8 = 2;
 const LOOKS_AT_ONE_TOO_FEW: u8 = 3;
 const NEVER_REFUSES: u8 = 4;
 const NAMES_WHAT_ONLY_SENDS: u8 = 5;
+const NAMES_THE_LAST: u8 = 6;
+const SKIPS_FRAME_0: u8 = 7;
+const NAMES_THE_FIRST_ACCEPTED: u8 = 8;
 
-impl<const FAULT: u8> Bench for Misnaming<FAULT> {
-    fn line(lent: Lent, line: &[u8]) -> Reply {
-        Reference::line(lent, line)
+impl<const FAULT: u8> Faulty for Misnaming<FAULT> {
+    fn first_frame(shown: Shown) -> Named {
+        let right = Reference::first_frame(shown);
+        match right.number {
+            0 => Named {
+                number: 0,
+                frame: Self::named(shown, right.frame),
+            },
+            _ if FAULT == NEVER_REFUSES => Named::default(),
+            _ => right,
+        }
     }
+}
 
-    fn some_frame(shown: Shown) -> Named {
-        let right = Reference::some_frame(shown);
+impl<const FAULT: u8> Misnaming<FAULT> {
+    /// What is named where this is right.
+    fn named(shown: Shown, right: Option<usize>) -> Option<usize> {
         let count = shown.count;
-        let fewer = || {
-            Reference::some_frame(Shown {
-                count: count - 1,
-                ..shown
-            })
+        let first = |is_named: fn(Delivery) -> bool| {
+            (0..count).find(|&frame| is_named(Delivery::of(shown, frame)))
         };
-        match (FAULT, right.number) {
-            (NEVER_REFUSES, _) => Named { number: 0, ..right },
-            (_, 1..) => right,
-            (ALWAYS_NONE, _) => Named::default(),
-            (NAMES_THE_NEXT, _) => Named {
-                frame: right.frame.map(|frame| frame + 1),
-                ..right
-            },
-            (NAMES_WHAT_14_REFUSES, _) if count == PLACES => fewer(),
-            (LOOKS_AT_ONE_TOO_FEW, _) if count > 0 => fewer(),
-            (NAMES_WHAT_ONLY_SENDS, _) if right.frame.is_none() && count > 0 => Named {
-                frame: Some(0),
-                ..right
-            },
+        let changing = || shown.changing().into_iter().flatten();
+        match FAULT {
+            ALWAYS_NONE => None,
+            NAMES_THE_NEXT => right.map(|frame| frame + 1),
+            NAMES_WHAT_14_REFUSES => first(|delivery| delivery.changes),
+            LOOKS_AT_ONE_TOO_FEW => right.filter(|frame| frame + 1 < count),
+            NAMES_WHAT_ONLY_SENDS => right.or((count > 0).then_some(0)),
+            NAMES_THE_LAST => changing().last(),
+            SKIPS_FRAME_0 => changing().find(|&frame| frame > 0),
+            NAMES_THE_FIRST_ACCEPTED => first(|delivery| delivery.number == 0),
             _ => right,
         }
     }
@@ -454,6 +483,9 @@ fn every_fault_of_the_question_is_found() {
         failed_questions::<Misnaming<LOOKS_AT_ONE_TOO_FEW>>(),
         failed_questions::<Misnaming<NEVER_REFUSES>>(),
         failed_questions::<Misnaming<NAMES_WHAT_ONLY_SENDS>>(),
+        failed_questions::<Misnaming<NAMES_THE_LAST>>(),
+        failed_questions::<Misnaming<SKIPS_FRAME_0>>(),
+        failed_questions::<Misnaming<NAMES_THE_FIRST_ACCEPTED>>(),
     ];
     assert!(failed.iter().all(|&failed| failed > 0), "{failed:?}");
 }

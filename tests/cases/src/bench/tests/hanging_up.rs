@@ -1,7 +1,7 @@
 //! What is wrong about a call that is hung up on a bench with a full book is found.
 
-use super::failed_lines;
-use crate::bench::{Bench, Lent, Named, Reply, Shown};
+use super::{failed_lines, Faulty};
+use crate::bench::{Bench, Lent, Reply};
 use crate::records::Numbers;
 use crate::Reference;
 use reference::bench::book::PLACES;
@@ -13,7 +13,7 @@ struct Broken<const FAULT: u8>;
 const ASKS_14_WHERE_NOTHING_IS_SENT: u8 = 0;
 const HANGS_UP_BEFORE_14: u8 = 1;
 
-impl<const FAULT: u8> Bench for Broken<FAULT> {
+impl<const FAULT: u8> Faulty for Broken<FAULT> {
     fn line(lent: Lent, line: &[u8]) -> Reply {
         let count = lent.count;
         let [a, b] = lent.records;
@@ -37,10 +37,6 @@ impl<const FAULT: u8> Bench for Broken<FAULT> {
             _ => {}
         }
         reply
-    }
-
-    fn some_frame(shown: Shown) -> Named {
-        Reference::some_frame(shown)
     }
 }
 

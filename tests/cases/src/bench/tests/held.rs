@@ -1,6 +1,6 @@
 //! What is wrong about held blocks on a bench is found.
 
-use super::{failed, failed_questions, number};
+use super::{failed, failed_questions, number, Faulty};
 use crate::bench::{Bench, Lent, Named, Reply, Shown};
 use crate::records::{held, Numbers};
 use crate::Reference;
@@ -22,7 +22,7 @@ const WRITES_THE_WHOLE_SECOND_BUFFER: u8 = 5;
 const TELLS_OF_NO_BLOCK: u8 = 6;
 const COPIES_DELIVERED_BLOCKS_UP: u8 = 7;
 
-impl<const FAULT: u8> Bench for Broken<FAULT> {
+impl<const FAULT: u8> Faulty for Broken<FAULT> {
     fn line(lent: Lent, line: &[u8]) -> Reply {
         let Lent {
             records,
@@ -56,10 +56,6 @@ impl<const FAULT: u8> Bench for Broken<FAULT> {
             up[0] = up[0].wrapping_add(1);
         }
         reply
-    }
-
-    fn some_frame(shown: Shown) -> Named {
-        Reference::some_frame(shown)
     }
 }
 
@@ -105,14 +101,10 @@ const LEAVES_OUT_EARLY_BLOCKS: u8 = 0;
 const NAMES_SECOND_COPIES: u8 = 1;
 const NAMES_THE_EIGHTH_ABOVE: u8 = 2;
 
-impl<const FAULT: u8> Bench for Misnaming<FAULT> {
-    fn line(lent: Lent, line: &[u8]) -> Reply {
-        Reference::line(lent, line)
-    }
-
-    fn some_frame(shown: Shown) -> Named {
+impl<const FAULT: u8> Faulty for Misnaming<FAULT> {
+    fn first_frame(shown: Shown) -> Named {
         let Ok(changing) = shown.changing() else {
-            return Reference::some_frame(shown);
+            return Reference::first_frame(shown);
         };
         let count = shown.count;
         let above = |frame: &usize| above(shown.records, shown.book, *frame);

@@ -1,7 +1,7 @@
 //! What is wrong about restarts and pages on a bench is found.
 
 use super::super::{nothing_met, restarted, restarts};
-use super::{failed, failed_lines, failed_questions};
+use super::{failed, failed_lines, failed_questions, Faulty};
 use crate::bench::{Bench, Lent, Named, Reply, Shown};
 use crate::pages;
 use crate::Reference;
@@ -36,7 +36,7 @@ const TELLS_A_NOTICE: u8 = 14;
 const LEAVES_RECORDS_UNASKED_WHERE_MORE_FOLLOWS: u8 = 15;
 const FAULTS: usize = 16;
 
-impl<const FAULT: u8> Bench for Broken<FAULT> {
+impl<const FAULT: u8> Faulty for Broken<FAULT> {
     fn line(lent: Lent, line: &[u8]) -> Reply {
         let Lent {
             records: [a, b],
@@ -87,10 +87,6 @@ impl<const FAULT: u8> Bench for Broken<FAULT> {
             _ => {}
         }
         reply
-    }
-
-    fn some_frame(shown: Shown) -> Named {
-        Reference::some_frame(shown)
     }
 }
 
@@ -207,7 +203,7 @@ const ASKS_ONE_PAGE_ALONE: u8 = 3;
 const QUESTION_ASKS_NO_PAGE: u8 = 4;
 const QUESTION_ASKS_15_FIRST: u8 = 5;
 
-impl<const FAULT: u8> Bench for Paging<FAULT> {
+impl<const FAULT: u8> Faulty for Paging<FAULT> {
     fn line(lent: Lent, line: &[u8]) -> Reply {
         let [a_page, b_page] = lent.pages;
         let before = [a_page.to_vec(), b_page.to_vec()];
@@ -243,8 +239,8 @@ impl<const FAULT: u8> Bench for Paging<FAULT> {
         reply
     }
 
-    fn some_frame(shown: Shown) -> Named {
-        let mut named = Reference::some_frame(shown);
+    fn first_frame(shown: Shown) -> Named {
+        let mut named = Reference::first_frame(shown);
         let is_right = |end: usize| {
             let record = shown.records[end].first_chunk();
             record.is_some_and(|record| shown.pages[end].starts_with(&pages::right(record)))

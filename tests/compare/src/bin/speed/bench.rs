@@ -7,7 +7,7 @@ use cases::bench::{Bench, Lent, Named, Reply, Shown};
 use cases::sample::message;
 use cases::{pages, Reference};
 use compare::proved::Proved;
-use reference::bench::book::{place, PLACES};
+use reference::bench::book::{place, PLACE, PLACES};
 use reference::bench::Side;
 use reference::block::LONGEST_BLOCK;
 use reference::frame::{ACK, DATA, LONGEST_FRAME};
@@ -24,6 +24,7 @@ const QUESTIONS: u32 = 100;
 const SENT: u32 = PLACES as u32 / 2;
 
 /// A bench and a line for it.
+#[derive(Clone)]
 struct Case {
     records: [[u8; RECORD]; 2],
     pages: [[u8; PAGE]; 2],
@@ -79,8 +80,14 @@ impl Case {
         black_box(([&a, &b], &self.up));
     }
 
+    /// The same, and the last frame of the book comes first.
+    fn with_the_last_first(mut self) -> Self {
+        self.book.rotate_right(PLACE);
+        self
+    }
+
     /// Asks the question so.
-    fn ask(&mut self, some_frame: fn(Shown) -> Named) {
+    fn ask(&mut self, first_frame: fn(Shown) -> Named) -> Named {
         let case = black_box(&*self);
         let shown = Shown {
             records: case.records.each_ref().map(|record| &record[..]),
@@ -88,7 +95,7 @@ impl Case {
             book: &case.book,
             count: case.count,
         };
-        black_box(some_frame(shown));
+        black_box(first_frame(shown))
     }
 }
 
@@ -99,8 +106,8 @@ const LINE: Both<Case> = Both {
 };
 /// The question.
 const QUESTION: Both<Case> = Both {
-    proved: |case| case.ask(Proved::some_frame),
-    reference: |case| case.ask(Reference::some_frame),
+    proved: |case| _ = case.ask(Proved::first_frame),
+    reference: |case| _ = case.ask(Reference::first_frame),
 };
 
 /// Measures typical lines, and the question on a full book.
@@ -127,11 +134,25 @@ pub fn measure(measure: &mut impl Measure) {
     }
     let mut case = Case::new(0, SENT, PLACES - 1, "5146").with_all_held();
     measure.call("bench: collect of 64 with 8 held", LINES, &mut case, LINE);
-    for (name, waiting) in [
-        ("question: none of 512 frames", 0),
-        ("question: the last of 512 frames", 1),
+    let last = Case::new(1, SENT, PLACES, "");
+    for (name, mut case, frame) in [
+        (
+            "question: none of 512 frames",
+            Case::new(0, SENT, PLACES, ""),
+            None,
+        ),
+        (
+            "question: the last of 512 frames",
+            last.clone(),
+            Some(PLACES - 1),
+        ),
+        (
+            "question: the first of 512 frames",
+            last.with_the_last_first(),
+            Some(0),
+        ),
     ] {
-        let mut case = Case::new(waiting, SENT, PLACES, "");
+        assert_eq!(case.ask(Reference::first_frame).frame, frame);
         measure.call(name, QUESTIONS, &mut case, QUESTION);
     }
 }

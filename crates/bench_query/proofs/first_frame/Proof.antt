@@ -1,22 +1,22 @@
 use mathlib.Core.Path.{_≡_, sym, _∙_}
-use Prim.Native.Nat.{ℕ, _-_, _≤_, _<_}
+use Prim.Native.Nat.{_-_, _≤_}
 use denote.Ref.{now}
 use native.Mathlib.Omega.{arith}
-use borrow.Author.Count.{below-more, below-none}
 use borrow.Author.Needs.{needs}
 use Rattle.bench_log.specs.Log.{places}
 use Rattle.octets.specs.Test.{when, first}
 use Rattle.call_spec.specs.Claim.{lent}
 use Rattle.bench_spec.specs.Bench.{Bench, benchOf}
-use Rattle.bench_query.specs.Found.{WouldChange, questions}
-use Rattle.bench_query.specs.Internal.{Says}
-use Rattle.bench_query.proofs.Delivery.{ready, past}
-use Rattle.bench_query.proofs.some_frame.Statement.{statement}
-use Rattle.bench_query.proofs.some_frame.Tie as tie
+use Rattle.bench_query.specs.Found.{wouldChange, lowest, questions}
+use Rattle.bench_query.proofs.Delivery.{ready}
+use Rattle.bench_query.proofs.Lowest.{all-left, here, further, none-left, refuses, names}
+use Rattle.bench_query.proofs.first_frame.Statement.{statement}
+use Rattle.bench_query.proofs.first_frame.Tie as tie
 
--- no frame before i would_change
+-- The lowest of all is the lowest of those from i on.
 abbrev Inv-loop : tie.InvT-loop
-Inv-loop a b pa pb log count refusal i₀ i = (count ≤ places) × ((i ≤ places) × ((k : ℕ) → k < i → WouldChange (benchOf (lent a pa) (lent b pb) log count) k → ⊥))
+Inv-loop a b pa pb log count refusal i₀ i =
+    (count ≤ places) × ((i ≤ places) × (lowest (wouldChange (benchOf (lent a pa) (lent b pb) log count)) i (count - i) ≡ lowest (wouldChange (benchOf (lent a pa) (lent b pb) log count)) 0 count))
 
 abbrev μ-loop : tie.MeasureT-loop
 μ-loop a b pa pb log count refusal i₀ i = places - i
@@ -36,16 +36,16 @@ ready-requires : tie.Need-ready-requires Inv-loop μ-loop
 ready-requires c κs = search needs
 
 returns : tie.Need-returns Inv-loop μ-loop
-returns c = (sym (asks (c .before)), c .if1 .taken)
+returns c = refuses (bench (c .before .before .before .before .before .before .before)) (asks (c .before)) (c .if1 .taken)
 
 loop-holds : tie.Need-loop-holds Inv-loop μ-loop
-loop-holds c = let f = ready (bench (c .before .before .before .before .before .before .before)) (passed c) .few in (f, (omega arith, below-none _))
+loop-holds c = let f = ready (bench (c .before .before .before .before .before .before .before)) (passed c) .few in (f, (omega arith, all-left _ _))
 
 would-change-requires : tie.Need-would-change-requires Inv-loop μ-loop
 would-change-requires c κs = let s = c .before .before .before .before .before .before .before .before .before in (now (s .args .a-page), (now (s .args .b-page), passed (c .before .before)))
 
 -- what it tells of frame i, with these pages
-tells : (c : tie.After-would-change Inv-loop μ-loop) → Says (c .would-change .result) (WouldChange (bench (c .before .before .before .before .before .before .before .before .before .before)) (c .before .before .loop .i))
+tells : (c : tie.After-would-change Inv-loop μ-loop) → c .would-change .result ≡ wouldChange (bench (c .before .before .before .before .before .before .before .before .before .before)) (c .before .before .loop .i)
 tells c = let s = c .before .before .before .before .before .before .before .before .before .before in c .would-change .ensures (now (s .args .a-page)) (now (s .args .b-page)) (passed (c .before .before .before))
 
 add-i : tie.Need-add-i Inv-loop μ-loop
@@ -57,17 +57,19 @@ loop-less c = search needs
 loop-again : tie.Need-loop-again Inv-loop μ-loop
 loop-again c =
     let l = c .before .before .before .loop .inv in
-    (l .0, (search needs, below-more _ _ (l .1 .1) (rw (c .if3 .left) at (tells (c .before)))))
+    (l .0, (search needs, sym (further _ _ _ (omega (arith, c .before .before .if2 .left)) (sym (tells (c .before)) ∙ c .if3 .left)) ∙ l .1 .1))
 
 returns-2 : tie.Need-returns-2 Inv-loop μ-loop
 returns-2 c =
-    (passed (c .before .before), past (bench (c .before .before .before .before .before .before .before .before .before)) (λ k l. c .before .loop .inv .1 .1 k (omega (arith, c .if2 .taken))))
+    names (bench (c .before .before .before .before .before .before .before .before .before)) (passed (c .before .before))
+    (sym (c .before .loop .inv .1 .1) ∙ none-left _ _ _ (omega (arith, c .if2 .taken)))
 
 returns-3 : tie.Need-returns-3 Inv-loop μ-loop
 returns-3 c =
-    (passed (c .before .before .before .before), (omega (arith, c .before .before .if2 .left), rw (c .if3 .taken) at (tells (c .before))))
+    names (bench (c .before .before .before .before .before .before .before .before .before .before .before)) (passed (c .before .before .before .before))
+    (sym (c .before .before .before .loop .inv .1 .1) ∙ here _ _ _ (omega (arith, c .before .before .if2 .left)) (sym (tells (c .before)) ∙ c .if3 .taken))
 
-pub some-frame-spec : {M : Type 1} → statement M
-some-frame-spec =
+pub first-frame-spec : {M : Type 1} → statement M
+first-frame-spec =
     tie.close
     (tie.spec Inv-loop μ-loop ready-requires returns loop-holds would-change-requires add-i loop-less loop-again returns-2 returns-3)
