@@ -11,5 +11,6 @@ pub mod World
 pub mod Sequence
 pub mod Theorem
 pub mod Told
+pub mod Rank
 pub mod Edges
 pub mod Examples

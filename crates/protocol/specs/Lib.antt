@@ -7,5 +7,6 @@ pub mod World
 pub mod Claim
 pub mod Limits
 pub mod Sequence
+pub mod Rank
 pub mod Edges
 pub mod Examples

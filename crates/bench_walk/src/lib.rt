@@ -1,0 +1,1 @@
+// The walk through the log: definitions and theorems, no function.
