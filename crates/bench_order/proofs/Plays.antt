@@ -13,12 +13,10 @@ use Rattle.octets.specs.Octets.{field, left}
 use Rattle.octets.proofs.Test.{if-eq, eq-yes, eq-no, in-range}
 use Rattle.octets.proofs.Octets.{field-more, field-one}
 use Rattle.frame.specs.Read.{kindOf}
-use Rattle.call_spec.specs.declared.Call.the-variants.{Request, Receive}
+use Rattle.call_spec.specs.declared.Call.the-variants.{Request}
 use Rattle.call_spec.specs.Calls.{Rooms, rooms, given, recordAfter, bufferAfter, pageAfter}
 use Rattle.call_spec.specs.Claim.{Lent, Act, call, restart}
 use Rattle.call_spec.specs.Answers.{blockOf, blockBufferAfter}
-use Rattle.bench_log.specs.Log.{senderAt, frameLogged, holds}
-use Rattle.bench_log.proofs.Log.{held}
 use Rattle.bench_spec.specs.Bench.{Bench, benchOf, lentAt, At, delivery, octetsAsk, restartAsk, restartedBy, neither, endNamed, callOutcome, comes, endOf, logAfter, countAfter, benchAfter, requestOfA, requestOfB, deliver, restartKind}
 use Rattle.link.specs.Lent.{answerOf}
 use Rattle.link.specs.declared.Answer.{Answer}
@@ -82,23 +80,6 @@ module _ (a b : Lent) (log : List ℕ) (count : ℕ) where
         block-buffer = d .block-buffer;
         handed = d .handed;
       })
-
-  -- question 13
-  pub no-frame : (n : ℕ) (room : Rooms) → holds count n log ≡ false → delivery w n room ≡ refused 13
-  unfolding delivery first when outcome
-  no-frame n room h = rw h refl
-
-  goes : (n : ℕ) (room : Rooms) → holds count n log ≡ true → delivery w n room ≡ ok (1 - senderAt n log, call (given Receive (frameLogged n log) room))
-  unfolding delivery first when outcome
-  goes n room h = rw h refl
-
-  pub to-b : (n : ℕ) (room : Rooms) → holds count n log ≡ true → senderAt n log ≡ 0 → delivery w n room ≡ ok (1, call (given Receive (frameLogged n log) room))
-  to-b n room h z = goes n room h ∙ ap (λ (i : ℕ). ok (1 - i, call (given Receive (frameLogged n log) room))) z
-
-  pub to-a : (n : ℕ) (room : Rooms) → holds count n log ≡ true → senderAt n log ≢ 0 → delivery w n room ≡ ok (0, call (given Receive (frameLogged n log) room))
-  to-a n room h z =
-      let one : senderAt n log ≡ 1 = omega (arith, held count n log h .sender, z) in
-      goes n room h ∙ ap (λ (i : ℕ). ok (1 - i, call (given Receive (frameLogged n log) room))) one
 
   -- what a line's octets ask, by their kind
   module _ (s : List ℕ) (room : Rooms) where

@@ -1,4 +1,5 @@
 pub mod Sends
 pub mod Logged
 pub mod Fair
+pub mod Delivery
 pub mod Run

@@ -4,7 +4,6 @@ use mathlib.Core.Path.{_≡_, refl, sym, ap, _∙_}
 use mathlib.Core.List.{List, _∷_}
 use native.Mathlib.Omega.{arith}
 use lib.ListN.{length}
-use Rattle.octets.specs.Sizes.{longestFrame, longestBlock}
 use Rattle.octets.specs.Test.{when, first}
 use Rattle.octets.specs.Octets.{octetsOf, field}
 use Rattle.octets.proofs.Octets.{octets-cons, octets-number, width}
@@ -12,17 +11,14 @@ use Rattle.octets.proofs.Test.{accepted, eq-no}
 use Rattle.hex.specs.Line.{hex, unhex, lineQuestions, readLine}
 use Rattle.hex.proofs.RoundTrip.{written-reads}
 use Rattle.frame.specs.Read.{kindOf}
-use Rattle.call_spec.specs.Calls.{Rooms, rooms}
 use Rattle.bench_spec.specs.Bench.{Bench, deliver, octetsAsk, restartedBy, lineAsks}
 use Rattle.bench_checks.specs.Ready.{readyQuestions}
 use Rattle.bench_order.proofs.Plays.{asks-frame}
 use Rattle.bench_line.specs.Internal.{readAsks}
 use Rattle.bench_line.proofs.Asked.{passes, passes-on}
 use Rattle.bench_query.specs.Found.{delivers, questions}
+use Rattle.bench_query.proofs.Delivery.{full}
 use Rattle.bench_walk.specs.Walk.{deliveryLine}
-
-abbrev full : Rooms
-full = rooms longestFrame longestBlock
 
 module _ (n : ℕ) where
   abbrev octets : List ℕ

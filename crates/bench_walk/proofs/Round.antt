@@ -8,7 +8,7 @@ use native.Mathlib.Omega.{arith}
 use borrow.Author.Tests.{ltb-true}
 use lib.Dec.{ltb, leb→le}
 use lib.ListN.{length, length-append}
-use Rattle.octets.specs.Sizes.{longestFrame, longestBlock}
+use Rattle.octets.specs.Sizes.{longestFrame}
 use Rattle.octets.specs.Test.{when, ifEq, first, Outcome, refused, ok, mapped, andThen}
 use Rattle.octets.specs.Octets.{put, left, Octets}
 use Rattle.octets.proofs.Octets.{length-octets, no-octet, octets-put, length-put}
@@ -24,7 +24,7 @@ use Rattle.protocol.specs.History as protocol
 use Rattle.protocol.specs.Rank.{lift, rank, Descends, stays, sends, falls}
 use Rattle.protocol.proofs.Rank.{Plain, no-frame, of-control, of-ack, descends, plain}
 use Rattle.call_spec.specs.declared.Call.the-variants.{Receive}
-use Rattle.call_spec.specs.Calls.{Arguments, given, rooms, reads, does, ownQuestions, asked, wire, performed, recordAfter}
+use Rattle.call_spec.specs.Calls.{Arguments, given, reads, does, ownQuestions, asked, wire, performed, recordAfter}
 use Rattle.call_spec.specs.Claim.{Lent, call}
 use Rattle.call_spec.proofs.Holding.{Holding, written}
 use Rattle.call_spec.proofs.Holding as held
@@ -37,6 +37,7 @@ use Rattle.bench_log.proofs.Log.{octets-place}
 use Rattle.bench_spec.specs.Bench as bench
 use Rattle.bench_spec.specs.Bench.{Bench, callOutcome, logAfter, countAfter, benchAfter}
 use Rattle.bench_spec.proofs.Run.{came}
+use Rattle.bench_query.proofs.Delivery.{full}
 use Rattle.bench_walk.specs.Walk.{deliveriesLeft}
 
 -- what an accepted delivery makes of the end e
@@ -111,7 +112,7 @@ record Leaves (r : Lent) (i used : ℕ) (log : List ℕ) (y : Step) : Type 0 whe
   pub less : left-by (countAfter used (ok y)) (heldIn (lentAfter r (ok y))) < left-by used (heldIn r)
 
 abbrev pub received : List ℕ → Arguments
-received s = given Receive s (rooms longestFrame longestBlock)
+received s = given Receive s full
 
 -- it is accepted, and changes the record
 abbrev pub Changes : Lent → ℕ → List ℕ → Step → Type 0

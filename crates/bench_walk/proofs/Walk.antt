@@ -22,13 +22,13 @@ use Rattle.link.specs.Record.{format}
 use Rattle.link.proofs.Demand.{lawful}
 use Rattle.link.proofs.Stays.{holding}
 use Rattle.bench_log.specs.Log.{placeHead, placeSize, places, logSize, senderAt, lengthAt, frameLogged, holds}
-use Rattle.bench_log.proofs.Log as log
 use Rattle.bench_spec.specs.Bench.{Bench, At, lentAt, lineAsks, callOutcome, comes, endOf, benchAfter}
 use Rattle.bench_spec.specs.Run.{lineAfter}
+use Rattle.bench_spec.proofs.Delivery as delivery
 use Rattle.bench_query.specs.declared.Found.{Found}
 use Rattle.bench_query.specs.declared.Found.the-variants.{Frame, Nothing, Refused}
 use Rattle.bench_query.specs.Found.{changes, equal, delivers, questions, firstFrame, Means}
-use Rattle.bench_query.proofs.Delivery.{ready, not-held, goes, to-a, to-b}
+use Rattle.bench_query.proofs.Delivery.{full, ready, not-held, to-a, to-b}
 use Rattle.bench_query.proofs.Lowest.{so-equal, means}
 use Rattle.bench_walk.specs.Walk.{deliveryLine, delivered, walked, deliveriesLeft, Lendable, ended, WalkEnds}
 use Rattle.bench_walk.proofs.Line.{asks}
@@ -101,10 +101,10 @@ module _ (w : Bench) (k : Kept w) (n : ℕ) (f : firstFrame w ≡ Frame n) where
       by-eq (senderAt n (w .log)) 0
       (λ e.
       let c = changes-so (w .b .rec) _ (sym (to-b w n there e) ∙ named .2) in
-      by 1 (goes w n there (omega arith)) (c .1) (at-b w k _ in-octets (c .1, c .2)))
+      by 1 (delivery.to-b w n full there e) (c .1) (at-b w k _ in-octets (c .1, c .2)))
       (λ e.
       let c = changes-so (w .a .rec) _ (sym (to-a w n there e) ∙ named .2) in
-      by 0 (goes w n there (omega (arith, log.held (w .count) n (w .log) there .sender))) (c .1) (at-a w k _ in-octets (c .1, c .2)))
+      by 0 (delivery.to-a w n full there e) (c .1) (at-a w k _ in-octets (c .1, c .2)))
 
 -- where nothing is delivered, nothing moves
 rests : (n : ℕ) (w : Bench) → delivered (firstFrame w) w ≡ w → walked n w ≡ w

@@ -10,10 +10,11 @@ use Rattle.link.specs.Lent.{lentCall}
 use Rattle.bench_log.specs.Log.{frameLogged, holds}
 use Rattle.bench_log.proofs.Log.{held}
 use Rattle.bench_spec.specs.Bench.{benchOf}
+use Rattle.bench_spec.proofs.Delivery.{no-frame, to-a, to-b}
 use Rattle.bench_checks.proofs.Passed.{Passed, passed}
 use Rattle.bench_call.specs.Answer.{blockStart}
 use Rattle.bench_order.specs.Performed.{callBy}
-use Rattle.bench_order.proofs.Plays.{ready-a, ready-b, declines, at-a, at-b, no-frame, to-a, to-b}
+use Rattle.bench_order.proofs.Plays.{ready-a, ready-b, declines, at-a, at-b}
 use native.Mathlib.Omega.{arith}
 use borrow.Author.Needs.{needs}
 use Rattle.bench_order.proofs.deliver.Statement.{statement}
@@ -44,7 +45,7 @@ returns c =
     let s = c .before .before .before .before .before .before .before .before .before .before .before .before in
     let a = s .args in
     declines (end-a s) (end-b s) (now (a .log)) (a .count) (blockStart (a .n)) 13 (now (a .out)) (now (a .up))
-    (no-frame (end-a s) (end-b s) (now (a .log)) (a .count) (a .n) (room-of s) (sym (c .before .before .before .holds .ensures) ∙ not-true (c .before .before .before .holds .result) (c .before .before .if1 .taken)))
+    (no-frame (benchOf (end-a s) (end-b s) (now (a .log)) (a .count)) (a .n) (room-of s) (sym (c .before .before .before .holds .ensures) ∙ not-true (c .before .before .before .holds .result) (c .before .before .if1 .taken)))
     (c .refuse .ensures (blockStart (a .n)))
 
 sender-of-requires : tie.Need-sender-of-requires
@@ -59,7 +60,7 @@ returns-2 c =
     let s = c .before .before .before .before .before .before .before .before .before .before .before .before .before .before .before .before .before .before .before .before .before .before .before .before .before .before .before .before .before in
     let a = s .args in
     at-b (end-a s) (end-b s) (now (a .log)) (a .count) (blockStart (a .n)) (call (lentCall Receive (frameLogged (a .n) (now (a .log))) (now (a .out)) (now (a .up)))) (now (a .out)) (now (a .up))
-    (to-b (end-a s) (end-b s) (now (a .log)) (a .count) (a .n) (room-of s) (is-held (c .before .before .before .before .before .before .before .before .before .before .before .before .before .before .before .before .before .before .before)) (sym (c .before .before .before .before .before .before .before .before .before .before .before .before .before .before .before .before .before .sender-of .ensures) ∙ c .before .before .before .before .before .before .before .before .before .before .before .before .before .before .before .before .if2 .taken)) (c .before .before .before .before .before .before .before .before .before .before .deliver-at .ensures)
+    (to-b (benchOf (end-a s) (end-b s) (now (a .log)) (a .count)) (a .n) (room-of s) (is-held (c .before .before .before .before .before .before .before .before .before .before .before .before .before .before .before .before .before .before .before)) (sym (c .before .before .before .before .before .before .before .before .before .before .before .before .before .before .before .before .before .sender-of .ensures) ∙ c .before .before .before .before .before .before .before .before .before .before .before .before .before .before .before .before .if2 .taken)) (c .before .before .before .before .before .before .before .before .before .before .deliver-at .ensures)
 
 deliver-at-requires-2 : tie.Need-deliver-at-requires-2
 deliver-at-requires-2 c κs = let s = c .before .before .before .before .before .before .before .before .before .before .before .before .before .before .before .before .before .before in let a = s .args in let h = held (a .count) (a .n) (now (a .log)) (is-held (c .before .before .before .before .before .before .before .before)) in let r = is-ready s in (ready-a (now (a .out)) (now (a .up)) r, (r .long-log, ((h .below, r .few), h .short)))
@@ -70,7 +71,7 @@ returns-3 c =
     let s = c .before .before .before .before .before .before .before .before .before .before .before .before .before .before .before .before .before .before .before .before .before .before .before .before .before .before .before .before .before in
     let a = s .args in
     at-a (end-a s) (end-b s) (now (a .log)) (a .count) (blockStart (a .n)) (call (lentCall Receive (frameLogged (a .n) (now (a .log))) (now (a .out)) (now (a .up)))) (now (a .out)) (now (a .up))
-    (to-a (end-a s) (end-b s) (now (a .log)) (a .count) (a .n) (room-of s) (is-held (c .before .before .before .before .before .before .before .before .before .before .before .before .before .before .before .before .before .before .before)) (λ z. c .before .before .before .before .before .before .before .before .before .before .before .before .before .before .before .before .if2 .left (c .before .before .before .before .before .before .before .before .before .before .before .before .before .before .before .before .before .sender-of .ensures ∙ z))) (c .before .before .before .before .before .before .before .before .before .before .deliver-at2 .ensures)
+    (to-a (benchOf (end-a s) (end-b s) (now (a .log)) (a .count)) (a .n) (room-of s) (is-held (c .before .before .before .before .before .before .before .before .before .before .before .before .before .before .before .before .before .before .before)) (λ z. c .before .before .before .before .before .before .before .before .before .before .before .before .before .before .before .before .if2 .left (c .before .before .before .before .before .before .before .before .before .before .before .before .before .before .before .before .before .sender-of .ensures ∙ z))) (c .before .before .before .before .before .before .before .before .before .before .deliver-at2 .ensures)
 
 pub deliver-spec : {M : Type 1} → statement M
 deliver-spec =
