@@ -106,18 +106,21 @@ module _ (w : Bench) (k : Kept w) (n : ℕ) (f : firstFrame w ≡ Frame n) where
       let c = changes-so (w .a .rec) _ (sym (to-a w n there e) ∙ named .2) in
       by 0 (delivery.to-a w n full there e) (c .1) (at-a w k _ in-octets (c .1, c .2)))
 
--- where nothing is delivered, nothing moves
+-- where nothing is delivered, nothing moves, and the answer stays
 rests : (n : ℕ) (w : Bench) → delivered (firstFrame w) w ≡ w → walked n w ≡ w
 unfolding walked
 rests zero w h = refl
 rests (suc n) w h = ap (walked n) h ∙ rests n w h
+
+stays : (n : ℕ) (w : Bench) {f : Found} → firstFrame w ≡ f → delivered f w ≡ w → firstFrame (walked n w) ≡ f
+stays n w e d = ap firstFrame (rests n w (ap (λ (f : Found). delivered f w) e ∙ d)) ∙ e
 
 -- where a frame is named the walk goes on, and where none is it has ended; nothing is refused on the way
 by-answer : (n : ℕ) (w : Bench) → Kept w → ((m : ℕ) → firstFrame w ≡ Frame m → firstFrame (walked n w) ≡ Nothing) → (f : Found) → firstFrame w ≡ f
     → firstFrame (walked n w) ≡ Nothing
 unfolding delivered
 by-answer n w k g (Frame m) e = g m e
-by-answer n w k g Nothing e = ap firstFrame (rests n w (ap (λ (f : Found). delivered f w) e)) ∙ e
+by-answer n w k g Nothing e = stays n w e refl
 by-answer n w k g (Refused j) e =
     let r = subst (Means w) e (means w) in
     absurd (r .1 (sym (r .0) ∙ passes w k))
@@ -149,5 +152,5 @@ walk-ends w l = record {
 
     by-found : (n : ℕ) → deliveriesLeft w ≤ n → (f : Found) → firstFrame w ≡ f → firstFrame (walked n w) ≡ ended (firstFrame w)
     by-found n h (Frame m) e = rounds n w (kept e) h ∙ ap ended (sym e)
-    by-found n h Nothing e = ap firstFrame (rests n w (ap (λ (f : Found). delivered f w) e)) ∙ e ∙ ap ended (sym e)
-    by-found n h (Refused k) e = ap firstFrame (rests n w (ap (λ (f : Found). delivered f w) e)) ∙ e ∙ ap ended (sym e)
+    by-found n h Nothing e = stays n w e refl ∙ ap ended (sym e)
+    by-found n h (Refused k) e = stays n w e refl ∙ ap ended (sym e)
