@@ -47,7 +47,7 @@ fn call_end(
         return link::refuse(rec, refusal::LOG_FULL);
     }
     link::reserve(p, page);
-    link::finish(call, p, rec, s, out, up)
+    link::finish(call, p, page, rec, s, out, up)
 }
 
 // Enters what was sent in the next place of the log, and counts it; nothing where nothing was sent.

@@ -11,15 +11,16 @@ use lib.ListN.{length, getD, drop, replicate}
 use lib.Seq.{take-all, take-at}
 use Rattle.frame.specs.Layout.{sendBlockAt, dataBlockAt}
 use Rattle.octets.specs.Sizes.{longestFrame, longestBlock, queueSize, heldSize, lastNumber, pageSize, numbersEach, lastIncarnation}
-use Rattle.octets.specs.Test.{first, Outcome, refused, ok, mapped, numberOf}
+use Rattle.octets.specs.Test.{ifEq, first, Outcome, refused, ok, mapped, numberOf}
 use Rattle.octets.specs.Octets.{put, left, padded}
-use Rattle.octets.proofs.Test.{by-eq, passing}
+use Rattle.octets.proofs.Test.{by-eq, eq-yes, passing}
 use Rattle.octets.proofs.Octets.{put-none}
 use Rattle.octets.proofs.Outcomes.{is-refused}
 use Rattle.frame.specs.Frame.{Block}
 use Rattle.page.specs.Page.{runs, reserving}
 use Rattle.page.specs.Page as pages
 use Rattle.page.proofs.Laws.{goes-so, goes-last, stays}
+use Rattle.page.proofs.Laws as laws
 use Rattle.protocol.specs.Endpoint as abstract
 use Rattle.protocol.specs.Endpoint.{lengthsOf}
 use Rattle.protocol.specs.Table.{Step}
@@ -46,8 +47,8 @@ use Rattle.endpoint.proofs.Packs.{Long, Tidy, Small, small, count, length-tab, 
 use Rattle.endpoint.proofs.Sounds.{by-lt, tidy, tidy-held, lengths-held, facts}
 use Rattle.endpoint_step.specs.declared.StepAnswer.{StepAnswer}
 use Rattle.endpoint_step.specs.Calls.{outcomeOf, stepAnswerOf, Advances}
-use Rattle.endpoint_step.specs.Internal.{joinsQueue, joinsHeld, Plans, PlansAny, placesAfter, InEight, Fits, lengthsAfter, blocksAfter, carried, blockFrom, Handy, handedTo, HandsUp}
-use Rattle.endpoint_step.proofs.Numbers.{local-after}
+use Rattle.endpoint_step.specs.Internal.{joinsQueue, joinsHeld, Plans, PlansAny, Reserved, placesAfter, InEight, Fits, lengthsAfter, blocksAfter, carried, blockFrom, Handy, handedTo, HandsUp}
+use Rattle.endpoint_step.proofs.Numbers.{local-after, receive-local}
 use Rattle.endpoint_step.proofs.Ready.{ready, Passes, passes}
 use Rattle.endpoint_step.proofs.HeldPlaces.{held-lengths-after, held-blocks-after}
 
@@ -225,6 +226,11 @@ unfolding endpointAfter
 next a (refused n) h = same-number refl
 next a (ok x) h = h x refl
 
+heard-same : (a : abstract.Endpoint) (o : Outcome Step) → ((x : Step) → o ≡ ok x → x .endpoint .local ≡ a .local) → endpointAfter a o .local ≡ a .local
+unfolding endpointAfter
+heard-same a (refused n) h = refl
+heard-same a (ok x) h = h x refl
+
 -- the parts of an accepted answer
 accepted-is : (e : Endpoint) (o : Outcome Step) → numberOf o ≡ 0
     → {a : Endpoint} → a ≡ stepAnswerOf e o .endpoint → {n : ℕ} → n ≡ noticeOf o → {m : ℕ} → m ≡ length (wire (sentIn o)) → {k : ℕ} → k ≡ length (blockOf o)
@@ -309,6 +315,19 @@ module _ (e : Endpoint) (long : Long e) (page : List ℕ) (c : Arguments) {p : P
         let g = goes-so (e .local) page (passed .goes) in
         h ∙ ap (λ (n : ℕ). reserving n page) local-is ∙ page-is (view e) page o (omega arith)
 
+    -- and reserves it
+    pub reserved-by : {page′ : List ℕ} → page′ ≡ reserving (p .numbers .local) page → p .numbers .local ≤ numbersEach * pages.count page′
+    reserved-by h =
+        let r = reservable in
+        omega (arith, ap pages.count h, laws.reserved (p .numbers .local) page (r .0 .0) (r .0 .1) (r .1 .0) (r .1 .1))
+
+    -- receiving begins no number, and the one at hand is reserved
+    pub received-reserved : c .call ≡ call.Receive → p .numbers .local ≤ numbersEach * pages.count page
+    unfolding outcomeOf asked view
+    received-reserved h =
+        let g = goes-so (e .local) page (passed .goes) in
+        omega (arith, local-is, heard-same (view e) o (λ x k. receive-local (view e) (c .octets) (rw h at (passing (first (ownQuestions (sound e) (e .local) page c)) k .1))))
+
     -- its frame can be sent
     pub sendable : (getD (e .lengths) 0 0 ≤ longestBlock) × ((length joins ≤ longestBlock) × (longestFrame ≤ c .room))
     sendable = (first-short e (passed .is-fine) long, (queue-short sendBlockAt (c .octets) (p .queue) _ (w .room), passed .frame-room))
@@ -333,6 +352,10 @@ module _ (e : Endpoint) (long : Long e) (page : List ℕ) (c : Arguments) {p : P
     pub handy : p .notice ≡ 5 → Handy (c .call) (e .«held_lengths») (c .octets) (c .blockRoom)
     unfolding outcomeOf
     handy y = handy-at (c .call) (passed .block-room) (right (sound e) page (view e) c .some (sym (w .notice) ∙ y) .1)
+
+  -- once the page's one store is made, what the others ask of the page holds
+  pub now-reserved : {page′ : List ℕ} → page′ ≡ ifEq (p .number) 0 (reserving (p .numbers .local) page) page → Reserved p page′
+  now-reserved h = λ z. reserved-by z (h ∙ eq-yes _ _ _ _ z)
 
   pub hands-up : blockBy (p .notice) (blockFrom (c .call) (e .«held_lengths») (e .«held_blocks») (c .octets)) ≡ blockOf o
   unfolding outcomeOf

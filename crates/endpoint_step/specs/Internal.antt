@@ -4,8 +4,8 @@ use mathlib.Core.Path.{_≡_}
 use mathlib.Core.Bool.{true}
 use mathlib.Core.List.{List, [], _∷_, _++_}
 use lib.ListN.{length, getD, drop, replicate}
-use Rattle.octets.specs.Sizes.{longestFrame, longestBlock, queueSize, pageSize}
-use Rattle.page.specs.Page.{goesWith}
+use Rattle.octets.specs.Sizes.{longestFrame, longestBlock, queueSize, pageSize, numbersEach}
+use Rattle.page.specs.Page.{count, goesWith}
 use Rattle.octets.specs.Octets.{put}
 use Rattle.frame.specs.Frame.{Block}
 use Rattle.frame.specs.Layout.{sendBlockAt, dataBlockAt}
@@ -39,6 +39,10 @@ abbrev pub PlansAny : Endpoint → Call → List ℕ → Plan → Type 0
 PlansAny e c s p =
     (page : List ℕ) (room : Rooms) → longestFrame ≤ room .frame → blockRoomOk c (room .block) ≡ true → pageSize ≤ length page → goesWith (e .local) page ≡ true
     → Plans e page (given c s room) p
+
+-- The number that p leaves is reserved on this page, where p accepts: asked by all that stores after the page, of the page as it stands then.
+abbrev pub Reserved : Plan → List ℕ → Type 0
+Reserved p page = p .number ≡ 0 → p .numbers .local ≤ numbersEach * count page
 
 -- eight places of so many octets, and as many of zeros after them
 abbrev pub followed : ℕ → List ℕ → List ℕ

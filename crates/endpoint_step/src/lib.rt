@@ -7,12 +7,13 @@ use step_plan::Places;
 use step_plan::Plan;
 use step_rules::Numbers;
 ghost use mathlib.Core.Path.{_≡_};
-ghost use mathlib.Core.List.{_++_};
-ghost use Prim.Native.Nat.{_+_, _*_, _≤_, _<_};
+ghost use mathlib.Core.List.{List, _++_};
+ghost use Prim.Native.Nat.{ℕ, _+_, _*_, _≤_, _<_};
 ghost use lib.ListN.{length, getD, take, drop, replicate};
 ghost use Rattle.octets.specs.Sizes.{longestFrame, longestBlock, queueSize, heldSize, lastNumber};
 ghost use Rattle.octets.specs.Test.{refused};
 ghost use Rattle.octets.specs.Octets.{put};
+ghost use Rattle.page.specs.Page.{reserving};
 ghost use Rattle.call_spec.specs.declared.Call.the-variants.{Request};
 ghost use Rattle.frame.specs.Layout.{sendBlockAt, dataBlockAt};
 ghost use Rattle.call_spec.specs.Calls.{given, rooms, does, blockRoomOk, restarting};
@@ -20,7 +21,7 @@ ghost use Rattle.step_plan.specs.Internal.{blockBy, blockOut, sentBy, Planned, 
 ghost use Rattle.endpoint.specs.View.{placesSize, placeBlock};
 ghost use Rattle.endpoint.specs.Internal.{recordOf};
 ghost use Rattle.endpoint_step.specs.Calls.{stepAnswerOf, Advances};
-ghost use Rattle.endpoint_step.specs.Internal.{Plans, followed, placesAfter, PlaceFor, blockFrom, Handy, HandsUp, Fits, carried};
+ghost use Rattle.endpoint_step.specs.Internal.{Plans, Reserved, followed, placesAfter, PlaceFor, blockFrom, Handy, HandsUp, Fits, carried};
 
 // Question 11 of the buffer for a block, which is lent to the calls that make requests.
 pub fn block_room_ok(call: Call, room: usize) -> bool
@@ -226,6 +227,36 @@ fn unchanged(e: Endpoint, number: u8) -> StepAnswer
     }
 }
 
+// The other stores of a call whose plan accepts, and its answer: the frame out, the block handed up. They come after the page's one store: the
+// number that the plan leaves is reserved on the page that is lent, and nothing can store to it here.
+fn finish(
+    call: Call,
+    e: Endpoint,
+    p: Plan,
+    page: &[u8],
+    s: &[u8],
+    out: &mut [u8],
+    up: &mut [u8],
+) -> StepAnswer
+    requires { ⌜ (p .number ≡ 0) × (Reserved p (now page) × ((planned : List ℕ) × Plans e planned (given call (now s) (rooms (length (now out)) (length (now up)))) p)) ⌝ }
+    ensures { λ r. ⌜ ((planned : List ℕ) → Plans e planned (given call (now (s .entry)) (rooms (length (now (out .entry))) (length (now (up .entry))))) p → now (page .entry) ≡ reserving (p .numbers .local) planned → Advances e planned (given call (now (s .entry)) (rooms (length (now (out .entry))) (length (now (up .entry))))) (now (out .entry)) (now (up .entry)) (now (page .entry)) (now (out .exit)) (now (up .exit)) r) ⌝ }
+{
+    let queue = p.queue;
+    let joined = step_plan::joined(queue, frame::SEND_BLOCK_AT, s);
+    let sent = send(p, joined, &e.lengths, &e.blocks, out);
+    let block = hand_up(call, p.notice, &e.held_lengths, &e.held_blocks, s, up);
+    let held = p.held;
+    let early = step_plan::joined(held, frame::DATA_BLOCK_AT, s);
+    let after = carry_out(e, p, joined, early);
+    StepAnswer {
+        number: step_plan::ACCEPTED,
+        endpoint: after,
+        notice: p.notice,
+        sent,
+        block,
+    }
+}
+
 // A request, the timer call among them, or receiving, by value: page is the end's page, s has the octets of the request or of the frame, out
 // room for a frame, up room for a block, which receiving does not need. The page's one store comes before every other.
 pub fn step(
@@ -255,20 +286,7 @@ pub fn step(
         return unchanged(e, p.number);
     }
     page::reserve(p.numbers.local, page);
-    let queue = p.queue;
-    let joined = step_plan::joined(queue, frame::SEND_BLOCK_AT, s);
-    let sent = send(p, joined, &e.lengths, &e.blocks, out);
-    let block = hand_up(call, p.notice, &e.held_lengths, &e.held_blocks, s, up);
-    let held = p.held;
-    let early = step_plan::joined(held, frame::DATA_BLOCK_AT, s);
-    let after = carry_out(e, p, joined, early);
-    StepAnswer {
-        number: step_plan::ACCEPTED,
-        endpoint: after,
-        notice: p.notice,
-        sent,
-        block,
-    }
+    finish(call, e, p, page, s, out, up)
 }
 
 // A restart by value: it looks at the page alone. A refusal gives back the record that it was to replace.

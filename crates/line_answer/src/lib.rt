@@ -39,7 +39,7 @@ fn ask(rec: &mut [u8], page: &mut [u8], s: &[u8], out: &mut [u8]) -> usize
     let call = call_in(s);
     let p = link::plan_sound(call, rec, s);
     link::reserve(p, page);
-    let a = link::finish(call, p, rec, s, &mut frame, &mut up);
+    let a = link::finish(call, p, page, rec, s, &mut frame, &mut up);
     let told = a.status;
     let sent = a.sent;
     let block = step_plan::block_part(call, s, &up, a.block);

@@ -23,7 +23,7 @@ ghost use Rattle.call_spec.specs.declared.Call.the-variants.{Receive};
 ghost use Rattle.call_spec.specs.Calls.{given, rooms};
 ghost use Rattle.call_spec.specs.Answers.{blockOf};
 ghost use Rattle.endpoint.specs.Record.{recordSize, encode, decode};
-ghost use Rattle.endpoint_step.specs.Internal.{Plans, PlansAny, Fits, carried};
+ghost use Rattle.endpoint_step.specs.Internal.{Plans, PlansAny, Reserved, Fits, carried};
 ghost use Rattle.link.specs.Record.{format, pagedFor, recordQuestions};
 ghost use Rattle.link.specs.Lent.{statusOf, stands, answerOf, Called, lentCall, lentOutcome, CalledLent, Restarted, answerIn};
 
@@ -238,16 +238,18 @@ fn store<'a>(p: Plan, joined: &'a [u8], early: &'a [u8], rec: &mut [u8])
 }
 
 // The other stores of a planned call, and its answer: the frame out, the block handed up, then the record. A plan that refuses stores nothing.
+// They come after the page's one store: the number that the plan leaves is reserved on the page that is lent, and nothing can store to it here.
 pub fn finish(
     call: Call,
     p: Plan,
+    page: &[u8],
     rec: &mut [u8],
     s: &[u8],
     out: &mut [u8],
     up: &mut [u8],
 ) -> Answer
-    requires { ⌜ (recordSize ≤ length (now rec)) × ((page : List ℕ) × Plans (decode (now rec)) page (lentCall call (now s) (now out) (now up)) p) ⌝ }
-    ensures { λ r. ⌜ ((page : List ℕ) → Plans (decode (now (rec .entry))) page (lentCall call (now (s .entry)) (now (out .entry)) (now (up .entry))) p → Called call (lentOutcome call (now (rec .entry)) page (now (s .entry)) (now (out .entry)) (now (up .entry))) (now (rec .entry)) (now (s .entry)) (now (out .entry)) (now (up .entry)) (now (rec .exit)) (now (out .exit)) (now (up .exit)) r) ⌝ }
+    requires { ⌜ (recordSize ≤ length (now rec)) × (Reserved p (now page) × ((planned : List ℕ) × Plans (decode (now rec)) planned (lentCall call (now s) (now out) (now up)) p)) ⌝ }
+    ensures { λ r. ⌜ ((planned : List ℕ) → Plans (decode (now (rec .entry))) planned (lentCall call (now (s .entry)) (now (out .entry)) (now (up .entry))) p → Called call (lentOutcome call (now (rec .entry)) planned (now (s .entry)) (now (out .entry)) (now (up .entry))) (now (rec .entry)) (now (s .entry)) (now (out .entry)) (now (up .entry)) (now (rec .exit)) (now (out .exit)) (now (up .exit)) r) ⌝ }
 {
     if p.number != step_plan::ACCEPTED {
         return refuse(rec, p.number);
@@ -302,7 +304,7 @@ pub fn perform(
     }
     let p = plan_call(call, rec, page, s, out.len(), up.len());
     reserve(p, page);
-    finish(call, p, rec, s, out, up)
+    finish(call, p, page, rec, s, out, up)
 }
 
 // A frame received by a call that only looks at the page: no number is begun, so that nothing has to be reserved.
@@ -313,7 +315,7 @@ fn hear(rec: &mut [u8], page: &[u8], s: &[u8], out: &mut [u8], up: &mut [u8]) ->
         return refuse(rec, refusal::SHORT_BUFFER);
     }
     let p = plan_call(Call::Receive, rec, page, s, out.len(), up.len());
-    finish(Call::Receive, p, rec, s, out, up)
+    finish(Call::Receive, p, page, rec, s, out, up)
 }
 
 // Receives the frame s. Gives the block handed up, a part of s, empty where there is none; the number, state, notice, L, D and

@@ -158,12 +158,30 @@ run-is (x ∷ s) h =
     let r : only unused (x ∷ s) ≡ true = rw (ne-eqb x used n) at h in
     only-is unused (x ∷ s) r ∙ ap₂ run-of-both (sym k) m)
 
-pub page-is : (l : ℕ) (page : List ℕ) → pageSize ≤ length page → goesWith l page ≡ true → page ≡ pageOf (usedFor l) ++ drop pageSize page
+-- a page that is a run is the one with its count
+pub run-page : (page : List ℕ) → pageSize ≤ length page → runs page ≡ true → page ≡ pageOf (count page) ++ drop pageSize page
 unfolding pageOf runs count
-page-is l page h g =
-    let u = goes-so l page g in
+run-page page h r =
     let k = length-take-le pageSize page h in
-    let c : leading (take pageSize page) ≡ usedFor l = u .1 in
     sym (take-append-drop pageSize page)
     ∙ ap (λ (t : List ℕ). t ++ drop pageSize page)
-    (run-is (take pageSize page) (u .0) ∙ ap₂ (λ (n m : ℕ). replicate n used ++ replicate (m - n) unused) c k)
+    (run-is (take pageSize page) r ∙ ap (λ (m : ℕ). run-of-both (leading (take pageSize page)) (m - leading (take pageSize page))) k)
+
+pub page-is : (l : ℕ) (page : List ℕ) → pageSize ≤ length page → goesWith l page ≡ true → page ≡ pageOf (usedFor l) ++ drop pageSize page
+page-is l page h g =
+    let u = goes-so l page g in
+    run-page page h (u .0) ∙ ap (λ (n : ℕ). pageOf n ++ drop pageSize page) (u .1)
+
+-- once the one store is made, the number is reserved
+pub reserved : (l : ℕ) (page : List ℕ) → pageSize ≤ length page → runs page ≡ true → l ≤ lastIncarnation → l ≤ numbersEach * count page + numbersEach
+    → l ≤ numbersEach * count (reserving l page)
+unfolding reserving
+reserved l page h r last most =
+    if-lt (λ (s : List ℕ). l ≤ numbersEach * count s) (numbersEach * count page) l
+    (λ t.
+    let p = run-page page h r in
+    let more = drop pageSize page in
+    let n : set page (count page) used ≡ pageOf (suc (count page)) ++ more =
+    ap (λ (s : List ℕ). set s (count page) used) p ∙ next (count page) (omega arith) more (omega arith) in
+    omega (arith, ap count n, page-count (suc (count page)) (omega arith) more))
+    (λ t. omega arith)

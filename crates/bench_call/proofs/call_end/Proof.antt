@@ -9,7 +9,7 @@ use Rattle.call_spec.proofs.Sequence.{has-room}
 use Rattle.endpoint.specs.View.{view}
 use Rattle.endpoint.specs.Record.{decode}
 use Rattle.endpoint_step.specs.Internal.{Plans}
-use Rattle.endpoint_step.proofs.Carries.{reservable}
+use Rattle.endpoint_step.proofs.Carries.{reservable, now-reserved}
 use Rattle.link.specs.Record.{format}
 use Rattle.link.specs.Lent.{lentCall}
 use Rattle.link.proofs.Answers.{turned-down, page-unchanged, decode-long, reserved}
@@ -31,6 +31,16 @@ unfolding view
 plans c =
     let s = c .before .before .before .before .before .before .before in
     c .plan-sound .ensures (now (s .args .page)) (rooms (length (now (s .args .out))) (length (now (s .args .up)))) (s .pre .1 .0) (has-room (s .args .call) (length (now (s .args .up))) (s .pre .1 .1)) (s .pre .0 .1 .0) (s .pre .0 .1 .1)
+
+-- what the other stores ask of the page is there once its own store is made
+finish-requires : tie.Need-finish-requires
+finish-requires c κs =
+    let r : tie.After-reserve = search in
+    let w : tie.After-plan-sound = search in
+    let s : tie.Start = search in
+    let d = now (s .args .rec) in
+    let l = s .pre .0 .0 .0 in
+    (l, (now-reserved (decode d) (decode-long d l) (now (s .args .page)) (call-of s) (plans w) (r .reserve .ensures), (now (s .args .page), plans w)))
 
 -- 14 refuses, or does not
 full : (c : tie.Then1) → let s = c .before .before .before .before .before .before .before .before .before in outcomeAt (lent-of s) (s .args .count) (call-of s) ≡ refused 14
@@ -58,18 +68,16 @@ reserve-requires c κs = λ z.
     let d = now (s .args .rec) in
     reservable (decode d) (decode-long d (s .pre .0 .0 .0)) (now (s .args .page)) (call-of s) (plans (c .before .before .before)) z
 
-finish-requires : tie.Need-finish-requires
-finish-requires c κs =
-    let s = c .before .before .before .before .before .before .before .before .before .before .before .before .before .before .before .before in
-    (s .pre .0 .0 .0, (now (s .args .page), plans (c .before .before .before .before .before .before .before .before .before)))
-
 returns-2 : tie.Need-returns-2
 returns-2 c =
-    let s = c .before .before .before .before .before .before .before .before .before .before .before .before .before .before .before .before .before .before .before .before .before .before .before in
-    let w = plans (c .before .before .before .before .before .before .before .before .before .before .before .before .before .before .before .before) in
-    let o = left (c .before .before .before .before .before .before .before .before .before .before .before .before .before .before) in (
-      rw o (c .before .before .before .before .before .before .finish .ensures (now (s .args .page)) w),
-      reserved (now (s .args .rec)) (s .pre .0 .0 .0) (now (s .args .page)) (call-of s) w (c .before .before .before .before .before .before .before .before .before .before .before .before .reserve .ensures) ∙ ap (pageAfter (now (s .args .page))) (sym o),
+    let f : tie.After-finish = search in
+    let r : tie.After-reserve = search in
+    let e : tie.Else1 = search in
+    let w : tie.After-plan-sound = search in
+    let s : tie.Start = search in
+    let o = left e in (
+      rw o (f .finish .ensures (now (s .args .page)) (plans w)),
+      reserved (now (s .args .rec)) (s .pre .0 .0 .0) (now (s .args .page)) (call-of s) (plans w) (r .reserve .ensures) ∙ ap (pageAfter (now (s .args .page))) (sym o),
     )
 
 pub call-end-spec : {M : Type 1} → statement M

@@ -1,5 +1,5 @@
 use Prim.Native.Nat.{_≤_}
-use mathlib.Core.Path.{_≡_, sym, ap, _∙_}
+use mathlib.Core.Path.{_≡_, sym, ap, subst, _∙_}
 use denote.Ref.{now}
 use lib.ListN.{length}
 use lib.Seq.{length-take-le}
@@ -7,12 +7,13 @@ use Rattle.octets.specs.Sizes.{longestFrame, longestBlock}
 use Rattle.octets.specs.Test.{Outcome}
 use Rattle.protocol.specs.Table.{Step}
 use Rattle.call_spec.specs.Calls.{Arguments, given, rooms, performed, pageAfter}
-use Rattle.call_spec.specs.Answers.{blockOf}
+use Rattle.call_spec.specs.declared.Call.{Call}
+use Rattle.call_spec.specs.Answers.{blockOf, blockPart}
 use Rattle.call_spec.proofs.Sequence.{has-room}
 use Rattle.endpoint.specs.View.{view}
 use Rattle.endpoint.specs.Record.{decode}
 use Rattle.endpoint_step.specs.Internal.{Plans}
-use Rattle.endpoint_step.proofs.Carries.{reservable}
+use Rattle.endpoint_step.proofs.Carries.{reservable, now-reserved}
 use Rattle.link.specs.declared.Answer.{Answer}
 use Rattle.link.specs.Record.{format}
 use Rattle.link.specs.Lent.{answerOf, Called}
@@ -35,73 +36,104 @@ asked c = asked-of (now (c .args .rec)) (now (c .args .page)) (c .pre .0)
 plan-sound-requires : tie.Need-plan-sound-requires
 plan-sound-requires c κs = let k = asked (c .before .before .before .before .before .before) in (k .long, k .is-sound)
 
+-- the start
+abbrev start-of : tie.After-plan-sound → tie.Start
+start-of c = c .before .before .before .before .before .before .before
+
 -- the call that is planned
 abbrev call-of : tie.After-plan-sound → Arguments
-call-of c = given (c .before .before .call-in .result) (now (c .before .before .before .before .before .before .before .args .s)) (rooms longestFrame longestBlock)
+call-of c = given (c .before .before .call-in .result) (now (start-of c .args .s)) (rooms longestFrame longestBlock)
 
-planned : (c : tie.After-plan-sound) → Plans (decode (now (c .before .before .before .before .before .before .before .args .rec))) (now (c .before .before .before .before .before .before .before .args .page)) (call-of c) (c .plan-sound .result)
+planned : (c : tie.After-plan-sound) → Plans (decode (now (start-of c .args .rec))) (now (start-of c .args .page)) (call-of c) (c .plan-sound .result)
 unfolding view
 planned c =
-    let s = c .before .before .before .before .before .before .before in
+    let s = start-of c in
     c .plan-sound .ensures (now (s .args .page)) (rooms longestFrame longestBlock) (omega arith) (has-room _ longestBlock (omega arith)) (asked s .page-long) (asked s .goes)
+
+-- what the other stores ask of the page is there once its own store is made
+finish-requires : tie.Need-finish-requires
+finish-requires c κs =
+    let r : tie.After-reserve = search in
+    let p : tie.After-plan-sound = search in
+    let s = start-of p in
+    let d = now (s .args .rec) in
+    (asked s .long, (now-reserved (decode d) (decode-long d (asked s .long)) (now (s .args .page)) (call-of p) (planned p) (r .reserve .ensures), (now (s .args .page), planned p)))
 
 reserve-requires : tie.Need-reserve-requires
 reserve-requires c κs = λ z.
-    let s = c .before .before .before .before .before .before .before .before in
+    let s = start-of (c .before) in
     let d = now (s .args .rec) in
     reservable (decode d) (decode-long d (asked s .long)) (now (s .args .page)) (call-of (c .before)) (planned (c .before)) z
 
 -- the page after the call's one store
-page-is : (c : tie.After-reserve) → c .reserve .last .1 .0 ≡ pageAfter (now (c .before .before .before .before .before .before .before .before .before .args .page)) (comes (c .before .before .before .before .before .before .before .before .before))
+page-is : (c : tie.After-reserve) → c .reserve .last .1 .0 ≡ pageAfter (now (start-of (c .before .before) .args .page)) (comes (start-of (c .before .before)))
 page-is c =
-    let s = c .before .before .before .before .before .before .before .before .before in
-    rw (c .before .before .before .before .call-in .ensures) at (reserved (now (s .args .rec)) (asked s .long) (now (s .args .page)) (call-of (c .before .before)) (planned (c .before .before)) (c .reserve .ensures))
+    let s = start-of (c .before .before) in
+    let page = now (s .args .page) in
+    reserved (now (s .args .rec)) (asked s .long) page (call-of (c .before .before)) (planned (c .before .before)) (c .reserve .ensures)
+    ∙ ap (λ (k : Call). pageAfter page (performed format (now (s .args .rec)) page (given k (now (s .args .s)) (rooms longestFrame longestBlock)))) (c .before .before .before .before .call-in .ensures)
 
-finish-requires : tie.Need-finish-requires
-finish-requires c κs =
-    let s = c .before .before .before .before .before .before .before .before .before .before .before .before .before .before in
-    (asked s .long, (now (s .args .page), planned (c .before .before .before .before .before .before .before)))
+-- the plan that is carried out
+abbrev plan-of : tie.After-finish → tie.After-plan-sound
+plan-of c = c .before .before .before .before .before .before .before .before .before
 
 called : (c : tie.After-finish)
-    → let s = c .before .before .before .before .before .before .before .before .before .before .before .before .before .before .before in
-    Called (callIn (now (s .args .s))) (comes s) (now (s .args .rec)) (now (s .args .s)) room blockRoom (c .finish .last .1 .1 .0) (c .finish .last .1 .1 .1 .1 .0) (c .finish .last .1 .1 .1 .1 .1 .0) (c .finish .result)
-called c = rw (c .before .before .before .before .before .before .before .before .before .before .call-in .ensures) at (c .finish .ensures (now (c .before .before .before .before .before .before .before .before .before .before .before .before .before .before .before .args .page)) (planned (c .before .before .before .before .before .before .before .before)))
+    → let s = start-of (plan-of c) in
+    Called (callIn (now (s .args .s))) (comes s) (now (s .args .rec)) (now (s .args .s)) room blockRoom (c .finish .last .1 .1 .1 .0) (c .finish .last .1 .1 .1 .1 .1 .0) (c .finish .last .1 .1 .1 .1 .1 .1 .0) (c .finish .result)
+called c =
+    let s = start-of (plan-of c) in
+    let rec = now (s .args .rec) in
+    let page = now (s .args .page) in
+    let line = now (s .args .s) in
+    subst (λ (k : Call). Called k (performed format rec page (given k line (rooms longestFrame longestBlock))) rec line room blockRoom (c .finish .last .1 .1 .1 .0) (c .finish .last .1 .1 .1 .1 .1 .0) (c .finish .last .1 .1 .1 .1 .1 .1 .0) (c .finish .result))
+    (plan-of c .before .before .call-in .ensures) (c .finish .ensures page (planned (plan-of c)))
 
 -- the frame sent has room
-fits : (c : tie.After-finish) → (length (c .finish .last .1 .1 .1 .1 .0) ≡ longestFrame) × (c .finish .result .sent ≤ longestFrame)
+fits : (c : tie.After-finish) → (length (c .finish .last .1 .1 .1 .1 .1 .0) ≡ longestFrame) × (c .finish .result .sent ≤ longestFrame)
 unfolding answerOf
 fits c =
-    let l : length (c .finish .last .1 .1 .1 .1 .0) ≡ longestFrame = search needs in
-    (l, sent-fits room (comes (c .before .before .before .before .before .before .before .before .before .before .before .before .before .before .before)) (called c .buffer) l (ap (λ (x : Answer). x .sent) (called c .answer)))
+    let l : length (c .finish .last .1 .1 .1 .1 .1 .0) ≡ longestFrame = search needs in
+    (l, sent-fits room (comes (start-of (plan-of c))) (called c .buffer) l (ap (λ (x : Answer). x .sent) (called c .answer)))
 
 -- the block handed up
-block-is : (c : tie.After-block-part) → now (c .block-part .result) ≡ blockOf (comes (c .before .before .before .before .before .before .before .before .before .before .before .before .before .before .before .before .before .before .before .before .before .before))
-block-is c = rw (c .before .before .before .before .before .before .before .before .before .before .before .before .before .before .before .before .before .call-in .ensures) at (c .block-part .ensures) ∙ called (c .before .before .before .before .before .before .before) .block
+abbrev finish-of : tie.After-block-part → tie.After-finish
+finish-of c = c .before .before .before .before .before .before .before
+
+block-is : (c : tie.After-block-part) → now (c .block-part .result) ≡ blockOf (comes (start-of (plan-of (finish-of c))))
+block-is c =
+    let f = finish-of c in
+    c .block-part .ensures
+    ∙ ap (λ (k : Call). blockPart k (now (start-of (plan-of f) .args .s)) (f .finish .last .1 .1 .1 .1 .1 .1 .0) (f .finish .result .block)) (plan-of f .before .before .call-in .ensures)
+    ∙ called f .block
 
 block-part-requires : tie.Need-block-part-requires
-block-part-requires c κs = part-long (c .before .before .before .before .before .before .finish .ensures (now (c .before .before .before .before .before .before .before .before .before .before .before .before .before .before .before .before .before .before .before .before .before .args .page)) (planned (c .before .before .before .before .before .before .before .before .before .before .before .before .before .before)))
+block-part-requires c κs = let f : tie.After-finish = search in let p = plan-of f in part-long (f .finish .ensures (now (start-of p .args .page)) (planned p))
 
 array-share-prefix-frame : tie.Need-array-share-prefix-frame
-array-share-prefix-frame c = omega (arith, fits (c .before .before .before .before .before .before .before))
+array-share-prefix-frame c = let f : tie.After-finish = search in omega (arith, fits f)
 
 slice-aggregate-write-text : tie.Need-slice-aggregate-write-text
-slice-aggregate-write-text c = sym (length-take-le _ _ (omega (arith, fits (c .before .before .before .before .before .before .before .before))))
+slice-aggregate-write-text c = let f : tie.After-finish = search in sym (length-take-le _ _ (omega (arith, fits f)))
 
 write-text-requires : tie.Need-write-text-requires
 write-text-requires c κs =
-    let s = c .before .before .before .before .before .before .before .before .before .before .before .before .before .before .before .before .before .before .before .before .before .before .before .before in
-    let p = c .before .before .before .before .before .before .before .before .before in (
+    let b : tie.After-block-part = search in
+    let f = finish-of b in
+    let s = start-of (plan-of f) in (
       search needs,
       (
-        omega (arith, ap length (block-is (c .before .before)), block-short (now (s .args .rec)) (now (s .args .page)) (lineCall (now (s .args .s))) (s .pre .1 .0)),
-        omega (arith, fits p, length-take-le (p .finish .result .sent) (p .finish .last .1 .1 .1 .1 .0) (omega (arith, fits p))),
+        omega (arith, ap length (block-is b), block-short (now (s .args .rec)) (now (s .args .page)) (lineCall (now (s .args .s))) (s .pre .1 .0)),
+        omega (arith, fits f, length-take-le (f .finish .result .sent) (f .finish .last .1 .1 .1 .1 .1 .0) (omega (arith, fits f))),
       ),
     )
 
 returns : tie.Need-returns
 returns c =
-    let s = c .before .before .before .before .before .before .before .before .before .before .before .before .before .before .before .before .before .before .before .before .before .before .before .before .before .before .before in
-    gives _ (now (s .args .rec)) (now (s .args .page)) (now (s .args .s)) (now (s .args .out)) (called (c .before .before .before .before .before .before .before .before .before .before .before .before)) (page-is (c .before .before .before .before .before .before .before .before .before .before .before .before .before .before .before .before .before .before)) (block-is (c .before .before .before .before .before)) (c .before .before .write-text .ensures)
+    let b : tie.After-block-part = search in
+    let f = finish-of b in
+    let r : tie.After-reserve = search in
+    let s = start-of (plan-of f) in
+    gives _ (now (s .args .rec)) (now (s .args .page)) (now (s .args .s)) (now (s .args .out)) (called f) (page-is r) (block-is b) (c .before .before .write-text .ensures)
 
 pub ask-spec : {M : Type 1} → statement M
 ask-spec =

@@ -1,22 +1,41 @@
+use mathlib.Core.Path.{refl}
+use Prim.Native.Nat.{_≤_}
 use denote.Ref.{now}
+use lib.ListN.{length}
 use Rattle.call_spec.specs.declared.Call.the-variants.{Receive}
+use Rattle.call_spec.specs.Calls.{Arguments}
+use Rattle.endpoint.specs.Record.{recordSize, decode}
+use Rattle.endpoint_step.proofs.Carries.{received-reserved}
 use Rattle.link.specs.Lent.{lentCall}
-use Rattle.link.proofs.Answers.{turned-down, too-short}
+use Rattle.link.proofs.Answers.{turned-down, too-short, decode-long}
 use borrow.Author.Needs.{needs}
 use Rattle.link.proofs.hear.Statement.{statement}
 use Rattle.link.proofs.hear.Tie as tie
 
+abbrev call-of : tie.Start → Arguments
+call-of c = lentCall Receive (now (c .args .s)) (now (c .args .out)) (now (c .args .up))
+
 returns : tie.Need-returns
 returns c =
-    let a = c .before .before .before .before .before .before .before .before .args in
-    turned-down (too-short (now (a .rec)) (now (a .page)) (lentCall Receive (now (a .s)) (now (a .out)) (now (a .up))) (c .before .before .if1 .taken)) Receive (now (a .rec)) (now (a .s)) (now (a .out)) (now (a .up)) (c .refuse .ensures)
+    let s : tie.Start = search in
+    let a = s .args in
+    turned-down (too-short (now (a .rec)) (now (a .page)) (call-of s) (c .before .before .if1 .taken)) Receive (now (a .rec)) (now (a .s)) (now (a .out)) (now (a .up)) (c .refuse .ensures)
 
 finish-requires : tie.Need-finish-requires
-finish-requires c κs = (search needs, (now (c .before .before .before .before .before .before .before .before .before .before .before .args .page), c .before .before .before .plan-call .ensures))
+finish-requires c κs =
+    let s : tie.Start = search in
+    let w : tie.After-plan-call = search in
+    let d = now (s .args .rec) in
+    let page = now (s .args .page) in
+    let l : recordSize ≤ length d = search needs in
+    (l, (λ z. received-reserved (decode d) (decode-long d l) page (call-of s) (w .plan-call .ensures) z refl, (page, w .plan-call .ensures)))
 
 returns-2 : tie.Need-returns-2
 returns-2 c =
-    c .before .before .before .before .before .before .finish .ensures (now (c .before .before .before .before .before .before .before .before .before .before .before .before .before .before .before .before .before .before .args .page)) (c .before .before .before .before .before .before .before .before .before .before .plan-call .ensures)
+    let s : tie.Start = search in
+    let w : tie.After-plan-call = search in
+    let f : tie.After-finish = search in
+    f .finish .ensures (now (s .args .page)) (w .plan-call .ensures)
 
 pub hear-spec : {M : Type 1} → statement M
 hear-spec =

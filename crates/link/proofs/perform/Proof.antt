@@ -1,8 +1,10 @@
 use native.Mathlib.Omega.{arith}
+use Prim.Native.Nat.{_≤_}
 use denote.Ref.{now}
+use lib.ListN.{length}
 use Rattle.call_spec.specs.Calls.{Arguments}
-use Rattle.endpoint.specs.Record.{decode}
-use Rattle.endpoint_step.proofs.Carries.{reservable}
+use Rattle.endpoint.specs.Record.{recordSize, decode}
+use Rattle.endpoint_step.proofs.Carries.{reservable, now-reserved}
 use Rattle.link.specs.Lent.{lentCall}
 use Rattle.link.proofs.Answers.{turned-down, too-short, decode-long, page-unchanged, reserved}
 use borrow.Author.Needs.{needs}
@@ -12,32 +14,54 @@ use Rattle.link.proofs.perform.Tie as tie
 abbrev call-of : tie.Start → Arguments
 call-of c = lentCall (c .args .call) (now (c .args .s)) (now (c .args .out)) (now (c .args .up))
 
+-- what the other stores ask of the page is there once its own store is made
+finish-requires : tie.Need-finish-requires
+finish-requires c κs =
+    let r : tie.After-reserve = search in
+    let w : tie.After-plan-call = search in
+    let s : tie.Start = search in
+    let d = now (s .args .rec) in
+    let l : recordSize ≤ length d = search needs in
+    (l, (now-reserved (decode d) (decode-long d l) (now (s .args .page)) (call-of s) (w .plan-call .ensures) (r .reserve .ensures), (now (s .args .page), w .plan-call .ensures)))
+
 returns : tie.Need-returns
 returns c =
-    let s = c .before .before .before .before .before .before .before .before in
+    let s : tie.Start = search in
     let a = s .args in
     let o = too-short (now (a .rec)) (now (a .page)) (call-of s) (c .before .before .if1 .taken) in
     (turned-down o (a .call) (now (a .rec)) (now (a .s)) (now (a .out)) (now (a .up)) (c .refuse .ensures), page-unchanged o)
 
 reserve-requires : tie.Need-reserve-requires
 reserve-requires c κs = λ z.
-    let s = c .before .before .before .before .before .before .before .before .before .before in
+    let s : tie.Start = search in
+    let w : tie.After-plan-call = search in
     let d = now (s .args .rec) in
-    reservable (decode d) (decode-long d (search needs)) (now (s .args .page)) (call-of s) (c .before .plan-call .ensures) z
+    reservable (decode d) (decode-long d (search needs)) (now (s .args .page)) (call-of s) (w .plan-call .ensures) z
 
-finish-requires : tie.Need-finish-requires
-finish-requires c κs =
-    let s = c .before .before .before .before .before .before .before .before .before .before .before .before .before .before .before .before in
-    (search needs, (now (s .args .page), c .before .before .before .before .before .before .before .plan-call .ensures))
+-- what came before
+start-of : tie.After-plan-call → tie.Start
+start-of c = search
+
+left-of : tie.After-plan-call → tie.Else1
+left-of c = search
+
+plan-of : tie.After-reserve → tie.After-plan-call
+plan-of c = search
+
+reserve-of : tie.After-finish → tie.After-reserve
+reserve-of c = search
 
 returns-2 : tie.Need-returns-2
+unfolding start-of left-of plan-of reserve-of
 returns-2 c =
-    let s = c .before .before .before .before .before .before .before .before .before .before .before .before .before .before .before .before .before .before .before .before .before .before .before in
-    let d = now (s .args .rec) in
-    let w = c .before .before .before .before .before .before .before .before .before .before .before .before .before .before .plan-call in
-    let r = c .before .before .before .before .before .before .before .before .before .before .before .before .reserve .ensures in (
-      c .before .before .before .before .before .before .finish .ensures (now (s .args .page)) (w .ensures),
-      reserved d (omega (arith, c .before .before .before .before .before .before .before .before .before .before .before .before .before .before .before .before .before .if1 .left)) (now (s .args .page)) (call-of s) (w .ensures) r,
+    let f : tie.After-finish = search in
+    let r = reserve-of f in
+    let w = plan-of r in
+    let t = left-of w in
+    let s = start-of w in
+    let d = now (s .args .rec) in (
+      f .finish .ensures (now (s .args .page)) (w .plan-call .ensures),
+      reserved d (omega (arith, t .if1 .left)) (now (s .args .page)) (call-of s) (w .plan-call .ensures) (r .reserve .ensures),
     )
 
 pub perform-spec : {M : Type 1} → statement M
