@@ -7,7 +7,7 @@ use mathlib.Core.List.{List, [], _∷_}
 use native.Mathlib.Omega.{arith}
 use borrow.Author.Tests.{eqb-true, eq-eqb}
 use lib.Dec.{eqb}
-use lib.ListN.{length, getD, set, drop, length-append, length-drop}
+use lib.ListN.{length, getD, set, drop, length-append, length-drop, drop-of-length-le}
 use lib.Seq.{getD-set-same}
 use Rattle.octets.specs.Sizes.{longestFrame, longestBlock, heldSize, pageSize}
 use Rattle.octets.specs.Test.{when, Outcome, refused, ok, mapped, andThen, numberOf}
@@ -24,7 +24,7 @@ use Rattle.step_rules.specs.declared.Numbers.{Numbers}
 use Rattle.step_rules.specs.Internal.{holding}
 use Rattle.step_plan.specs.declared.Plan.{Plan}
 use Rattle.step_plan.specs.declared.Places.{Places}
-use Rattle.step_plan.specs.declared.Places.the-variants.{Keep, Join, Release}
+use Rattle.step_plan.specs.declared.Places.the-variants.{Keep, Join, Release, Clear}
 use Rattle.call_spec.specs.Answers.{endpointAfter}
 use Rattle.call_spec.proofs.Sequence.{has-room}
 use Rattle.step_plan.specs.Internal.{queueAfter, heldAfter, Room, HeldRoom, Comes}
@@ -102,6 +102,7 @@ unfolding queueAfter
 stays Keep b q r h = refl
 stays (Join i) b q r h = absurd (omega (arith, length-append q (b ∷ [])))
 stays (Release k) b q r h = let z : k ≡ 0 = omega (arith, length-drop k q) in ap (λ (j : ℕ). drop j q) z
+stays Clear b q r h = sym (drop-of-length-le q {i = 0} (omega arith))
 
 -- so do the held ones where the plan leaves them
 held-stay : (k : Places) (x : Block) (h : List Block) → staying k ≡ true → heldAfter k x h ≡ h
@@ -109,6 +110,7 @@ unfolding staying heldAfter
 held-stay Keep x h t = refl
 held-stay (Join i) x h t = absurd (false≢true t)
 held-stay (Release k) x h t = absurd (false≢true t)
+held-stay Clear x h t = absurd (false≢true t)
 
 -- and where it does not, they do not
 held-stayed : (k : Places) (x : Block) (h : List Block) → length h ≡ heldSize → HeldRoom k x h → heldAfter k x h ≡ h → staying k ≡ true
@@ -118,6 +120,7 @@ held-stayed (Join i) x h l r e =
     let z = r .1 .0 in
     absurd (omega (arith, ap length (sym (getD-set-same h i x [] (omega (arith, r .0, l))) ∙ ap (λ (b : Block). getD (set h i (firstCopy b x)) i []) (sym z) ∙ ap (λ (q : List Block). getD q i []) e ∙ z), r .1 .1 .0))
 held-stayed (Release k) x h l r e = absurd (r .1 e)
+held-stayed Clear x h l r e = absurd (r e)
 
 module _ (rec : List ℕ) (long : recordSize ≤ length rec) (fine : sound (decode rec) ≡ true) where
   abbrev end : Endpoint

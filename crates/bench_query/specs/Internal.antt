@@ -4,7 +4,7 @@ use mathlib.Core.Bool.{Bool, true, false, _&&_}
 use lib.Dec.{eqb}
 use Rattle.octets.specs.Test.{first}
 use Rattle.step_plan.specs.declared.Places.{Places}
-use Rattle.step_plan.specs.declared.Places.the-variants.{Keep, Join, Release}
+use Rattle.step_plan.specs.declared.Places.the-variants.{Keep, Join, Release, Clear}
 use Rattle.step_rules.specs.declared.Numbers.{Numbers}
 use Rattle.bench_spec.specs.Bench.{Bench}
 use Rattle.bench_query.specs.Found.{questions}
@@ -18,6 +18,7 @@ unfoldable pub staying : Places → Bool
 staying Keep = true
 staying (Join i) = false
 staying (Release k) = false
+staying Clear = false
 
 unfoldable pub sameNumbers : Numbers → Numbers → Bool
 sameNumbers n m =

@@ -44,6 +44,7 @@ fn stays(held: Places) -> bool
         Places::Keep => true,
         Places::Join(_) => false,
         Places::Release(_) => false,
+        Places::Clear => false,
     }
 }
 

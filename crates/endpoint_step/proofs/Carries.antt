@@ -32,7 +32,7 @@ use Rattle.call_spec.specs.Calls.{Arguments, given, does, ownQuestions, asked, 
 use Rattle.step_rules.specs.Internal.{holding}
 use Rattle.step_plan.specs.declared.Plan.{Plan}
 use Rattle.step_plan.specs.declared.Places.{Places}
-use Rattle.step_plan.specs.declared.Places.the-variants.{Keep, Join, Release}
+use Rattle.step_plan.specs.declared.Places.the-variants.{Keep, Join, Release, Clear}
 use Rattle.call_spec.specs.Answers.{noticeOf, sentIn, blockOf, blockPart, blockBufferAfter, endpointAfter}
 use Rattle.step_plan.specs.Internal.{blockBy, queueAfter, heldAfter, Reaches, Room, HeldRoom, blockOut, sentBy, Oldest, Comes, Planned, Sends}
 use Rattle.step_plan.specs.Internal.{refusedPlan}
@@ -50,7 +50,7 @@ use Rattle.endpoint_step.specs.Calls.{outcomeOf, stepAnswerOf, Advances}
 use Rattle.endpoint_step.specs.Internal.{joinsQueue, joinsHeld, Plans, PlansAny, Reserved, placesAfter, InEight, Fits, lengthsAfter, blocksAfter, carried, blockFrom, Handy, handedTo, HandsUp}
 use Rattle.endpoint_step.proofs.Numbers.{local-after, receive-local}
 use Rattle.endpoint_step.proofs.Ready.{ready, Passes, passes}
-use Rattle.endpoint_step.proofs.HeldPlaces.{held-lengths-after, held-blocks-after}
+use Rattle.endpoint_step.proofs.HeldPlaces.{zeros-padded, held-lengths-after, held-blocks-after}
 
 -- the oldest block is the one at place 0
 heads : (w : ℕ) (f : ℕ → Block) → Oldest (tab w f) (f 0)
@@ -72,11 +72,13 @@ queue-in-eight : (k : Places) (b : Block) (w : ℕ) → w ≤ queueSize → Room
 queue-in-eight Keep b w h r = tt
 queue-in-eight (Join i) b w h r = omega (arith, r .0, r .1 .0)
 queue-in-eight (Release k) b w h r = omega (arith, r)
+queue-in-eight Clear b w h r = tt
 
 held-in-eight : (k : Places) (x : Block) (h : List Block) → HeldRoom k x h → InEight k
 held-in-eight Keep x h r = tt
 held-in-eight (Join i) x h r = r .0
 held-in-eight (Release k) x h r = r .0
+held-in-eight Clear x h r = tt
 
 module _ (e : Endpoint) (s : sound e ≡ true) (long : Long e) where
   is-tidy : Tidy (e .waiting) (e .lengths) (e .blocks)
@@ -149,16 +151,18 @@ module _ (e : Endpoint) (s : sound e ≡ true) (long : Long e) where
   held-blocks-are = sym (blocks-back (e .«held_lengths») (e .«held_blocks») heldSize is-tidy-held)
 
   after-lengths : (k : Places) (b : Block) → Room k b (length blocks) → lengthsAfter k b (e .lengths) ≡ padded queueSize (lengthsOf (queueAfter k b blocks))
-  unfolding placesAfter queueAfter
+  unfolding placesAfter queueAfter lengthsOf
   after-lengths Keep b r = lengths-are
   after-lengths (Join i) b r = rw mul-one (ap₂ (λ (w : ℕ) (l : List ℕ). put l w (length b ∷ [])) (r .0) lengths-are ∙ lengths-added blocks b (r .1 .0))
   after-lengths (Release k) b r = rw mul-one (ap (λ (l : List ℕ). drop k l ++ replicate k 0) lengths-are ∙ lengths-dropped blocks k short-queue r)
+  after-lengths Clear b r = ap (λ (n : ℕ). replicate n 0) (long .lengths) ∙ zeros-padded queueSize
 
   after-blocks : (k : Places) (b : Block) → Room k b (length blocks) → blocksAfter k b (e .blocks) ≡ padded placesSize (placesOf (queueAfter k b blocks))
-  unfolding placesAfter queueAfter
+  unfolding placesAfter queueAfter placesOf
   after-blocks Keep b r = blocks-are
   after-blocks (Join i) b r = ap₂ (λ (w : ℕ) (l : List ℕ). put l (w * longestBlock) b) (r .0) blocks-are ∙ blocks-added blocks b is-small (r .1 .0) (r .1 .1 .1)
   after-blocks (Release k) b r = ap (λ (l : List ℕ). drop (k * longestBlock) l ++ replicate (k * longestBlock) 0) blocks-are ∙ blocks-dropped blocks k short-queue r is-small
+  after-blocks Clear b r = ap (λ (n : ℕ). replicate n 0) (long .blocks) ∙ zeros-padded placesSize
 
   carried-is : (p : Plan) (b x : Block) → p .numbers .waiting ≡ length (queueAfter (p .queue) b blocks) → Room (p .queue) b (length blocks) → HeldRoom (p .held) x helds
       → carried p b x e ≡ pack (holding (p .numbers) (queueAfter (p .queue) b blocks) (heldAfter (p .held) x helds))

@@ -10,11 +10,11 @@ use Rattle.octets.specs.Sizes.{longestBlock, queueSize, heldSize}
 use Rattle.octets.specs.Octets.{put, padded}
 use Rattle.octets.proofs.Buffers.{length-padded}
 use Rattle.frame.specs.Frame.{Block}
-use Rattle.protocol.specs.Endpoint.{lengthsOf}
+use Rattle.protocol.specs.Endpoint.{noneHeld, lengthsOf}
 use Rattle.protocol.specs.Table.{firstCopy, heldAt}
 use Rattle.protocol.proofs.Sound.{lengths-length}
 use Rattle.step_plan.specs.declared.Places.{Places}
-use Rattle.step_plan.specs.declared.Places.the-variants.{Keep, Join, Release}
+use Rattle.step_plan.specs.declared.Places.the-variants.{Keep, Join, Release, Clear}
 use Rattle.step_plan.specs.Internal.{heldAfter, HeldRoom}
 use Rattle.endpoint.specs.View.{placesSize, placesOf}
 use Rattle.endpoint.proofs.Pad.{padded-padded}
@@ -33,7 +33,7 @@ small-append [] q s = (tt, s)
 small-append (b ∷ p) q s = let r = small-append p q (s .1) in ((s .0, r .0), r .1)
 
 -- places with nothing in them are zeros
-zeros-padded : (n : ℕ) → replicate n 0 ≡ padded n []
+pub zeros-padded : (n : ℕ) → replicate n 0 ≡ padded n []
 unfolding padded
 zeros-padded n = ap (λ (m : ℕ). replicate m 0) (sym (sub-zero n))
 
@@ -64,6 +64,15 @@ module _ (q : List Block) (k : ℕ) (h : length q + k ≤ queueSize) where
       ap (padded placesSize) (places-append q (replicate k []) ∙ ap (λ (l : List ℕ). placesOf q ++ l) (none-places k ∙ zeros-padded (k * longestBlock)))
       ∙ padded-padded placesSize (k * longestBlock) (placesOf q) [] (omega arith) (omega (arith, length-places q s))
       ∙ ap (padded placesSize) (append-nil (placesOf q))
+
+-- places that are written afresh
+none-in-lengths : padded queueSize [] ≡ padded queueSize (lengthsOf noneHeld)
+unfolding padded lengthsOf
+none-in-lengths = refl
+
+none-in-blocks : padded placesSize [] ≡ padded placesSize (placesOf noneHeld)
+unfolding placesOf
+none-in-blocks = sym (blocks-none [] heldSize (omega arith) tt)
 
 -- a block where none was
 module _ (p r : List Block) (x : Block) (i : ℕ) (e : length p ≡ i) (k : length x ≤ longestBlock) where
@@ -122,6 +131,8 @@ module _ (h : List Block) (l8 : length h ≡ heldSize) (s : Small h) where
       ∙ ap (λ (l : List Block). padded queueSize (lengthsOf l)) (after i x (r .0) (r .1 .0)))
   held-lengths-after (Release k) x r =
       rw mul-one (lengths-dropped h k (omega arith) (omega (arith, r .0)) ∙ sym (lengths-none (drop k h) k (omega (arith, length-drop k h, r .0))))
+  held-lengths-after Clear x r =
+      ap (λ (n : ℕ). replicate n 0) (length-padded queueSize (lengthsOf h) (omega (arith, lengths-length h))) ∙ zeros-padded queueSize ∙ none-in-lengths
 
   pub held-blocks-after : (k : Places) (x : Block) → HeldRoom k x h → blocksAfter k x (padded placesSize (placesOf h)) ≡ padded placesSize (placesOf (heldAfter k x h))
   unfolding placesAfter heldAfter
@@ -133,3 +144,5 @@ module _ (h : List Block) (l8 : length h ≡ heldSize) (s : Small h) where
       ∙ ap (λ (l : List Block). padded placesSize (placesOf l)) (after i x (r .0) (r .1 .0))
   held-blocks-after (Release k) x r =
       blocks-dropped h k (omega arith) (omega (arith, r .0)) s ∙ sym (blocks-none (drop k h) k (omega (arith, length-drop k h, r .0)) (left-small k))
+  held-blocks-after Clear x r =
+      ap (λ (n : ℕ). replicate n 0) (length-padded placesSize (placesOf h) (omega (arith, length-places h s))) ∙ zeros-padded placesSize ∙ none-in-blocks

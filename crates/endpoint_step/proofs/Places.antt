@@ -12,7 +12,7 @@ use Rattle.octets.specs.Sizes.{longestBlock, queueSize}
 use Rattle.octets.specs.Octets.{put}
 use Rattle.frame.specs.Frame.{Block}
 use Rattle.step_plan.specs.declared.Places.{Places}
-use Rattle.step_plan.specs.declared.Places.the-variants.{Keep, Join, Release}
+use Rattle.step_plan.specs.declared.Places.the-variants.{Keep, Join, Release, Clear}
 use Rattle.endpoint.specs.View.{placesSize}
 use Rattle.endpoint_step.specs.Internal.{followed, placesAfter, PlaceFor, InEight}
 
@@ -95,6 +95,7 @@ unfolding placesAfter
 length-after Keep width s d h = refl
 length-after (Join i) width s d h = length-put d s (i * width) h
 length-after (Release k) width s d h = omega (arith, length-append (drop (k * width) d) (replicate (k * width) 0), length-drop (k * width) d, length-replicate {A = ℕ} (k * width) 0, mul-le-mul-right width (h .0), h .1 .1)
+length-after Clear width s d h = length-replicate (length d) 0
 
 -- eight places of lengths and of blocks have room for what a plan does
 module _ (b : Block) (short : length b ≤ longestBlock) where
@@ -102,8 +103,10 @@ module _ (b : Block) (short : length b ≤ longestBlock) where
   for-lengths Keep r d e = tt
   for-lengths (Join i) r d e = omega (arith, r)
   for-lengths (Release k) r d e = omega (arith, r)
+  for-lengths Clear r d e = tt
 
   pub for-blocks : (k : Places) → InEight k → (d : List ℕ) → length d ≡ placesSize → PlaceFor k longestBlock b d
   for-blocks Keep r d e = tt
   for-blocks (Join i) r d e = omega (arith, r)
   for-blocks (Release k) r d e = omega (arith, r)
+  for-blocks Clear r d e = tt

@@ -14,7 +14,7 @@ use Rattle.call_spec.specs.declared.Call.the-variants.{Request, Receive}
 use Rattle.call_spec.specs.Calls.{Arguments, Rooms, given, blockRoomOk}
 use Rattle.step_plan.specs.declared.Plan.{Plan}
 use Rattle.step_plan.specs.declared.Places.{Places}
-use Rattle.step_plan.specs.declared.Places.the-variants.{Keep, Join, Release}
+use Rattle.step_plan.specs.declared.Places.the-variants.{Keep, Join, Release, Clear}
 use Rattle.step_plan.specs.Internal.{joinedBy, Comes}
 use Rattle.endpoint.specs.declared.Endpoint.{Endpoint}
 use Rattle.endpoint.specs.View.{placeBlock, view}
@@ -48,23 +48,27 @@ Reserved p page = p .number ≡ 0 → p .numbers .local ≤ numbersEach * count 
 abbrev pub followed : ℕ → List ℕ → List ℕ
 followed width d = d ++ replicate (queueSize * width) 0
 
--- Places of so many octets after a plan: s joins at its place; where some leave, the others move to the front and zeros follow.
+-- Places of so many octets after a plan: s joins at its place; where some leave, the others move to the front and zeros follow; written afresh
+-- all are zeros.
 unfoldable pub placesAfter : Places → ℕ → List ℕ → List ℕ → List ℕ
 placesAfter Keep width s d = d
 placesAfter (Join i) width s d = put d (i * width) s
 placesAfter (Release k) width s d = drop (k * width) d ++ replicate (k * width) 0
+placesAfter Clear width s d = replicate (length d) 0
 
 -- they have room for it
 abbrev pub PlaceFor : Places → ℕ → List ℕ → List ℕ → Type 0
 PlaceFor Keep width s d = Unit {0}
 PlaceFor (Join i) width s d = i * width + length s ≤ length d
 PlaceFor (Release k) width s d = (k ≤ queueSize) × ((width ≤ longestBlock) × (length d ≡ queueSize * width))
+PlaceFor Clear width s d = Unit {0}
 
 -- there are eight of them
 abbrev pub InEight : Places → Type 0
 InEight Keep = Unit {0}
 InEight (Join i) = i < queueSize
 InEight (Release k) = k ≤ queueSize
+InEight Clear = Unit {0}
 
 -- both kinds of places have room for what joins them
 abbrev pub Fits : Plan → Block → Block → Type 0

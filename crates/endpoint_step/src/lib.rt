@@ -125,6 +125,17 @@ fn drop_front(gone: usize, width: usize, d: &mut [u8])
     }
 }
 
+// All of d is written afresh, as zeros.
+fn clear(d: &mut [u8])
+    ensures { λ _. ⌜ now (d .exit) ≡ replicate (length (now (d .entry))) 0 ⌝ }
+{
+    let mut i = 0;
+    while i < d.len() {
+        d[i] = 0;
+        i += 1;
+    }
+}
+
 // What a plan makes of places of so many octets, of blocks or of their lengths; s joins.
 pub fn change_places(places: Places, width: usize, s: &[u8], d: &mut [u8])
     requires { ⌜ PlaceFor places width (now s) (now d) ⌝ }
@@ -134,6 +145,7 @@ pub fn change_places(places: Places, width: usize, s: &[u8], d: &mut [u8])
         Places::Keep => {}
         Places::Join(i) => octets::copy(d, i * width, s),
         Places::Release(gone) => drop_front(gone, width, d),
+        Places::Clear => clear(d),
     }
 }
 
@@ -171,6 +183,35 @@ pub fn hand_up<'a>(
     }
 }
 
+// What a plan makes of the arrays of a record by value, of lengths and of blocks: those of an end that leaves open are new ones.
+fn lengths_after(places: Places, s: &[u8], d: [u8; octets::QUEUE_SIZE]) -> [u8; octets::QUEUE_SIZE]
+    requires { ⌜ PlaceFor places 1 (now s) d ⌝ }
+    ensures { λ r. ⌜ r ≡ placesAfter places 1 (now (s .entry)) d ⌝ }
+{
+    if let Places::Clear = places {
+        return [0; octets::QUEUE_SIZE];
+    }
+    let mut lengths = d;
+    change_places(places, 1, s, &mut lengths);
+    lengths
+}
+
+fn blocks_after(
+    places: Places,
+    s: &[u8],
+    d: [u8; endpoint::PLACES_SIZE],
+) -> [u8; endpoint::PLACES_SIZE]
+    requires { ⌜ PlaceFor places longestBlock (now s) d ⌝ }
+    ensures { λ r. ⌜ r ≡ placesAfter places longestBlock (now (s .entry)) d ⌝ }
+{
+    if let Places::Clear = places {
+        return [0; endpoint::PLACES_SIZE];
+    }
+    let mut blocks = d;
+    change_places(places, Endpoint::LONGEST_BLOCK, s, &mut blocks);
+    blocks
+}
+
 // The record after the plan: joined is the block that joins those that wait, early the one that joins those held.
 fn carry_out<'a>(e: Endpoint, p: Plan, joined: &'a [u8], early: &'a [u8]) -> Endpoint
     requires { ⌜ Fits p (now joined) (now early) ⌝ }
@@ -178,16 +219,16 @@ fn carry_out<'a>(e: Endpoint, p: Plan, joined: &'a [u8], early: &'a [u8]) -> End
 {
     let queue = p.queue;
     let count = [joined.len() as u8];
-    let mut lengths = e.lengths;
-    change_places(queue, 1, &count, &mut lengths);
-    let mut blocks = e.blocks;
-    change_places(queue, Endpoint::LONGEST_BLOCK, joined, &mut blocks);
+    let lengths_before = e.lengths;
+    let lengths = lengths_after(queue, &count, lengths_before);
+    let blocks_before = e.blocks;
+    let blocks = blocks_after(queue, joined, blocks_before);
     let held = p.held;
     let early_count = [early.len() as u8];
-    let mut held_lengths = e.held_lengths;
-    change_places(held, 1, &early_count, &mut held_lengths);
-    let mut held_blocks = e.held_blocks;
-    change_places(held, Endpoint::LONGEST_BLOCK, early, &mut held_blocks);
+    let held_lengths_before = e.held_lengths;
+    let held_lengths = lengths_after(held, &early_count, held_lengths_before);
+    let held_blocks_before = e.held_blocks;
+    let held_blocks = blocks_after(held, early, held_blocks_before);
     let n = p.numbers;
     Endpoint {
         state: n.state,

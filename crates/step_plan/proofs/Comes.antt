@@ -11,7 +11,7 @@ use lib.ListN.{length, drop, getD, replicate, length-drop, drop-of-length-le, Li
 use Rattle.frame.specs.Layout.{sendBlockAt, dataBlockAt}
 use Rattle.octets.specs.Test.{zeros, Outcome, refused, ok, numberOf}
 use Rattle.octets.specs.Sizes.{longestBlock, heldSize}
-use Rattle.octets.proofs.Test.{both, split}
+use Rattle.octets.proofs.Test.{both, split, if-eq}
 use Rattle.octets.proofs.Each.{zeros-of}
 use Rattle.frame.specs.Frame.{Block}
 use Rattle.frame.specs.declared.Header.the-variants.{Ack}
@@ -27,10 +27,10 @@ use Rattle.step_plan.specs.declared.Reply.{Reply}
 use Rattle.step_plan.specs.declared.Reply.the-variants.{Frame}
 use Rattle.step_plan.specs.declared.Plan.{Plan}
 use Rattle.step_plan.specs.declared.Places.{Places}
-use Rattle.step_plan.specs.declared.Places.the-variants.{Keep, Join, Release}
+use Rattle.step_plan.specs.declared.Places.the-variants.{Keep, Join, Release, Clear}
 use Rattle.call_spec.specs.Answers.{noticeOf, sentIn, endpointAfter}
 use Rattle.step_plan.specs.Internal.{joinedBy, Reaches, queueAfter, heldAfter, Room, HeldRoom, blockOut, sentBy, Comes}
-use Rattle.step_plan.specs.Internal.{refusedPlan, keeping, leaving, deliveringNumbers, handing, turning, beginning, holdingPlan, releasingPlan}
+use Rattle.step_plan.specs.Internal.{refusedPlan, keeping, leaving, clearing, emptying, deliveringNumbers, handing, turning, beginning, holdingPlan, releasingPlan}
 
 -- an accepted call
 abbrev pub answers : Endpoint → Notice → Reply → Block → Outcome Step
@@ -67,8 +67,11 @@ module _ (z : List ℕ) (h : List Block) (lz : lengthsOf h ≡ z) (l8 : length z
   unfolding movedDown
   moved-by x = left-by 1 x refl
 
-  pub cleared-by : (x : Block) → heldAfter (leaving z heldSize) x h ≡ noneHeld
-  cleared-by x = left-by heldSize x refl ∙ ap (λ (l : List Block). l ++ noneHeld) (drop-of-length-le h {i = heldSize} (omega (arith, eight)))
+  -- all are written afresh, as far as any is held
+  pub cleared-by : (x : Block) → heldAfter (clearing z) x h ≡ noneHeld
+  unfolding clearing heldAfter
+  cleared-by x =
+      split (λ (p : Places). heldAfter p x h ≡ noneHeld) (zeros z) (λ t. none-in h (ap zeros lz ∙ t) ∙ ap (λ (m : ℕ). replicate m []) eight) (λ _. refl)
 
   -- what moves down and stays as it was, or leaves and was not there, is nothing
   none-moved : drop 1 h ++ replicate 1 [] ≡ h → (i j : ℕ) → heldSize ≤ i + j → getD h i [] ≡ []
@@ -82,10 +85,8 @@ module _ (z : List ℕ) (h : List Block) (lz : lengthsOf h ≡ z) (l8 : length z
   still-held : zeros z ≡ false → drop 1 h ++ replicate 1 [] ≢ h
   still-held n e = false≢true (sym n ∙ none-held (λ i. none-moved e i heldSize (omega arith)))
 
-  gone-held : zeros z ≡ false → drop heldSize h ++ replicate heldSize [] ≢ h
-  gone-held n e =
-      let k = ap (λ (l : List Block). l ++ noneHeld) (sym (drop-of-length-le h {i = heldSize} (omega (arith, eight)))) ∙ e in
-      false≢true (sym n ∙ none-held (λ i. ap (λ (l : List Block). getD l i []) (sym k) ∙ none-at i))
+  cleared-held : zeros z ≡ false → noneHeld ≢ h
+  cleared-held n e = false≢true (sym n ∙ none-held (λ i. ap (λ (l : List Block). getD l i []) (sym e) ∙ none-at i))
 
   room-by : (k : ℕ) (x : Block) → k ≤ heldSize → (zeros z ≡ false → drop k h ++ replicate k [] ≢ h) → HeldRoom (leaving z k) x h
   unfolding leaving
@@ -94,8 +95,24 @@ module _ (z : List ℕ) (h : List Block) (lz : lengthsOf h ≡ z) (l8 : length z
   pub room-moved : (x : Block) → HeldRoom (leaving z 1) x h
   room-moved x = room-by 1 x (omega arith) still-held
 
-  pub room-cleared : (x : Block) → HeldRoom (leaving z heldSize) x h
-  room-cleared x = room-by heldSize x (omega arith) gone-held
+  pub room-cleared : (x : Block) → HeldRoom (clearing z) x h
+  unfolding clearing
+  room-cleared x = split (λ (p : Places). HeldRoom p x h) (zeros z) (λ _. tt) cleared-held
+
+-- so are the places of the waiting blocks
+module _ (n : Numbers) (q : List Block) (b old : Block) (w : length q ≡ n .waiting) where
+  emptied : queueAfter (emptying (n .waiting)) b q ≡ []
+  unfolding emptying queueAfter
+  emptied =
+      if-eq (λ (p : Places). queueAfter p b q ≡ []) (n .waiting) 0 (λ e. ap (λ (k : ℕ). drop k q) (sym e) ∙ none-left n q w) (λ _. refl)
+
+  room-emptied : Room (emptying (n .waiting)) b (length q)
+  unfolding emptying
+  room-emptied = if-eq (λ (p : Places). Room p b (length q)) (n .waiting) 0 (λ _. tt) (λ _. tt)
+
+  out-emptied : blockOut (emptying (n .waiting)) b old ≡ old
+  unfolding emptying
+  out-emptied = if-eq (λ (p : Places). blockOut p b old ≡ old) (n .waiting) 0 (λ _. refl) (λ _. refl)
 
 module _ (n : Numbers) (q h : List Block) (b x old : Block) (w : length q ≡ n .waiting) {o : Outcome Step} {p : Plan} where
   pub refuses : (k : ℕ) → o ≡ refused k → p ≡ refusedPlan n k → Comes n q h b x old o p
@@ -138,11 +155,11 @@ module _ (n : Numbers) (q h : List Block) (b x old : Block) (w : length q ≡ n 
         (record {
           number = refl;
           notice = refl;
-          endpoint = λ j. record { state = st; local = n .local; remote = d; accepted = 0; delivered = 0; queue = none-left n q w j; held = cleared-by z h lz l8 x j };
-          counted = sym (ap length (none-left n q w));
-          room = omega arith;
+          endpoint = λ j. record { state = st; local = n .local; remote = d; accepted = 0; delivered = 0; queue = emptied n q b old w j; held = cleared-by z h lz l8 x j };
+          counted = sym (ap length (emptied n q b old w));
+          room = room-emptied n q b old w;
           place = room-cleared z h lz l8 x;
-          sent = refl;
+          sent = ap (sentBy r) (out-emptied n q b old w);
         })
 
     pub begins : (st : ℕ) (r : Reply) → o ≡ answers (begun st (holding n q h)) none r old → p ≡ beginning n z st r → Comes n q h b x old o p
@@ -152,11 +169,11 @@ module _ (n : Numbers) (q h : List Block) (b x old : Block) (w : length q ≡ n 
         (record {
           number = refl;
           notice = refl;
-          endpoint = λ j. record { state = st; local = n .local + 1; remote = 0; accepted = 0; delivered = 0; queue = none-left n q w j; held = cleared-by z h lz l8 x j };
-          counted = sym (ap length (none-left n q w));
-          room = omega arith;
+          endpoint = λ j. record { state = st; local = n .local + 1; remote = 0; accepted = 0; delivered = 0; queue = emptied n q b old w j; held = cleared-by z h lz l8 x j };
+          counted = sym (ap length (emptied n q b old w));
+          room = room-emptied n q b old w;
           place = room-cleared z h lz l8 x;
-          sent = refl;
+          sent = ap (sentBy r) (out-emptied n q b old w);
         })
 
   pub releases : (m : ℕ) → n .waiting ≤ n .accepted → m ≤ n .accepted → o ≡ ok (quiet (table.releasing m (holding n q h)) none)
@@ -182,30 +199,35 @@ module _ (at : ℕ) (s : List ℕ) where
   queue-joined Keep q = refl
   queue-joined (Join i) q = refl
   queue-joined (Release k) q = refl
+  queue-joined Clear q = refl
 
   held-joined : (k : Places) (h : List Block) → heldAfter k (drop at s) h ≡ heldAfter k (joinedBy k at s) h
   unfolding heldAfter joinedBy
   held-joined Keep h = refl
   held-joined (Join i) h = refl
   held-joined (Release k) h = refl
+  held-joined Clear h = refl
 
   out-joined : (k : Places) (old : Block) → blockOut k (drop at s) old ≡ blockOut k (joinedBy k at s) old
   unfolding joinedBy
   out-joined Keep old = refl
   out-joined (Join i) old = refl
   out-joined (Release k) old = refl
+  out-joined Clear old = refl
 
   room-joined : (k : Places) (w : ℕ) → Room k (drop at s) w → Room k (joinedBy k at s) w
   unfolding joinedBy
   room-joined Keep w r = r
   room-joined (Join i) w r = r
   room-joined (Release k) w r = r
+  room-joined Clear w r = r
 
   place-joined : (k : Places) (h : List Block) → HeldRoom k (drop at s) h → HeldRoom k (joinedBy k at s) h
   unfolding joinedBy
   place-joined Keep h r = r
   place-joined (Join i) h r = r
   place-joined (Release k) h r = r
+  place-joined Clear h r = r
 
   long : 1 ≤ length (drop at s) → at ≤ length s
   long h = omega (arith, length-drop at s)
@@ -215,24 +237,28 @@ module _ (at : ℕ) (s : List ℕ) where
   queue-reaches Keep w r = tt
   queue-reaches (Join i) w r = long (r .1 .1 .0)
   queue-reaches (Release k) w r = tt
+  queue-reaches Clear w r = tt
 
   pub held-reaches : (k : Places) (h : List Block) → HeldRoom k (joinedBy k at s) h → Reaches k at s
   unfolding joinedBy
   held-reaches Keep h r = tt
   held-reaches (Join i) h r = long (r .1 .1 .0)
   held-reaches (Release k) h r = tt
+  held-reaches Clear h r = tt
 
   pub queue-short : (k : Places) (w : ℕ) → Room k (joinedBy k at s) w → length (joinedBy k at s) ≤ longestBlock
   unfolding joinedBy
   queue-short Keep w r = omega arith
   queue-short (Join i) w r = r .1 .1 .1
   queue-short (Release k) w r = omega arith
+  queue-short Clear w r = omega arith
 
   pub held-short : (k : Places) (h : List Block) → HeldRoom k (joinedBy k at s) h → length (joinedBy k at s) ≤ longestBlock
   unfolding joinedBy
   held-short Keep h r = omega arith
   held-short (Join i) h r = r .1 .1 .1
   held-short (Release k) h r = omega arith
+  held-short Clear h r = omega arith
 
 pub by-joined : {n : Numbers} {q h : List Block} (s : List ℕ) {old : Block} {o : Outcome Step} {p : Plan}
     → Comes n q h (drop sendBlockAt s) (drop dataBlockAt s) old o p

@@ -11,14 +11,14 @@ use Rattle.octets.specs.Octets.{put}
 use Rattle.frame.specs.Frame.{Block}
 use Rattle.frame.specs.declared.Header.the-variants.{Ack}
 use Rattle.frame.specs.Answer.{frameOf}
-use Rattle.protocol.specs.Endpoint.{Endpoint, lengthsOf}
+use Rattle.protocol.specs.Endpoint.{Endpoint, noneHeld, lengthsOf}
 use Rattle.protocol.specs.Table.{Sent, nothing, frame, Step, heldAt}
 use Rattle.call_spec.specs.Calls.{wire}
 use Rattle.call_spec.specs.Answers.{noticeOf, sentIn, endpointAfter}
 use Rattle.step_rules.specs.declared.Numbers.{Numbers}
 use Rattle.step_rules.specs.Internal.{holding}
 use Rattle.step_plan.specs.declared.Places.{Places}
-use Rattle.step_plan.specs.declared.Places.the-variants.{Keep, Join, Release}
+use Rattle.step_plan.specs.declared.Places.the-variants.{Keep, Join, Release, Clear}
 use Rattle.step_plan.specs.declared.Reply.{Reply}
 use Rattle.step_plan.specs.declared.Reply.the-variants as reply
 use Rattle.step_plan.specs.declared.Plan.{Plan}
@@ -33,42 +33,49 @@ unfoldable pub joinedBy : Places → ℕ → List ℕ → Block
 joinedBy Keep at s = []
 joinedBy (Join i) at s = drop at s
 joinedBy (Release k) at s = []
+joinedBy Clear at s = []
 
 -- s is that long
 abbrev pub Reaches : Places → ℕ → List ℕ → Type 0
 Reaches Keep at s = Unit {0}
 Reaches (Join i) at s = at ≤ length s
 Reaches (Release k) at s = Unit {0}
+Reaches Clear at s = Unit {0}
 
 -- the waiting blocks q after the plan; b is the block that joins
 unfoldable pub queueAfter : Places → Block → List Block → List Block
 queueAfter Keep b q = q
 queueAfter (Join i) b q = q ++ (b ∷ [])
 queueAfter (Release k) b q = drop k q
+queueAfter Clear b q = []
 
 -- where b joins w blocks there is a place for it, the next one, and no more leave than wait
 abbrev pub Room : Places → Block → ℕ → Type 0
 Room Keep b w = Unit {0}
 Room (Join i) b w = (i ≡ w) × ((w < queueSize) × ((1 ≤ length b) × (length b ≤ longestBlock)))
 Room (Release k) b w = k ≤ w
+Room Clear b w = Unit {0}
 
 -- the held blocks h in their eight places after the plan; x is the block that joins
 unfoldable pub heldAfter : Places → Block → List Block → List Block
 heldAfter Keep x h = h
 heldAfter (Join i) x h = heldAt i x h
 heldAfter (Release k) x h = drop k h ++ replicate k []
+heldAfter Clear x h = noneHeld
 
 -- where x joins, none is held at its place; where some leave, they are no more than there are places, and something changes
 abbrev pub HeldRoom : Places → Block → List Block → Type 0
 HeldRoom Keep x h = Unit {0}
 HeldRoom (Join i) x h = (i < heldSize) × ((getD h i [] ≡ []) × ((1 ≤ length x) × (length x ≤ longestBlock)))
 HeldRoom (Release k) x h = (k ≤ heldSize) × (drop k h ++ replicate k [] ≢ h)
+HeldRoom Clear x h = noneHeld ≢ h
 
 -- the block that goes out with a DATA: the one that joins, else the oldest
 abbrev pub blockOut : Places → Block → Block → Block
 blockOut Keep b old = old
 blockOut (Join i) b old = b
 blockOut (Release k) b old = old
+blockOut Clear b old = old
 
 unfoldable pub sentBy : Reply → Block → Sent
 sentBy reply.Nothing b = nothing
@@ -114,6 +121,13 @@ keeping n noticeNumber reply = record { number = 0; numbers = n; queue = Keep; h
 unfoldable pub leaving : List ℕ → ℕ → Places
 leaving z k = when (zeros z) Keep (Release k)
 
+-- every held place, of these lengths, is written afresh, and every place of w waiting blocks; where there is none, they stay
+unfoldable pub clearing : List ℕ → Places
+clearing z = when (zeros z) Keep Clear
+
+unfoldable pub emptying : ℕ → Places
+emptying w = ifEq w 0 Keep Clear
+
 -- one block more is handed up, and the held places move down
 abbrev pub deliveringNumbers : Numbers → Numbers
 deliveringNumbers n =
@@ -136,8 +150,8 @@ turning n z st d noticeNumber reply =
     record {
       number = 0;
       numbers = record { state = st; local = n .local; remote = d; accepted = 0; delivered = 0; waiting = 0 };
-      queue = Release (n .waiting);
-      held = leaving z heldSize;
+      queue = emptying (n .waiting);
+      held = clearing z;
       notice = noticeNumber;
       reply = reply;
     }
@@ -147,8 +161,8 @@ beginning n z st reply =
     record {
       number = 0;
       numbers = record { state = st; local = n .local + 1; remote = 0; accepted = 0; delivered = 0; waiting = 0 };
-      queue = Release (n .waiting);
-      held = leaving z heldSize;
+      queue = emptying (n .waiting);
+      held = clearing z;
       notice = 0;
       reply = reply;
     }

@@ -9,7 +9,7 @@ ghost use Rattle.octets.specs.Sizes.{longestFrame, longestBlock, lastNumber};
 ghost use Rattle.frame.specs.Layout.{dataBlockAt};
 ghost use Rattle.call_spec.specs.Answers.{blockPart};
 ghost use Rattle.step_plan.specs.Internal.{blockBy, joinedBy, Reaches, blockOut, sentBy, Sends};
-ghost use Rattle.step_plan.specs.Internal.{refusedPlan, keeping, leaving, handing, turning};
+ghost use Rattle.step_plan.specs.Internal.{refusedPlan, keeping, leaving, clearing, emptying, handing, turning};
 
 // The number of an answer that refuses nothing.
 pub const ACCEPTED: u8 = 0;
@@ -27,11 +27,13 @@ pub const CLOSE_FINISHED: u8 = 4;
 
 pub const HANDED_UP: u8 = 5;
 
-// What becomes of places for blocks: they stay; a block joins at this place; so many of the first leave, and the others move down.
+// What becomes of places for blocks: they stay; a block joins at this place; so many of the first leave, and the others move down; all are
+// written afresh.
 pub enum Places {
     Keep,
     Join(usize),
     Release(usize),
+    Clear,
 }
 
 // What is sent. A DATA carries the block that joins, or, where none does, the oldest that waits.
@@ -89,6 +91,26 @@ pub fn leave(held: &[u8], gone: usize) -> Places
     Places::Release(gone)
 }
 
+// Every held place is written afresh, of those whose lengths these are, and every place of so many waiting blocks. Where there is no block,
+// nothing need be.
+pub fn clear_held(held: &[u8]) -> Places
+    ensures { λ r. ⌜ r ≡ clearing (now (held .entry)) ⌝ }
+{
+    if octets::is_clear(held) {
+        return Places::Keep;
+    }
+    Places::Clear
+}
+
+pub fn clear_queue(waiting: u8) -> Places
+    ensures { λ r. ⌜ r ≡ emptying waiting ⌝ }
+{
+    if waiting == 0 {
+        return Places::Keep;
+    }
+    Places::Clear
+}
+
 // One block more is handed up, the frame's or the held one: e + 1, and the held places, whose lengths these are, move down.
 pub fn hand_up(n: Numbers, held: &[u8]) -> Plan
     requires { ⌜ n .delivered < lastNumber ⌝ }
@@ -130,8 +152,8 @@ pub fn turn(n: Numbers, held: &[u8], state: u8, remote: u32, notice: u8, reply: 
             delivered: 0,
             waiting: 0,
         },
-        queue: Places::Release(n.waiting as usize),
-        held: leave(held, octets::HELD_SIZE),
+        queue: clear_queue(n.waiting),
+        held: clear_held(held),
         notice,
         reply,
     }
@@ -157,6 +179,7 @@ pub fn joined<'a>(places: Places, at: usize, s: &'a [u8]) -> &'a [u8]
         Places::Keep => &s[..0],
         Places::Join(_) => &s[at..],
         Places::Release(_) => &s[..0],
+        Places::Clear => &s[..0],
     }
 }
 
@@ -171,6 +194,7 @@ pub fn send_reply(p: Plan, joined: &[u8], oldest: &[u8], out: &mut [u8]) -> usiz
         Places::Keep => write(reply, oldest, out),
         Places::Join(_) => write(reply, joined, out),
         Places::Release(_) => write(reply, oldest, out),
+        Places::Clear => write(reply, oldest, out),
     }
 }
 

@@ -67,8 +67,8 @@ fn begin(n: Numbers, held: &[u8], state: u8, reply: Reply) -> Plan
             delivered: 0,
             waiting: 0,
         },
-        queue: Places::Release(n.waiting as usize),
-        held: step_plan::leave(held, octets::HELD_SIZE),
+        queue: step_plan::clear_queue(n.waiting),
+        held: step_plan::clear_held(held),
         notice: NONE,
         reply,
     }

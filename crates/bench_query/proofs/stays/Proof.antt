@@ -8,5 +8,5 @@ pub stays-spec : {M : Type 1} → statement M
 unfolding staying
 stays-spec =
     tie.close
-    (tie.spec (λ c. search needs) (λ c. search needs) (λ c. search needs) (λ c. rw (c .enum-told .given .1) refl) (λ c. rw (c .enum-told2 .given .1) refl)
-    (λ c. rw (c .enum-told3 .given .1) refl))
+    (tie.spec (λ c. search needs) (λ c. search needs) (λ c. search needs) (λ c. search needs) (λ c. rw (c .enum-told .given .1) refl) (λ c. rw (c .enum-told2 .given .1) refl)
+    (λ c. rw (c .enum-told3 .given .1) refl) (λ c. rw (c .enum-told4 .given .1) refl))

@@ -38,8 +38,12 @@ returns-3 : tie.Need-returns-3
 unfolding placesAfter
 returns-3 c = rw (c .before .before .before .before .before .places2 .given .1) (c .before .before .drop-front .ensures)
 
+returns-4 : tie.Need-returns-4
+unfolding placesAfter
+returns-4 c = rw (c .before .before .before .before .enum-told2 .given .1) (c .before .before .clear .ensures)
+
 pub change-places-spec : {M : Type 1} → statement M
 change-places-spec =
     tie.close
-    (tie.spec (λ c. search needs) (λ c. search needs) mul-copy copy-requires (λ c. search needs) drop-front-requires returns (λ c. search needs)
-    returns-2 (λ c. search needs) returns-3)
+    (tie.spec (λ c. search needs) (λ c. search needs) mul-copy copy-requires (λ c. search needs) drop-front-requires (λ c. search needs) (λ c κs. search needs)
+    returns (λ c. search needs) returns-2 (λ c. search needs) returns-3 (λ c. search needs) returns-4)

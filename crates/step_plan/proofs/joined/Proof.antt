@@ -31,8 +31,12 @@ returns-3 : tie.Need-returns-3
 unfolding joinedBy
 returns-3 c = rw (c .before .enum-told3 .given .1) refl
 
+returns-4 : tie.Need-returns-4
+unfolding joinedBy
+returns-4 c = rw (c .before .enum-told4 .given .1) refl
+
 pub joined-spec : {M : Type 1} → statement M
 joined-spec =
     tie.close
     (tie.spec (λ c. search needs) (λ c. search needs) (λ c. search needs) sub-result part-result-start (λ c. search needs) (λ c. search needs)
-    (λ c. search needs) returns returns-2 returns-3)
+    (λ c. search needs) (λ c. search needs) (λ c. search needs) returns returns-2 returns-3 returns-4)
