@@ -11,16 +11,15 @@ use lib.ListN.{length, getD, drop, replicate}
 use lib.Seq.{take-all, take-at}
 use Rattle.frame.specs.Layout.{sendBlockAt, dataBlockAt}
 use Rattle.octets.specs.Sizes.{longestFrame, longestBlock, queueSize, heldSize, lastNumber, pageSize, numbersEach, lastIncarnation}
-use Rattle.octets.specs.Test.{ifEq, first, Outcome, refused, ok, mapped, numberOf}
+use Rattle.octets.specs.Test.{first, Outcome, refused, ok, mapped, numberOf}
 use Rattle.octets.specs.Octets.{put, left, padded}
-use Rattle.octets.proofs.Test.{by-eq, eq-yes, passing}
+use Rattle.octets.proofs.Test.{by-eq, eq-yes, eq-no, passing}
 use Rattle.octets.proofs.Octets.{put-none}
 use Rattle.octets.proofs.Outcomes.{is-refused}
 use Rattle.frame.specs.Frame.{Block}
 use Rattle.page.specs.Page.{runs, reserving}
 use Rattle.page.specs.Page as pages
 use Rattle.page.proofs.Laws.{goes-so, goes-last, stays}
-use Rattle.page.proofs.Laws as laws
 use Rattle.protocol.specs.Endpoint as abstract
 use Rattle.protocol.specs.Endpoint.{lengthsOf}
 use Rattle.protocol.specs.Table.{Step}
@@ -47,7 +46,7 @@ use Rattle.endpoint.proofs.Packs.{Long, Tidy, Small, small, count, length-tab, 
 use Rattle.endpoint.proofs.Sounds.{by-lt, tidy, tidy-held, lengths-held, facts}
 use Rattle.endpoint_step.specs.declared.StepAnswer.{StepAnswer}
 use Rattle.endpoint_step.specs.Calls.{outcomeOf, stepAnswerOf, Advances}
-use Rattle.endpoint_step.specs.Internal.{joinsQueue, joinsHeld, Plans, PlansAny, Reserved, placesAfter, InEight, Fits, lengthsAfter, blocksAfter, carried, blockFrom, Handy, handedTo, HandsUp}
+use Rattle.endpoint_step.specs.Internal.{joinsQueue, joinsHeld, Plans, PlansAny, numberLeft, Reserved, placesAfter, InEight, Fits, lengthsAfter, blocksAfter, carried, blockFrom, Handy, handedTo, HandsUp}
 use Rattle.endpoint_step.proofs.Numbers.{local-after, receive-local}
 use Rattle.endpoint_step.proofs.Ready.{ready, Passes, passes}
 use Rattle.endpoint_step.proofs.HeldPlaces.{zeros-padded, held-lengths-after, held-blocks-after}
@@ -267,6 +266,19 @@ source-received : (c : Call) (s : List ℕ) (e : Endpoint) → c ≡ call.Receiv
 unfolding up.source
 source-received c s e h = rw h refl
 
+-- the number that a plan leaves
+pub is-left : (p : Plan) → p .number ≡ 0 → numberLeft p ≡ p .numbers .local
+unfolding numberLeft
+is-left p z = eq-yes _ _ _ _ z
+
+pub asks-reserved : {A : Type 0} (p : Plan) (page : List ℕ) → p .numbers .local ≤ numbersEach * pages.count page → (p .number ≡ 0) × A
+    → (p .number ≡ 0) × (Reserved p page × A)
+asks-reserved p page h a = (a .0, (omega (arith, is-left p (a .0)), a .1))
+
+pub none-left : (p : Plan) → p .number ≢ 0 → numberLeft p ≡ 0
+unfolding numberLeft
+none-left p n = eq-no _ _ _ _ n
+
 module _ (e : Endpoint) (long : Long e) (page : List ℕ) (c : Arguments) {p : Plan} (w : Plans e page c p) where
   abbrev o : Outcome Step
   o = outcomeOf e page c
@@ -319,16 +331,10 @@ module _ (e : Endpoint) (long : Long e) (page : List ℕ) (c : Arguments) {p : P
         let g = goes-so (e .local) page (passed .goes) in
         h ∙ ap (λ (n : ℕ). reserving n page) local-is ∙ page-is (view e) page o (omega arith)
 
-    -- and reserves it
-    pub reserved-by : {page′ : List ℕ} → page′ ≡ reserving (p .numbers .local) page → p .numbers .local ≤ numbersEach * pages.count page′
-    reserved-by h =
-        let r = reservable in
-        omega (arith, ap pages.count h, laws.reserved (p .numbers .local) page (r .0 .0) (r .0 .1) (r .1 .0) (r .1 .1))
-
     -- receiving begins no number, and the one at hand is reserved
-    pub received-reserved : c .call ≡ call.Receive → p .numbers .local ≤ numbersEach * pages.count page
+    received-at-hand : c .call ≡ call.Receive → p .numbers .local ≤ numbersEach * pages.count page
     unfolding outcomeOf asked view
-    received-reserved h =
+    received-at-hand h =
         let g = goes-so (e .local) page (passed .goes) in
         omega (arith, local-is, heard-same (view e) o (λ x k. receive-local (view e) (c .octets) (rw h at (passing (first (ownQuestions (sound e) (e .local) page c)) k .1))))
 
@@ -357,9 +363,9 @@ module _ (e : Endpoint) (long : Long e) (page : List ℕ) (c : Arguments) {p : P
     unfolding outcomeOf
     handy y = handy-at (c .call) (passed .block-room) (right (sound e) page (view e) c .some (sym (w .notice) ∙ y) .1)
 
-  -- once the page's one store is made, what the others ask of the page holds
-  pub now-reserved : {page′ : List ℕ} → page′ ≡ ifEq (p .number) 0 (reserving (p .numbers .local) page) page → Reserved p page′
-  now-reserved h = λ z. reserved-by z (h ∙ eq-yes _ _ _ _ z)
+  pub received-reserved : c .call ≡ call.Receive → Reserved p page
+  received-reserved h =
+      by-eq (p .number) 0 (λ z. omega (arith, is-left p z, received-at-hand z h)) (λ n. omega (arith, none-left p n))
 
   pub hands-up : blockBy (p .notice) (blockFrom (c .call) (e .«held_lengths») (e .«held_blocks») (c .octets)) ≡ blockOf o
   unfolding outcomeOf

@@ -5,6 +5,7 @@ use mathlib.Core.Bool.{true}
 use mathlib.Core.List.{List, [], _∷_, _++_}
 use lib.ListN.{length, getD, drop, replicate}
 use Rattle.octets.specs.Sizes.{longestFrame, longestBlock, queueSize, pageSize, numbersEach}
+use Rattle.octets.specs.Test.{ifEq}
 use Rattle.page.specs.Page.{count, goesWith}
 use Rattle.octets.specs.Octets.{put}
 use Rattle.frame.specs.Frame.{Block}
@@ -40,9 +41,13 @@ PlansAny e c s p =
     (page : List ℕ) (room : Rooms) → longestFrame ≤ room .frame → blockRoomOk c (room .block) ≡ true → pageSize ≤ length page → goesWith (e .local) page ≡ true
     → Plans e page (given c s room) p
 
--- The number that p leaves is reserved on this page, where p accepts: asked by all that stores after the page, of the page as it stands then.
+-- the number that p leaves; 0, which no page has to reserve, where p refuses
+unfoldable pub numberLeft : Plan → ℕ
+numberLeft p = ifEq (p .number) 0 (p .numbers .local) 0
+
+-- The number that p leaves is reserved on this page: asked by all that stores after the page, of the page as it stands then.
 abbrev pub Reserved : Plan → List ℕ → Type 0
-Reserved p page = p .number ≡ 0 → p .numbers .local ≤ numbersEach * count page
+Reserved p page = numberLeft p ≤ numbersEach * count page
 
 -- eight places of so many octets, and as many of zeros after them
 abbrev pub followed : ℕ → List ℕ → List ℕ

@@ -196,7 +196,7 @@ pub fn plan_sound(call: Call, rec: &[u8], s: &[u8]) -> Plan
 // The one store of a planned call to its page, before all its others: the number that the plan leaves is reserved. A refusal stores nothing.
 pub fn reserve(p: Plan, page: &mut [u8])
     requires { ⌜ (p .number ≡ 0 → ((pageSize ≤ length (now page)) × (runs (now page) ≡ true)) × ((p .numbers .local ≤ lastIncarnation) × (p .numbers .local ≤ numbersEach * count (now page) + numbersEach))) ⌝ }
-    ensures { λ _. ⌜ now (page .exit) ≡ ifEq (p .number) 0 (reserving (p .numbers .local) (now (page .entry))) (now (page .entry)) ⌝ }
+    ensures { λ _. ⌜ (now (page .exit) ≡ ifEq (p .number) 0 (reserving (p .numbers .local) (now (page .entry))) (now (page .entry))) × Reserved p (now (page .exit)) ⌝ }
 {
     if p.number != step_plan::ACCEPTED {
         return;

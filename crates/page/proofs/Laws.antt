@@ -185,3 +185,8 @@ reserved l page h r last most =
     ap (λ (s : List ℕ). set s (count page) used) p ∙ next (count page) (omega arith) more (omega arith) in
     omega (arith, ap count n, page-count (suc (count page)) (omega arith) more))
     (λ t. omega arith)
+
+-- and so it is on the page that is left
+pub reserved-on : (l : ℕ) (page : List ℕ) → (pageSize ≤ length page) × (runs page ≡ true) → (l ≤ lastIncarnation) × (l ≤ numbersEach * count page + numbersEach)
+    → {page′ : List ℕ} → page′ ≡ reserving l page → (page′ ≡ reserving l page) × (l ≤ numbersEach * count page′)
+reserved-on l page long most h = (h, omega (arith, ap count h, reserved l page (long .0) (long .1) (most .0) (most .1)))

@@ -93,7 +93,7 @@ pub fn goes_with(local: u32, page: &[u8]) -> bool
 // stored here, and every other store of a call comes after it.
 pub fn reserve(local: u32, page: &mut [u8])
     requires { ⌜ ((pageSize ≤ length (now page)) × (runs (now page) ≡ true)) × ((local ≤ lastIncarnation) × (local ≤ numbersEach * count (now page) + numbersEach)) ⌝ }
-    ensures { λ _. ⌜ now (page .exit) ≡ reserving local (now (page .entry)) ⌝ }
+    ensures { λ _. ⌜ (now (page .exit) ≡ reserving local (now (page .entry))) × (local ≤ numbersEach * count (now (page .exit))) ⌝ }
 {
     if local == 0 {
         return;

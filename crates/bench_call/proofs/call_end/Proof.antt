@@ -9,12 +9,13 @@ use Rattle.call_spec.proofs.Sequence.{has-room}
 use Rattle.endpoint.specs.View.{view}
 use Rattle.endpoint.specs.Record.{decode}
 use Rattle.endpoint_step.specs.Internal.{Plans}
-use Rattle.endpoint_step.proofs.Carries.{reservable, now-reserved}
+use Rattle.endpoint_step.proofs.Carries.{reservable}
 use Rattle.link.specs.Record.{format}
 use Rattle.link.specs.Lent.{lentCall}
 use Rattle.link.proofs.Answers.{turned-down, page-unchanged, decode-long, reserved}
 use Rattle.bench_call.specs.Internal.{outcomeAt}
 use Rattle.bench_call.proofs.Moves.{by-plan}
+use native.Mathlib.Omega.{arith}
 use borrow.Author.Needs.{needs}
 use Rattle.bench_call.proofs.call_end.Statement.{statement}
 use Rattle.bench_call.proofs.call_end.Tie as tie
@@ -35,12 +36,7 @@ plans c =
 -- what the other stores ask of the page is there once its own store is made
 finish-requires : tie.Need-finish-requires
 finish-requires c κs =
-    let r : tie.After-reserve = search in
-    let w : tie.After-plan-sound = search in
-    let s : tie.Start = search in
-    let d = now (s .args .rec) in
-    let l = s .pre .0 .0 .0 in
-    (l, (now-reserved (decode d) (decode-long d l) (now (s .args .page)) (call-of s) (plans w) (r .reserve .ensures), (now (s .args .page), plans w)))
+    (let s : tie.Start = search in s .pre .0 .0 .0, (omega arith, (let w : tie.After-plan-sound = search in let s : tie.Start = search in (now (s .args .page), plans w))))
 
 -- 14 refuses, or does not
 full : (c : tie.Then1) → let s = c .before .before .before .before .before .before .before .before .before in outcomeAt (lent-of s) (s .args .count) (call-of s) ≡ refused 14
@@ -77,7 +73,7 @@ returns-2 c =
     let s : tie.Start = search in
     let o = left e in (
       rw o (f .finish .ensures (now (s .args .page)) (plans w)),
-      reserved (now (s .args .rec)) (s .pre .0 .0 .0) (now (s .args .page)) (call-of s) (plans w) (r .reserve .ensures) ∙ ap (pageAfter (now (s .args .page))) (sym o),
+      reserved (now (s .args .rec)) (s .pre .0 .0 .0) (now (s .args .page)) (call-of s) (plans w) (r .reserve .ensures .0) ∙ ap (pageAfter (now (s .args .page))) (sym o),
     )
 
 pub call-end-spec : {M : Type 1} → statement M

@@ -5,7 +5,8 @@ use denote.Ref.{now}
 use Rattle.call_spec.specs.Calls.{Arguments, given, rooms}
 use Rattle.endpoint.proofs.Packs.{Long}
 use Rattle.endpoint_step.specs.Internal.{Plans}
-use Rattle.endpoint_step.proofs.Carries.{reservable, reserved-by, turns-down}
+use Rattle.endpoint_step.proofs.Carries.{reservable, asks-reserved, turns-down}
+use native.Mathlib.Omega.{arith}
 use borrow.Author.Needs.{needs}
 use Rattle.endpoint_step.proofs.step.Statement.{statement}
 use Rattle.endpoint_step.proofs.step.Tie as tie
@@ -30,12 +31,11 @@ planned c = rw (c .before .before .before .before .before .before .before .befor
 -- what the other stores ask of the page is there once its own store is made
 finish-requires : tie.Need-finish-requires
 finish-requires c κs =
-    let r : tie.After-reserve = search in
-    let e : tie.Else1 = search in
+    asks-reserved _ _ (omega arith)
+    (let e : tie.Else1 = search in
     let p : tie.After-plan-call = search in
     let s = start-of p in
-    let z = e .if1 .left in
-    (z, (λ _. reserved-by (s .args .t2) (long s) (page-of s) (call-of s) (planned p) z (r .reserve .ensures), (page-of s, planned p)))
+    (e .if1 .left, (page-of s, planned p)))
 
 returns : tie.Need-returns
 returns c =
@@ -54,7 +54,7 @@ returns-2 c =
     let f : tie.After-finish = search in
     let r : tie.After-reserve = search in
     let p : tie.After-plan-call = search in
-    f .finish .ensures (page-of (start-of p)) (planned p) (r .reserve .ensures)
+    f .finish .ensures (page-of (start-of p)) (planned p) (r .reserve .ensures .0)
 
 pub step-spec : {M : Type 1} → statement M
 step-spec =

@@ -13,7 +13,7 @@ use Rattle.call_spec.proofs.Sequence.{has-room}
 use Rattle.endpoint.specs.View.{view}
 use Rattle.endpoint.specs.Record.{decode}
 use Rattle.endpoint_step.specs.Internal.{Plans}
-use Rattle.endpoint_step.proofs.Carries.{reservable, now-reserved}
+use Rattle.endpoint_step.proofs.Carries.{reservable}
 use Rattle.link.specs.declared.Answer.{Answer}
 use Rattle.link.specs.Record.{format}
 use Rattle.link.specs.Lent.{answerOf, Called}
@@ -53,11 +53,7 @@ planned c =
 -- what the other stores ask of the page is there once its own store is made
 finish-requires : tie.Need-finish-requires
 finish-requires c κs =
-    let r : tie.After-reserve = search in
-    let p : tie.After-plan-sound = search in
-    let s = start-of p in
-    let d = now (s .args .rec) in
-    (asked s .long, (now-reserved (decode d) (decode-long d (asked s .long)) (now (s .args .page)) (call-of p) (planned p) (r .reserve .ensures), (now (s .args .page), planned p)))
+    (let p : tie.After-plan-sound = search in asked (start-of p) .long, (omega arith, (let p : tie.After-plan-sound = search in (now (start-of p .args .page), planned p))))
 
 reserve-requires : tie.Need-reserve-requires
 reserve-requires c κs = λ z.
@@ -70,7 +66,7 @@ page-is : (c : tie.After-reserve) → c .reserve .last .1 .0 ≡ pageAfter (now 
 page-is c =
     let s = start-of (c .before .before) in
     let page = now (s .args .page) in
-    reserved (now (s .args .rec)) (asked s .long) page (call-of (c .before .before)) (planned (c .before .before)) (c .reserve .ensures)
+    reserved (now (s .args .rec)) (asked s .long) page (call-of (c .before .before)) (planned (c .before .before)) (c .reserve .ensures .0)
     ∙ ap (λ (k : Call). pageAfter page (performed format (now (s .args .rec)) page (given k (now (s .args .s)) (rooms longestFrame longestBlock)))) (c .before .before .before .before .call-in .ensures)
 
 -- the plan that is carried out

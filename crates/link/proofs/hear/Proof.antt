@@ -28,7 +28,7 @@ finish-requires c κs =
     let d = now (s .args .rec) in
     let page = now (s .args .page) in
     let l : recordSize ≤ length d = search needs in
-    (l, (λ z. received-reserved (decode d) (decode-long d l) page (call-of s) (w .plan-call .ensures) z refl, (page, w .plan-call .ensures)))
+    (l, (received-reserved (decode d) (decode-long d l) page (call-of s) (w .plan-call .ensures) refl, (page, w .plan-call .ensures)))
 
 returns-2 : tie.Need-returns-2
 returns-2 c =

@@ -4,7 +4,7 @@ use denote.Ref.{now}
 use lib.ListN.{length}
 use Rattle.call_spec.specs.Calls.{Arguments}
 use Rattle.endpoint.specs.Record.{recordSize, decode}
-use Rattle.endpoint_step.proofs.Carries.{reservable, now-reserved}
+use Rattle.endpoint_step.proofs.Carries.{reservable}
 use Rattle.link.specs.Lent.{lentCall}
 use Rattle.link.proofs.Answers.{turned-down, too-short, decode-long, page-unchanged, reserved}
 use borrow.Author.Needs.{needs}
@@ -17,12 +17,7 @@ call-of c = lentCall (c .args .call) (now (c .args .s)) (now (c .args .out)) (no
 -- what the other stores ask of the page is there once its own store is made
 finish-requires : tie.Need-finish-requires
 finish-requires c κs =
-    let r : tie.After-reserve = search in
-    let w : tie.After-plan-call = search in
-    let s : tie.Start = search in
-    let d = now (s .args .rec) in
-    let l : recordSize ≤ length d = search needs in
-    (l, (now-reserved (decode d) (decode-long d l) (now (s .args .page)) (call-of s) (w .plan-call .ensures) (r .reserve .ensures), (now (s .args .page), w .plan-call .ensures)))
+    (search needs, (omega arith, (let w : tie.After-plan-call = search in let s : tie.Start = search in (now (s .args .page), w .plan-call .ensures))))
 
 returns : tie.Need-returns
 returns c =
@@ -61,7 +56,7 @@ returns-2 c =
     let s = start-of w in
     let d = now (s .args .rec) in (
       f .finish .ensures (now (s .args .page)) (w .plan-call .ensures),
-      reserved d (omega (arith, t .if1 .left)) (now (s .args .page)) (call-of s) (w .plan-call .ensures) (r .reserve .ensures),
+      reserved d (omega (arith, t .if1 .left)) (now (s .args .page)) (call-of s) (w .plan-call .ensures) (r .reserve .ensures .0),
     )
 
 pub perform-spec : {M : Type 1} → statement M
