@@ -6,19 +6,20 @@ use mathlib.Core.List.{List, [], _∷_, _++_}
 use lib.ListN.{length, getD, drop, replicate}
 use Rattle.octets.specs.Sizes.{longestFrame, longestBlock, queueSize, pageSize, numbersEach}
 use Rattle.octets.specs.Test.{ifEq}
-use Rattle.page.specs.Page.{count, goesWith}
+use Rattle.page.specs.Page.{count, goesWith, newPage}
 use Rattle.octets.specs.Octets.{put}
-use Rattle.frame.specs.Frame.{Block}
+use Rattle.frame.specs.Frame.{Block, CONNECT}
 use Rattle.frame.specs.Layout.{sendBlockAt, dataBlockAt}
+use Rattle.protocol.specs.Endpoint.{fresh}
 use Rattle.call_spec.specs.declared.Call.{Call}
 use Rattle.call_spec.specs.declared.Call.the-variants.{Request, Receive}
-use Rattle.call_spec.specs.Calls.{Arguments, Rooms, given, blockRoomOk}
+use Rattle.call_spec.specs.Calls.{Arguments, Rooms, rooms, given, blockRoomOk}
 use Rattle.step_plan.specs.declared.Plan.{Plan}
 use Rattle.step_plan.specs.declared.Places.{Places}
 use Rattle.step_plan.specs.declared.Places.the-variants.{Keep, Join, Release, Clear}
 use Rattle.step_plan.specs.Internal.{joinedBy, Comes}
 use Rattle.endpoint.specs.declared.Endpoint.{Endpoint}
-use Rattle.endpoint.specs.View.{placeBlock, view}
+use Rattle.endpoint.specs.View.{placeBlock, pack, view}
 use Rattle.endpoint.specs.Internal.{recordOf, numbersOf}
 use Rattle.endpoint_step.specs.Calls.{outcomeOf}
 
@@ -48,6 +49,10 @@ numberLeft p = ifEq (p .number) 0 (p .numbers .local) 0
 -- The number that p leaves is reserved on this page: asked by all that stores after the page, of the page as it stands then.
 abbrev pub Reserved : Plan → List ℕ → Type 0
 Reserved p page = numberLeft p ≤ numbersEach * count page
+
+-- It is not so before the page's store: a fresh end's connect is not reserved on a new page. So what asks for it cannot come before that store.
+abbrev pub NotBeforeTheStore : Type 0
+NotBeforeTheStore = (p : Plan) → Plans (pack fresh) newPage (given Request (CONNECT ∷ []) (rooms longestFrame longestBlock)) p → Reserved p newPage → ⊥
 
 -- eight places of so many octets, and as many of zeros after them
 abbrev pub followed : ℕ → List ℕ → List ℕ
