@@ -125,15 +125,27 @@ fn drop_front(gone: usize, width: usize, d: &mut [u8])
     }
 }
 
-// All of d is written afresh, as zeros.
-fn clear(d: &mut [u8])
-    ensures { λ _. ⌜ now (d .exit) ≡ replicate (length (now (d .entry))) 0 ⌝ }
+// The n octets of d are written afresh, as zeros.
+fn fill(n: usize, d: &mut [u8])
+    requires { ⌜ length (now d) ≡ n ⌝ }
+    ensures { λ _. ⌜ now (d .exit) ≡ replicate n 0 ⌝ }
 {
     let mut i = 0;
-    while i < d.len() {
+    while i < n {
         d[i] = 0;
         i += 1;
     }
+}
+
+// All places are written afresh: the blocks by a loop of a fixed length, which takes the machine fewer instructions.
+fn clear(d: &mut [u8])
+    ensures { λ _. ⌜ now (d .exit) ≡ replicate (length (now (d .entry))) 0 ⌝ }
+{
+    if d.len() == endpoint::PLACES_SIZE {
+        fill(endpoint::PLACES_SIZE, d);
+        return;
+    }
+    fill(d.len(), d);
 }
 
 // What a plan makes of places of so many octets, of blocks or of their lengths; s joins.
