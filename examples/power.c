@@ -128,7 +128,7 @@ static void tell_request(const struct dock *d, uint8_t what, uint8_t request, co
     m.what = what;
     m.request = request;
     m.local = a->local;
-    m.at = (uint32_t)a->reserved_at;
+    m.at = (uint32_t)a->must_store_at;
     put_message(d, &m);
 }
 
@@ -171,7 +171,7 @@ static void come_back(struct dock *d) {
 static void store(struct dock *d, uint8_t request, const dock_answer *a) {
     tell_request(d, STORING, request, a);
     dawdle(d);
-    if (pwrite(d->page_file, d->end.page + a->reserved_at, a->reserved, (off_t)a->reserved_at) != (ssize_t)a->reserved)
+    if (pwrite(d->page_file, d->end.page + a->must_store_at, a->must_store, (off_t)a->must_store_at) != (ssize_t)a->must_store)
         give_up(d, "its page cannot be written");
     dawdle(d);
     if (fsync(d->page_file) != 0)
@@ -202,7 +202,7 @@ static void enter(struct dock *d, uint8_t state) {
  * the time until the timer call begins again. */
 static void obey(struct dock *d, uint8_t request, const dock_answer *a) {
     unsigned waiting = dock_waiting(&d->end);
-    int stores = a->reserved > 0 && !d->forget;
+    int stores = a->must_store > 0 && !d->forget;
     if (stores && !d->late)
         store(d, request, a);
     if (request == DOCK_CONNECT || request == DOCK_LISTEN)

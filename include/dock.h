@@ -13,7 +13,7 @@
  * closed, with the last number reserved as its own, and the next one that it begins with was never used. 4,096 bytes are 65,536 numbers;
  * then connect and listen are refused by 9.
  *
- * What a host must do for it: write each byte that a call has set (reserved and reserved_at of its answer say which) to storage that
+ * What a host must do for it: write each byte that a call has set (must_store and must_store_at of its answer say which) to storage that
  * outlives a loss of power, and wait until it is there, AFTER the call and BEFORE its frame, or that of a later call, goes out. A cut
  * before that does no harm, since nobody has seen the number yet, and a cut after it only skips numbers. If the byte cannot be stored,
  * nothing may go out: read back the page that the storage has, and restore. Make the page of a terminal new once in its life (dock_init)
@@ -188,8 +188,8 @@ typedef struct dock_answer {
     const uint8_t *sent_at;  /* where it stands */
     size_t block;            /* the length of the block handed up, 0 for none */
     const uint8_t *block_at; /* where it stands, a null pointer for none */
-    size_t reserved;         /* 1: the call has set a byte of the page, to be stored before anything goes out; else, and on a bench, 0 */
-    size_t reserved_at;      /* where in the page it stands, counted from 0 */
+    size_t must_store;       /* 1: the call has set a byte of the page, to be stored before anything goes out; else, and on a bench, 0 */
+    size_t must_store_at;    /* where in the page it stands, counted from 0 */
 } dock_answer;
 
 /* One end: its record, its page, the buffer for the frame that it sends, and the one for a block that is collected. */
@@ -222,8 +222,8 @@ static inline dock_answer dock_ask(dock_end *end, const uint8_t *request, size_t
     a.sent_at = end->out;
     a.block_at = a.block > 0 ? end->up : NULL;
     /* A request that was not refused has a first byte. The one that begins with the first of sixteen numbers has reserved them. */
-    a.reserved = a.number == DOCK_OK && (request[0] == DOCK_CONNECT || request[0] == DOCK_LISTEN) && a.local % DOCK_NUMBERS_EACH == 1;
-    a.reserved_at = a.reserved > 0 ? (a.local - 1) / DOCK_NUMBERS_EACH : 0;
+    a.must_store = a.number == DOCK_OK && (request[0] == DOCK_CONNECT || request[0] == DOCK_LISTEN) && a.local % DOCK_NUMBERS_EACH == 1;
+    a.must_store_at = a.must_store > 0 ? (a.local - 1) / DOCK_NUMBERS_EACH : 0;
     return a;
 }
 
@@ -235,7 +235,7 @@ static inline dock_answer dock_hear(dock_end *end, const uint8_t *frame, size_t 
     a.end = DOCK_A;
     a.sent_at = end->out;
     a.block_at = a.block > 0 ? frame + DOCK_BLOCK_AT : NULL;
-    a.reserved = a.reserved_at = 0;
+    a.must_store = a.must_store_at = 0;
     return a;
 }
 
@@ -294,7 +294,7 @@ static inline dock_answer dock_pair_line(dock_pair *pair, const char *line, size
                           sizeof pair->up, &a.end, &a.state, &a.notice, &a.local, &a.remote, &a.sent, &at, &a.block);
     a.sent_at = pair->out;
     a.block_at = a.block == 0 ? NULL : at > 0 ? pair->book + at : pair->up;
-    a.reserved = a.reserved_at = 0;
+    a.must_store = a.must_store_at = 0;
     return a;
 }
 

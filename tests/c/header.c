@@ -39,7 +39,7 @@ static void test_opening(dock_end *caller, dock_end *listener) {
     expect(a.number == DOCK_WRONG_STATE && a.state == DOCK_CLOSED && is_silent(&a), "a closed end does not collect");
     a = dock_ask_kind(listener, DOCK_LISTEN);
     expect(a.number == DOCK_OK && a.state == DOCK_LISTENING && a.local == 1 && is_silent(&a), "a fresh end listens");
-    expect(a.reserved == 1 && a.reserved_at == 0, "it has reserved its number");
+    expect(a.must_store == 1 && a.must_store_at == 0, "it has reserved its number");
     a = dock_ask_kind(caller, DOCK_CONNECT);
     expect(a.state == DOCK_CALLING && a.sent == 9 && a.sent_at == caller->out && a.sent_at[0] == DOCK_CRAO, "a fresh end calls");
     a = dock_hear(listener, a.sent_at, a.sent);
@@ -129,7 +129,7 @@ static void test_overtaking(dock_end *from, dock_end *to) {
 /* A refusal tells its number and how the end stands, and changes nothing. */
 static void expect_refused(dock_end *end, const dock_end *before, dock_answer a, unsigned number, const char *what) {
     expect(a.number == number && a.state == DOCK_OPEN && a.local == 1 && a.remote == 1 && is_silent(&a), what);
-    expect(memcmp(end, before, sizeof *end) == 0 && a.reserved == 0, "a refusal changes nothing");
+    expect(memcmp(end, before, sizeof *end) == 0 && a.must_store == 0, "a refusal changes nothing");
 }
 
 static void test_refusals(dock_end *end) {
@@ -180,17 +180,18 @@ static int is_page(const uint8_t *page, size_t used) {
 /* A closed end's timer call does nothing: is it closed, with this number? */
 static int is_closed(dock_end *end, uint32_t local) {
     dock_answer a = dock_ask_kind(end, DOCK_TIMER);
-    return a.number == DOCK_OK && a.state == DOCK_CLOSED && a.local == local && a.remote == 0 && is_silent(&a) && a.reserved == 0;
+    return a.number == DOCK_OK && a.state == DOCK_CLOSED && a.local == local && a.remote == 0 && is_silent(&a) && a.must_store == 0;
 }
 
 /* A call, hung up at once, or listening, ended at once: does it begin with this number, and set this byte of the page, or none (-1)? */
 static int begins(dock_end *end, uint8_t request, uint32_t local, int at) {
     dock_answer a = dock_ask_kind(end, request);
-    int right = a.number == DOCK_OK && a.local == local && a.reserved == (at < 0 ? 0U : 1U) && a.reserved_at == (at < 0 ? 0U : (size_t)at);
+    int right = a.number == DOCK_OK && a.local == local && a.must_store == (at >= 0 ? 1U : 0U);
+    right = right && a.must_store_at == (at >= 0 ? (size_t)at : 0U);
     dock_answer again = dock_ask_kind(end, request);
-    right = right && again.number == DOCK_WRONG_STATE && again.reserved == 0;
+    right = right && again.number == DOCK_WRONG_STATE && again.must_store == 0;
     a = dock_ask_kind(end, request == DOCK_CONNECT ? DOCK_CLOSE : DOCK_END_LISTENING);
-    return right && a.number == DOCK_OK && a.state == DOCK_CLOSED && a.reserved == 0;
+    return right && a.number == DOCK_OK && a.state == DOCK_CLOSED && a.must_store == 0;
 }
 
 /* Sixteen numbers are reserved by each byte, with the first of them. */
@@ -259,7 +260,7 @@ static void test_wrong_page(dock_end *end) {
         a = dock_hear(end, call, sizeof call);
         expect(a.number == DOCK_WRONG_PAGE && a.state == DOCK_CALLING && a.local == 1 && is_silent(&a), "a frame is refused");
         a = dock_ask(end, call, 0);
-        expect(a.number == DOCK_WRONG_PAGE && a.reserved == 0, "what is no request is not looked at");
+        expect(a.number == DOCK_WRONG_PAGE && a.must_store == 0, "what is no request is not looked at");
         expect(memcmp(end, &before, sizeof before) == 0, "and nothing is changed");
     }
     end->record[0] = 6;
@@ -384,7 +385,7 @@ static void test_bench_restarts(void) {
     dock_answer a = line(&pair, "5141");
     expect(a.local == 1 && is_page(pair.page[DOCK_B], 1) && is_page(pair.page[DOCK_A], 0), "B reserves numbers on its own page");
     a = line(&pair, "5040");
-    expect(a.local == 1 && is_page(pair.page[DOCK_A], 1) && a.reserved == 0, "and A on its own");
+    expect(a.local == 1 && is_page(pair.page[DOCK_A], 1) && a.must_store == 0, "and A on its own");
     expect(line(&pair, "520000").state == DOCK_ANSWERING && line(&pair, "520001").state == DOCK_OPEN, "B answers, A opens");
     expect(line(&pair, "53").number == DOCK_BAD_SIZE && line(&pair, "535150").number == DOCK_BAD_SIZE, "a restart names one end");
     expect(line(&pair, "5352").number == DOCK_UNKNOWN_KIND && line(&pair, "5300").number == DOCK_UNKNOWN_KIND, "A or B");
