@@ -49,17 +49,21 @@ static void carry(struct host *to, const uint8_t *bytes, size_t len) {
     to->coming_len++;
 }
 
-/* What every call is followed by: the notice is told, a block is kept, and the frame goes to the other end. */
+/* What every call is followed by: the notice is told, a block is kept, and then the frame goes to the other end, which forgets a block
+ * when it hears that it was handed up. */
 static void follow(struct host *h, struct host *other, const dock_answer *a) {
     h->state = a->state;
     if (a->notice == DOCK_CONNECTED)
         printf("%s: connected, incarnation %u with %u\n", h->name, (unsigned)a->local, (unsigned)a->remote);
     else if (a->notice != DOCK_NONE && a->notice != DOCK_HANDED_UP)
         printf("%s: %s\n", h->name, dock_notice_name(a->notice));
-    if (a->block > 0 && h->heard_len + a->block < sizeof h->heard) {
-        memcpy(h->heard + h->heard_len, a->block_at, a->block);
-        h->heard_len += a->block;
+    if (h->heard_len + a->block > sizeof h->heard) {
+        printf("%s: no room for a block\n", h->name);
+        exit(1);
     }
+    if (a->block > 0)
+        memcpy(h->heard + h->heard_len, a->block_at, a->block);
+    h->heard_len += a->block;
     carry(other, a->sent_at, a->sent);
 }
 

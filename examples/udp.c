@@ -160,17 +160,24 @@ static void take_notice(struct host *h, const dock_answer *a) {
         h->trouble = "closed too early";
 }
 
-/* Does what an answer asks for. Every call's answer comes here; that of a refused call asks for nothing. Whenever the end's state or
- * the number of waiting blocks is another than before, something has moved, and the time until the timer call begins again. */
+/* Does what an answer asks for. Every call's answer comes here; that of a refused call asks for nothing.
+ *
+ * A block is kept first, then the frame goes out: it has the acknowledgement, and when the partner hears that, it forgets the block. So
+ * where one could not be kept nothing is acknowledged any more. A host that promises to keep blocks through a loss of power waits until
+ * the block is lasting, before it sends. (So it does with the byte of the page that a call has set: must_store.)
+ *
+ * Whenever the end's state or the number of waiting blocks is another than before, something has moved, and the time until the timer call
+ * begins again. Nothing else begins it again, and above all no frame heard: what the partner says may be about its own blocks, all the
+ * time, while the only block of this host was lost. */
 static void obey(struct host *h, const dock_answer *a) {
     unsigned waiting = dock_waiting(&h->end);
-    if (a->sent > 0) {
+    if (a->block > 0)
+        keep_block(h, a->block_at, a->block);
+    if (a->sent > 0 && h->trouble == NULL) {
         (void)send(h->socket, a->sent_at, a->sent, 0);
         h->frames++;
     }
-    if (a->block > 0)
-        keep_block(h, a->block_at, a->block);
-    else if (a->notice != DOCK_NONE)
+    if (a->block == 0 && a->notice != DOCK_NONE)
         take_notice(h, a);
     if (a->state != h->state || waiting != h->waiting)
         h->deadline = h->now + TIMEOUT;
