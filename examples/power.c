@@ -3,6 +3,7 @@
  * Expect: no number ever comes twice, and no block is lost, doubled or out of its order within an incarnation (power.out).
  *
  *     power [--counts] [--forget] [--late] [SEED [CUTS]]     power alone is power 1 300
+ *     power --set-up DIRECTORY, power --start DIRECTORY      what a terminal begins with, and no more
  *
  * Each dock calls or listens, sends blocks, closes and begins again, for as long as it lives. Between the two stands a driver: it carries
  * their frames over a mesh that loses, repeats and reorders them and brings back old ones, also those of lives long over; it kills a dock
@@ -16,7 +17,12 @@
  * Two ways to do it wrong show that the driver would see it: with --forget each life starts from a new page, with --late a byte of the
  * page is stored only after the frame that uses its number went out. Either ends by "a number came twice", and the status is 1.
  *
- * Part 1 is the dock: store() and obey() are there to be copied. Part 2 is the mesh, Part 3 the checks, and Part 4 cuts the power.
+ * With --set-up a terminal is set up, whose page is in this directory, and with --start it is started: each prints the number with which
+ * its end comes back. Only --set-up makes a page, and only where there is nothing in its place. Any other trouble is told on standard
+ * error, and the status is 1.
+ *
+ * Part 1 is the dock: come_back(), store() and obey() are there to be copied. Part 2 is the mesh, Part 3 the checks, and Part 4 cuts the
+ * power.
  */
 #define _POSIX_C_SOURCE 200809L
 
@@ -29,6 +35,7 @@
 #include <stdlib.h>
 #include <string.h>
 #include <sys/socket.h>
+#include <sys/stat.h>
 #include <sys/types.h>
 #include <sys/wait.h>
 #include <time.h>
@@ -82,18 +89,24 @@ struct message {
 #define BLOCKS 60    /* blocks that it sends in an incarnation, at most */
 #define AT_ONCE 32   /* messages that are read before the clock is looked at again */
 
+/* Where a terminal has its page. */
+struct storage {
+    int directory;
+    const char *name;  /* of the page's file; */
+    const char *draft; /* a new page has this name until it is whole */
+    int file;          /* the page's, when it is open */
+};
+
 struct dock {
     /* What the program gives it. */
     int socket;
-    int directory;     /* where its page is, */
-    const char *name;  /* in a file of this name; */
-    const char *draft; /* a new one has this name until it is whole */
-    uint32_t calls;    /* so many of a hundred times it calls; else it listens */
-    int forget, late;  /* the two ways to do it wrong */
+    struct storage storage;
+    int set_up;       /* it is being set up: it has never started */
+    uint32_t calls;   /* so many of a hundred times it calls; else it listens */
+    int forget, late; /* the two ways to do it wrong */
     uint64_t seed;
 
     /* How it stands. */
-    int page_file;
     dock_end end;
     uint8_t state;
     unsigned waiting;  /* how many blocks wait for their acknowledgement */
@@ -143,27 +156,42 @@ static void dawdle(struct dock *d) {
     nap(below(&d->seed, DAWDLE));
 }
 
-/* The first start of all: there is no page yet. It gets its name only when it is whole and synced, so that a cut leaves either no page,
- * and no number was used yet, or a whole one. */
-static void make_page(struct dock *d) {
-    int f = openat(d->directory, d->draft, O_WRONLY | O_CREAT | O_TRUNC, 0600);
-    dock_init(&d->end);
-    if (f < 0 || write(f, d->end.page, DOCK_PAGE) != DOCK_PAGE || fsync(f) != 0 || close(f) != 0 ||
-        renameat(d->directory, d->draft, d->directory, d->name) != 0 || fsync(d->directory) != 0)
-        give_up(d, "its page cannot be made");
+/*
+ * When a page is made: once in a terminal's life, as it is set up, which is a command of its own. A start makes none. One that finds no
+ * page cannot tell a new terminal from one whose disk was lost, was changed or is not mounted yet, and a new page would bring old numbers
+ * back. So it stops, until somebody who knows has brought the page back, or sets the terminal up.
+ *
+ * A page that is there and cannot be read, for whatever reason, is no reason to make one, even when a terminal is set up: ENOENT alone
+ * is, and not that of a link to a disk that is not mounted.
+ */
+
+/* Makes the page, where nothing of its name is there. It gets that name only when it is whole and synced: so a cut leaves either no page,
+ * and no number was used yet, or a whole one. Answers why it cannot be made, or a null pointer. */
+static const char *make_page(const struct storage *s) {
+    uint8_t page[DOCK_PAGE];
+    struct stat there;
+    if (fstatat(s->directory, s->name, &there, AT_SYMLINK_NOFOLLOW) == 0 || errno != ENOENT)
+        return NULL; /* whatever it is, it is left as it is */
+    memset(page, DOCK_PAGE_NEW, sizeof page);
+    int f = openat(s->directory, s->draft, O_WRONLY | O_CREAT | O_TRUNC, 0600);
+    if (f < 0 || write(f, page, sizeof page) != (ssize_t)sizeof page || fsync(f) != 0 || close(f) != 0 ||
+        renameat(s->directory, s->draft, s->directory, s->name) != 0 || fsync(s->directory) != 0)
+        return "its page cannot be made";
+    return NULL;
 }
 
-/* Every start: the end comes back from its page alone. */
-static void come_back(struct dock *d) {
-    if (faccessat(d->directory, d->name, F_OK, 0) != 0)
-        make_page(d);
-    d->page_file = openat(d->directory, d->name, O_RDWR);
-    if (d->page_file < 0 || pread(d->page_file, d->end.page, DOCK_PAGE, 0) != DOCK_PAGE)
-        give_up(d, "its page cannot be read");
-    if (d->forget)
-        memset(d->end.page, DOCK_PAGE_NEW, DOCK_PAGE);
-    if (dock_restore(&d->end) != DOCK_OK)
-        give_up(d, "its page is damaged");
+/* Every start: the end comes back from its page alone. Where the terminal is being set up, the page is made before. Answers why the end
+ * must not be used, or a null pointer. */
+static const char *come_back(struct storage *s, dock_end *end, int set_up) {
+    const char *trouble = set_up ? make_page(s) : NULL;
+    if (trouble != NULL)
+        return trouble;
+    s->file = openat(s->directory, s->name, O_RDWR);
+    if (s->file < 0)
+        return errno == ENOENT ? "it has no page: it was never set up, or its page is lost" : "its page cannot be opened";
+    if (pread(s->file, end->page, sizeof end->page, 0) != (ssize_t)sizeof end->page)
+        return "its page cannot be read";
+    return dock_restore(end) == DOCK_OK ? NULL : "its page is damaged";
 }
 
 /* A call has set a byte of the page: it is written where it outlives a cut, and the dock waits until it is there. Until then nothing that
@@ -171,10 +199,10 @@ static void come_back(struct dock *d) {
 static void store(struct dock *d, uint8_t request, const dock_answer *a) {
     tell_request(d, STORING, request, a);
     dawdle(d);
-    if (pwrite(d->page_file, d->end.page + a->must_store_at, a->must_store, (off_t)a->must_store_at) != (ssize_t)a->must_store)
+    if (pwrite(d->storage.file, d->end.page + a->must_store_at, a->must_store, (off_t)a->must_store_at) != (ssize_t)a->must_store)
         give_up(d, "its page cannot be written");
     dawdle(d);
-    if (fsync(d->page_file) != 0)
+    if (fsync(d->storage.file) != 0)
         give_up(d, "its page cannot be synced");
     dawdle(d);
     tell_request(d, STORED, request, a);
@@ -197,9 +225,9 @@ static void enter(struct dock *d, uint8_t state) {
         d->left = 1 + below(&d->seed, BLOCKS);
 }
 
-/* Does what the answer to an accepted call asks for. The order is what counts: the page is stored before anything goes out, and what was
- * handed up is told after the call. Whenever the state or the number of waiting blocks is another than before, something has moved, and
- * the time until the timer call begins again. */
+/* Does what the answer to an accepted call asks for. The order is what counts: the page is stored before anything goes out, and a block is
+ * kept, which here is to tell the driver, before the frame goes out that acknowledges it. Whenever the state or the number of waiting
+ * blocks is another than before, something has moved, and the time until the timer call begins again. */
 static void obey(struct dock *d, uint8_t request, const dock_answer *a) {
     unsigned waiting = dock_waiting(&d->end);
     int stores = a->must_store > 0 && !d->forget;
@@ -309,7 +337,11 @@ static void wait_for_frame(const struct dock *d) {
 
 /* A life, from one cut to the next. A closed end does nothing in a timer call, but tells its number. */
 static void live(struct dock *d) {
-    come_back(d);
+    const char *trouble = come_back(&d->storage, &d->end, d->set_up);
+    if (trouble != NULL)
+        give_up(d, trouble);
+    if (d->forget)
+        dock_init(&d->end);
     dock_answer a = dock_ask_kind(&d->end, DOCK_TIMER);
     tell(d, STARTED, &a, NULL, 0);
     d->now = clock_now();
@@ -563,6 +595,7 @@ struct side {
     struct mesh mesh; /* what takes its frames */
     const char *page, *draft;
     uint32_t calls;
+    int is_set_up;     /* its dock has started once, so its page was made */
     pid_t pid;         /* 0: its power is off */
     int socket;        /* to the dock, -1: none */
     int64_t starts_at; /* when the power comes back */
@@ -595,9 +628,8 @@ static void be_dock(struct test *t, const struct side *s, int socket, uint64_t s
     close_file(&t->sides[0].socket);
     close_file(&t->sides[1].socket);
     d.socket = socket;
-    d.directory = t->directory;
-    d.name = s->page;
-    d.draft = s->draft;
+    d.storage = (struct storage){.directory = t->directory, .name = s->page, .draft = s->draft, .file = -1};
+    d.set_up = !s->is_set_up;
     d.calls = s->calls;
     d.forget = t->options->forget;
     d.late = t->options->late;
@@ -635,7 +667,9 @@ static void start(struct test *t, struct side *s) {
 static void take_message(struct test *t, struct side *s, const struct message *m) {
     struct side *other = &t->sides[s == &t->sides[0]];
     s->messages++;
-    if (m->what == STORING) {
+    if (m->what == STARTED) {
+        s->is_set_up = 1;
+    } else if (m->what == STORING) {
         s->storing = 1;
         s->at = m->at;
     } else if (m->what == STORED) {
@@ -858,6 +892,20 @@ static int read_options(int argc, char **argv, struct options *o) {
            (argc - i < 2 || read_number(argv[i + 1], 1, 2000, &o->cuts));
 }
 
+/* What a terminal's own program does first, as it is started or set up: it says which number its end has, or why it has none. */
+static int start_terminal(const char *directory, int set_up) {
+    static dock_end end;
+    struct storage s = {.directory = open(directory, O_RDONLY | O_DIRECTORY), .name = "dock.page", .draft = "dock.new", .file = -1};
+    const char *trouble = s.directory < 0 ? "its directory cannot be opened" : come_back(&s, &end, set_up);
+    if (trouble == NULL)
+        printf("closed, with the number %" PRIu32 "\n", dock_ask_kind(&end, DOCK_TIMER).local);
+    else
+        fprintf(stderr, "power: %s\n", trouble);
+    close_file(&s.file);
+    close_file(&s.directory);
+    return trouble == NULL;
+}
+
 int main(int argc, char **argv) {
     static struct test t = {
         .sides = {{.seen = {.name = "dock"}, .page = "dock.page", .draft = "dock.new", .calls = 75, .socket = -1},
@@ -865,8 +913,13 @@ int main(int argc, char **argv) {
         .directory = -1};
     struct options o = {.seed = 1, .cuts = 300};
     int well = 0;
+    if (argc == 3 && strcmp(argv[1], "--set-up") == 0)
+        return start_terminal(argv[2], 1) ? 0 : 1;
+    if (argc == 3 && strcmp(argv[1], "--start") == 0)
+        return start_terminal(argv[2], 0) ? 0 : 1;
     if (!read_options(argc, argv, &o)) {
-        fprintf(stderr, "usage: power [--counts] [--forget] [--late] [SEED [CUTS]], CUTS from 1 to 2000\n");
+        fprintf(stderr, "usage: power [--counts] [--forget] [--late] [SEED [CUTS]], CUTS from 1 to 2000\n"
+                        "       power --set-up DIRECTORY, or power --start DIRECTORY\n");
         return 2;
     }
     /* Whoever started this may have set it to be ignored: then the end of a child would not be told. */
