@@ -2,21 +2,8 @@
  * The inline functions of include/dock.h: each makes its call with the right buffers, and tells what the call answered. What the calls
  * themselves answer is proved and compared elsewhere. Written in what C99, C11 and C++17 have in common, and built as each.
  */
-#include <stdio.h>
-
 #include "dock.h"
-
-static unsigned passed, failed;
-
-/* One test: is it so? */
-static void expect(int so, const char *what) {
-    if (so) {
-        passed++;
-    } else {
-        failed++;
-        printf("header: not so: %s\n", what);
-    }
-}
+#include "expect.h"
 
 static int same_text(const char *found, const char *right) {
     return strcmp(found, right) == 0;
@@ -477,6 +464,5 @@ int main(void) {
     test_bench_restarts();
     test_bench_short_pages();
     test_names();
-    printf("%u passed, %u failed\n", passed, failed);
-    return failed == 0 ? 0 : 1;
+    return counted();
 }
