@@ -287,8 +287,8 @@ static void look_at_limits(struct host *h) {
 }
 
 /* A host begins with a fresh end. Both of these live for one connection, and nothing of them is kept. A terminal makes its end fresh once
- * in its life, stores every byte of the page that a call sets, and restores the end from its page whenever it comes back: the numbers
- * reserved there are what keeps old frames out. examples/power.c does that. */
+ * in its life, as it is set up, stores every byte of the page that a call sets, and restores the end from its page whenever it comes back:
+ * the numbers reserved there are what keeps old frames out. examples/power.c does that. */
 static void start_host(struct host *h, int64_t now) {
     dock_init(&h->end);
     h->now = h->began = h->heard_at = now;

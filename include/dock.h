@@ -2,7 +2,7 @@
  * The dock link: one end of a connection, and a bench of two, for programs in C and C++.
  *
  * An end is a record of 1,058 bytes and a page of 4,096 that the host keeps and lends to each call. Frames come and go as bytes: the
- * host carries them to the other end, over a mesh that may lose, repeat and reorder them, and decides when to make a timer call. Nothing
+ * host carries them to the other end, over a mesh that may lose, repeat and reorder them, and makes the timer calls. Nothing
  * is allocated, and nothing is kept between calls but the record and the page; on a bench, those of both ends, the book and its count.
  * docs/PROTOCOL.md says what an end does.
  *
@@ -16,8 +16,9 @@
  * What a host must do for it: write each byte that a call has set (must_store and must_store_at of its answer say which) to storage that
  * outlives a loss of power, and wait until it is there, AFTER the call and BEFORE its frame, or that of a later call, goes out. A cut
  * before that does no harm, since nobody has seen the number yet, and a cut after it only skips numbers. If the byte cannot be stored,
- * nothing may go out: read back the page that the storage has, and restore. Make the page of a terminal new once in its life (dock_init)
- * and never again: a second new page would bring old numbers back. examples/power.c is such a host.
+ * nothing may go out: read back the page that the storage has, and restore. Make the page of a terminal new once in its life (dock_init),
+ * as it is set up, and never at a start: a second new page would bring old numbers back, and a start that finds no page cannot tell a new
+ * terminal from a lost disk. examples/power.c is such a host.
  *
  * What a restart heals, and what not. A connection does not outlive it, nor do blocks that waited or were held. While the restarted end
  * is closed it answers what a partner still open sends by REJ, and that partner is closed too, by DOCK_CLOSED_BY_PARTNER. One that calls
@@ -91,11 +92,23 @@ enum { DOCK_NONE, DOCK_CONNECTED, DOCK_REJECTED, DOCK_CLOSED_BY_PARTNER, DOCK_CL
 enum { DOCK_CRAO = 0x01, DOCK_CRPO, DOCK_CRACK, DOCK_REJ, DOCK_RESET, DOCK_DR, DOCK_DRACK, DOCK_DATA, DOCK_ACK };
 
 /*
- * The first byte of a request. A send has a count byte and its block after it, the others are that byte alone.
+ * The first byte of a request. A send has a count byte and its block after it, the others are that byte alone. The reasons for what is said
+ * here to a host are in docs/PROTOCOL.md, "What a host does".
+ *
+ * A connect and a listen take a number each, also a call that is rejected. After a rejection wait before the next call: for a second, then
+ * twice as long each time, up to a minute or longer. A host that calls again each millisecond has used its page up in 65 seconds.
+ *
+ * A timer call is due in DOCK_CALLING, DOCK_ANSWERING, DOCK_CLOSING, and DOCK_OPEN with blocks waiting, whenever neither the state nor the
+ * number of waiting blocks (dock_waiting) has changed for one timeout. Look after each call whether one of them has. Do not go by whether
+ * something was heard: a partner that is heard all the time would put the timer call off for ever.
  *
  * A close hangs up, in an open connection or while calling. Its end is DOCK_CLOSING then, and DOCK_CLOSE_FINISHED is told when the
  * partner has heard it, or is found to have left by itself. But where the end calls and knows no partner yet (remote is 0) it is
  * DOCK_CLOSED at once, with that notice and nothing to send. In every other state a close is refused: DOCK_WRONG_STATE.
+ *
+ * Where the partner is gone for good, no request leads out of DOCK_CLOSING or DOCK_ANSWERING. dock_restore does, at the cost of a restart:
+ * what is left of sixteen numbers is skipped. And a closed end still has to hear frames, and to answer them, until its partner has been
+ * silent for several timeouts: one that missed the DRACK sends its DR again.
  */
 enum { DOCK_CONNECT = 0x40, DOCK_LISTEN, DOCK_END_LISTENING, DOCK_CLOSE, DOCK_SEND, DOCK_TIMER, DOCK_COLLECT };
 
@@ -176,7 +189,11 @@ uint8_t dock_first_frame(const uint8_t *a, size_t a_len, const uint8_t *b, size_
  */
 
 /* What a call answers. The frame to send stands in the end's own buffer until that end's next call; the block handed up stands in the
- * frame that was received, on a bench in the book, and one that is collected in the end's own buffer, until its next call too. */
+ * frame that was received, on a bench in the book, and one that is collected in the end's own buffer, until its next call too.
+ *
+ * A host does what an answer asks for in this order: it stores the byte of the page, keeps the block, and then sends the frame. The frame
+ * that comes with a block is its acknowledgement, and the partner forgets the block when it hears it: so the block has to be kept before,
+ * and to be lasting where the host promises that. */
 typedef struct dock_answer {
     uint8_t number;          /* 0, or the number of the refusal (DOCK_UNKNOWN_KIND, ..) */
     uint8_t end;             /* on a bench the end that the answer is about, DOCK_A or DOCK_B; else 0 */
@@ -200,7 +217,8 @@ typedef struct dock_end {
     uint8_t up[DOCK_BLOCK];
 } dock_end;
 
-/* Makes it a fresh end, with a new page. That is for once in a terminal's life: store the page then, before the first call. */
+/* Makes it a fresh end, with a new page. That is for once in a terminal's life, as it is set up: store the page then, before the first
+ * call. */
 static inline void dock_init(dock_end *end) {
     memset(end->page, DOCK_PAGE_NEW, sizeof end->page);
     (void)dock_restart(end->record, sizeof end->record, end->page, sizeof end->page);
