@@ -2,8 +2,8 @@
  * Power cuts: two docks, a process each, keep their pages in files, and are killed at random moments and started again.
  * Expect: no number ever comes twice, and no block is lost, doubled or out of its order within an incarnation (power.out).
  *
- *     power [--counts] [--forget] [--late] [SEED [CUTS]]     power alone is power 1 300
- *     power --set-up DIRECTORY, power --start DIRECTORY      what a terminal begins with, and no more
+ *     power [--counts] [--forget] [--late] [--hasty] [SEED [CUTS]]     power alone is power 1 300
+ *     power --set-up DIRECTORY, power --start DIRECTORY                what a terminal begins with, and no more
  *
  * Each dock calls or listens, sends blocks, closes and begins again, for as long as it lives. Between the two stands a driver: it carries
  * their frames over a mesh that loses, repeats and reorders them and brings back old ones, also those of lives long over; it kills a dock
@@ -14,12 +14,13 @@
  * A killed process is not a dead disk: what it has written is still there. So the driver also puts back, in half of those cases, a byte
  * that a dock had written and not yet synced. What a storage does with what was synced cannot be tested here.
  *
- * Two ways to do it wrong show that the driver would see it: with --forget each life starts from a new page, with --late a byte of the
- * page is stored only after the frame that uses its number went out. Either ends by "a number came twice", and the status is 1.
+ * Three ways to do it wrong show that the driver would see it: with --forget each life starts from a new page, with --late a byte of the
+ * page is stored only after the frame that uses its number went out. Either ends by "a number came twice", and the status is 1. With
+ * --hasty a block is kept only after the frame that acknowledges it went out: "a block was acknowledged before it was kept".
  *
  * With --set-up a terminal is set up, whose page is in this directory, and with --start it is started: each prints the number with which
- * its end comes back. Only --set-up makes a page, and only where there is nothing in its place. Any other trouble is told on standard
- * error, and the status is 1.
+ * its end comes back. Only --set-up makes a page, and only where there is nothing in its place. Where the end must not be used they say why
+ * on standard error, and the status is 1.
  *
  * Part 1 is the dock: come_back(), store() and obey() are there to be copied. Part 2 is the mesh, Part 3 the checks, and Part 4 cuts the
  * power.
@@ -101,9 +102,9 @@ struct dock {
     /* What the program gives it. */
     int socket;
     struct storage storage;
-    int set_up;       /* it is being set up: it has never started */
-    uint32_t calls;   /* so many of a hundred times it calls; else it listens */
-    int forget, late; /* the two ways to do it wrong */
+    int set_up;              /* it is being set up: it has never started */
+    uint32_t calls;          /* so many of a hundred times it calls; else it listens */
+    int forget, late, hasty; /* the three ways to do it wrong */
     uint64_t seed;
 
     /* How it stands. */
@@ -237,10 +238,12 @@ static void obey(struct dock *d, uint8_t request, const dock_answer *a) {
         tell_request(d, BEGUN, request, a);
     if (a->notice == DOCK_CONNECTED)
         tell(d, OPENED, a, NULL, 0);
-    if (a->block > 0)
+    if (a->block > 0 && !d->hasty)
         tell(d, HANDED_UP, a, a->block_at, a->block);
     if (a->sent > 0)
         tell(d, FRAME, a, a->sent_at, a->sent);
+    if (a->block > 0 && d->hasty)
+        tell(d, HANDED_UP, a, a->block_at, a->block);
     if (stores && d->late)
         store(d, request, a);
     if (a->state != d->state || waiting != d->waiting)
@@ -314,7 +317,8 @@ static void look_around(struct dock *d) {
 
 /* What a dock does by itself. An end that is open and hears nothing for long has a partner who may have restarted and begun something
  * new, without a word about it: so it closes. One that is answering or closing needs no patience: its partner, restarted or not,
- * ends it. */
+ * ends it. (Where a partner may be gone for good, only a restart does. And a terminal whose call was rejected waits longer than a dock
+ * here, so that its numbers last: docs/PROTOCOL.md, "What a host does".) */
 static void act(struct dock *d) {
     if (d->state == DOCK_OPEN)
         send_more(d);
@@ -405,7 +409,7 @@ static void carry(struct mesh *mesh, uint64_t *seed, const uint8_t *bytes, size_
  *
  * Blocks: what an incarnation hands up is, block by block, what its partner accepted for it. A dock tells of a block before the frame
  * goes out that has it, so the driver has heard of it before it can come up; what was accepted and not told went to nobody. What was
- * handed up and not told is the last thing of its life, and of its incarnation.
+ * handed up and not told is the last thing of its life, and of its incarnation, and was not acknowledged.
  */
 
 #define NUMBERS (DOCK_PAGE * DOCK_NUMBERS_EACH)
@@ -467,17 +471,22 @@ static void check_begun(struct history *h, const struct message *m) {
     h->incarnations[m->local].request = m->request;
 }
 
+/* The number of four bytes. */
+static uint32_t number_at(const uint8_t *bytes) {
+    return (uint32_t)bytes[0] << 24 | (uint32_t)bytes[1] << 16 | (uint32_t)bytes[2] << 8 | bytes[3];
+}
+
 /* A frame went out. That a closed end fell back is kept for the end: if it then begins anew, that is what counts. */
 static void check_frame(struct history *h, const uint8_t *frame) {
-    uint32_t s = 0;
-    for (int i = 1; i <= 4; i++)
-        s = s << 8 | frame[i];
+    uint32_t s = number_at(frame + 1);
     if (frame[0] == DOCK_REJ || frame[0] == DOCK_DRACK)
         h->fell_back += s < h->highest;
     else if (s < h->highest || s <= h->before)
         find(h, came_twice, s);
     else if (s != h->begun)
         find(h, "a frame came from an incarnation that was not begun", s);
+    else if (frame[0] == DOCK_ACK && number_at(frame + 9) > h->incarnations[s].handed_up)
+        find(h, "a block was acknowledged before it was kept", s);
     h->highest = s > h->highest ? s : h->highest;
 }
 
@@ -586,7 +595,7 @@ static void end_life(struct history *h) {
 
 /* How the program was called. */
 struct options {
-    int counts, forget, late;
+    int counts, forget, late, hasty;
     uint64_t seed, cuts;
 };
 
@@ -633,6 +642,7 @@ static void be_dock(struct test *t, const struct side *s, int socket, uint64_t s
     d.calls = s->calls;
     d.forget = t->options->forget;
     d.late = t->options->late;
+    d.hasty = t->options->hasty;
     d.seed = seed;
     live(&d);
 }
@@ -881,11 +891,13 @@ static int read_number(const char *text, uint64_t low, uint64_t high, uint64_t *
 static int read_options(int argc, char **argv, struct options *o) {
     int i = 1;
     for (; i < argc && argv[i][0] == '-'; i++) {
-        int counts = strcmp(argv[i], "--counts") == 0, forget = strcmp(argv[i], "--forget") == 0, late = strcmp(argv[i], "--late") == 0;
+        int counts = strcmp(argv[i], "--counts") == 0, forget = strcmp(argv[i], "--forget") == 0;
+        int late = strcmp(argv[i], "--late") == 0, hasty = strcmp(argv[i], "--hasty") == 0;
         o->counts |= counts;
         o->forget |= forget;
         o->late |= late;
-        if (!counts && !forget && !late)
+        o->hasty |= hasty;
+        if (!counts && !forget && !late && !hasty)
             return 0;
     }
     return argc - i <= 2 && (argc - i < 1 || read_number(argv[i], 0, UINT32_MAX, &o->seed)) &&
@@ -918,7 +930,7 @@ int main(int argc, char **argv) {
     if (argc == 3 && strcmp(argv[1], "--start") == 0)
         return start_terminal(argv[2], 0) ? 0 : 1;
     if (!read_options(argc, argv, &o)) {
-        fprintf(stderr, "usage: power [--counts] [--forget] [--late] [SEED [CUTS]], CUTS from 1 to 2000\n"
+        fprintf(stderr, "usage: power [--counts] [--forget] [--late] [--hasty] [SEED [CUTS]], CUTS from 1 to 2000\n"
                         "       power --set-up DIRECTORY, or power --start DIRECTORY\n");
         return 2;
     }

@@ -98,9 +98,9 @@ enum { DOCK_CRAO = 0x01, DOCK_CRPO, DOCK_CRACK, DOCK_REJ, DOCK_RESET, DOCK_DR, D
  * A connect and a listen take a number each, also a call that is rejected. After a rejection wait before the next call: for a second, then
  * twice as long each time, up to a minute or longer. A host that calls again each millisecond has used its page up in 65 seconds.
  *
- * A timer call is due in DOCK_CALLING, DOCK_ANSWERING, DOCK_CLOSING, and DOCK_OPEN with blocks waiting, whenever neither the state nor the
- * number of waiting blocks (dock_waiting) has changed for one timeout. Look after each call whether one of them has. Do not go by whether
- * something was heard: a partner that is heard all the time would put the timer call off for ever.
+ * A timer call is due in DOCK_CALLING, DOCK_ANSWERING, DOCK_CLOSING, and DOCK_OPEN with blocks waiting, whenever neither the state nor w
+ * (dock_waiting: the byte of the record at DOCK_WAITING_AT) has changed for one timeout. Look after each call whether one of them has. Do
+ * not go by whether something was heard: a partner that is heard all the time would put the timer call off for ever.
  *
  * A close hangs up, in an open connection or while calling. Its end is DOCK_CLOSING then, and DOCK_CLOSE_FINISHED is told when the
  * partner has heard it, or is found to have left by itself. But where the end calls and knows no partner yet (remote is 0) it is

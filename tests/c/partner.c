@@ -59,7 +59,7 @@ static void test_waiting(void) {
     }
 }
 
-/* The partner is gone: no request but a restart leads out of this state. The number that comes next is the first of sixteen. */
+/* The partner is gone: no request leads out of this state, and a restart does. The number that comes next is the first of sixteen. */
 static void expect_stuck(uint8_t state, uint8_t again) {
     static const uint8_t requests[] = {DOCK_CONNECT, DOCK_LISTEN, DOCK_END_LISTENING, DOCK_CLOSE, DOCK_COLLECT};
     for (size_t i = 0; i < sizeof requests; i++)
