@@ -160,7 +160,8 @@ static void dawdle(struct dock *d) {
 /*
  * When a page is made: once in a terminal's life, as it is set up, which is a command of its own. A start makes none. One that finds no
  * page cannot tell a new terminal from one whose disk was lost, was changed or is not mounted yet, and a new page would bring old numbers
- * back. So it stops, until somebody who knows has brought the page back, or sets the terminal up.
+ * back. So it stops, and who knows more decides: a terminal that never sent a frame is set up, one that did gets its own page back, or one
+ * with more 00 at its front than there ever were.
  *
  * A page that is there and cannot be read, for whatever reason, is no reason to make one, even when a terminal is set up: ENOENT alone
  * is, and not that of a link to a disk that is not mounted.

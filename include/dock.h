@@ -2,7 +2,7 @@
  * The dock link: one end of a connection, and a bench of two, for programs in C and C++.
  *
  * An end is a record of 1,058 bytes and a page of 4,096 that the host keeps and lends to each call. Frames come and go as bytes: the
- * host carries them to the other end, over a mesh that may lose, repeat and reorder them, and makes the timer calls. Nothing
+ * host carries them to the other end, over a mesh that may lose, repeat and reorder them, and decides when to make a timer call. Nothing
  * is allocated, and nothing is kept between calls but the record and the page; on a bench, those of both ends, the book and its count.
  * docs/PROTOCOL.md says what an end does.
  *

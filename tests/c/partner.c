@@ -109,7 +109,8 @@ static void test_restarts(void) {
 
 /* A partner that has not heard that its close was heard sends it again, and is answered in each of these states. */
 static void test_late_close(void) {
-    static const uint8_t requests[] = {DOCK_TIMER, DOCK_LISTEN, DOCK_CONNECT};
+    static const uint8_t requests[] = {DOCK_TIMER, DOCK_CONNECT, DOCK_LISTEN, DOCK_LISTEN};
+    static const uint8_t states[] = {DOCK_CLOSED, DOCK_CALLING, DOCK_LISTENING, DOCK_ANSWERING};
     for (size_t i = 0; i < sizeof requests; i++) {
         dock_init(&a);
         dock_ask_kind(&a, DOCK_LISTEN);
@@ -117,9 +118,11 @@ static void test_late_close(void) {
         hear(&a, DOCK_CRACK, 1, 1);
         dock_answer answer = hear(&a, DOCK_DR, 1, 1);
         expect(sends(&answer, DOCK_DRACK) && answer.notice == DOCK_CLOSED_BY_PARTNER, "the partner closes");
-        uint8_t state = dock_ask_kind(&a, requests[i]).state;
+        dock_ask_kind(&a, requests[i]);
+        if (i == 3)
+            hear(&a, DOCK_CRAO, 1, 0); /* its old call comes once more */
         answer = hear(&a, DOCK_DR, 1, 1);
-        expect(sends(&answer, DOCK_DRACK) && answer.state == state, "it asks again, and is answered");
+        expect(sends(&answer, DOCK_DRACK) && answer.state == states[i], "it asks again, and is answered");
     }
 }
 
