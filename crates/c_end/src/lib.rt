@@ -16,8 +16,8 @@ pub extern "C" fn dock_restart(rec: &mut [u8], page: &[u8]) -> u8
     ensures { λ r. ⌜ (r ≡ numberOf (restartedIn format (now (rec .entry)) (now (page .entry)))) × (now (rec .exit) ≡ recordAfter format (now (rec .entry)) (restartedIn format (now (rec .entry)) (now (page .entry)))) ⌝ }
 {
     let a = link::restart(rec, page);
-    let told = a.status;
-    told.number
+    let restarted = a.status;
+    restarted.number
 }
 
 // A request, the timer call among them: s has its octets. One octet of the page at most is set, before every other store. Answers the number; state, notice, L, D, the length of the frame sent and that
