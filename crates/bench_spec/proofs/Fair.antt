@@ -16,7 +16,7 @@ use Rattle.protocol.specs.World.{Entry, Two, DueAt}
 use Rattle.call_spec.specs.declared.Call.the-variants.{Request, Receive}
 use Rattle.call_spec.specs.Calls.{Rooms, given}
 use Rattle.call_spec.specs.Claim.{Lent, Act, call, restart, cut}
-use Rattle.link.specs.Record.{format, ends}
+use Rattle.link.specs.Record.{ends}
 use Rattle.bench_log.specs.Log.{logSize}
 use Rattle.bench_log.proofs.Log.{held}
 use Rattle.bench_spec.specs.Bench.{Bench, lentAt, At, delivery, restartAsk, octetsAsk, lineAsks, requestOfA, requestOfB, deliver, restartKind, endNamed}
@@ -43,15 +43,10 @@ gives-fair : (e : Two ends) (j : ℕ) (s : List ℕ) (room : Rooms) {i n : ℕ} 
 unfolding entry
 gives-fair e j s room x l h g = (l, if-eq (λ (y : Entry Act). DueAt ends y e) j 0 (λ k. x .by-b (h k)) (λ k. x .by-a (g k)))
 
--- a restart of an end, with room for its record
-restart-fair : (e : Two ends) (i : ℕ) (rec : List ℕ) → i ≤ 1 → format .size ≤ length rec → Fair e (i, restart rec)
+-- a restart of an end
+restart-fair : (e : Two ends) (i : ℕ) (rec : List ℕ) → i ≤ 1 → Fair e (i, restart rec)
 unfolding entry
-restart-fair e i rec h l = (h, if-eq (λ (x : Entry Act). DueAt ends x e) i 0 (λ _. l) (λ _. l))
-
--- a record of the bench is long enough
-long-at : (w : Bench) (i : ℕ) → format .size ≤ length (w .a .rec) → format .size ≤ length (w .b .rec) → format .size ≤ length (lentAt i w .rec)
-unfolding lentAt
-long-at w i a b = if-eq (λ (r : Lent). format .size ≤ length (r .rec)) i 0 (λ _. a) (λ _. b)
+restart-fair e i rec h = (h, if-eq (λ (x : Entry Act). DueAt ends x e) i 0 (λ _. tt) (λ _. tt))
 
 module _ (w : Bench) (e : Two ends) (h : Logged e (w .count) (w .log)) where
   abbrev Good : At → Type 0
@@ -73,22 +68,22 @@ module _ (w : Bench) (e : Two ends) (h : Logged e (w .count) (w .log)) where
       let t = held (w .count) n (w .log) (all-yes 13 _ _ (a .0) tt .0) in
       subst Good (a .1) (gives-fair e _ _ room (h n (t .below)) (omega arith) (λ j. omega (arith, t .sender)) (λ j. omega (arith, t .sender)), tt)
 
-  restarts-so : (s : List ℕ) → format .size ≤ length (w .a .rec) → format .size ≤ length (w .b .rec) → IfOk (restartAsk w s)
+  restarts-so : (s : List ℕ) → IfOk (restartAsk w s)
   unfolding restartAsk inRange
-  restarts-so s la lb x k =
+  restarts-so s x k =
       let a = accepted _ _ k in
       let b = all-yes 4 _ _ (a .0) tt in
       let c = both (leb requestOfA (endNamed s)) (leb (endNamed s) requestOfB) (all-yes 3 _ _ (b .1) tt .0) in
       let i : endNamed s - requestOfA ≤ 1 = omega (arith, leb-true (endNamed s) requestOfB (c .1)) in
-      subst Good (a .1) (restart-fair e _ _ i (long-at w (endNamed s - requestOfA) la lb), refl)
+      subst Good (a .1) (restart-fair e _ _ i, refl)
 
-  asks-so : (s : List ℕ) (room : Rooms) → format .size ≤ length (w .a .rec) → format .size ≤ length (w .b .rec) → IfOk (octetsAsk w s room)
+  asks-so : (s : List ℕ) (room : Rooms) → IfOk (octetsAsk w s room)
   unfolding octetsAsk
-  asks-so s room la lb =
+  asks-so s room =
       if-eq IfOk (kindOf s) requestOfA (λ _. is-ok _ (asks-fair e 0 (drop 1 s) room (omega arith), tt))
       (λ _. if-eq IfOk (kindOf s) requestOfB (λ _. is-ok _ (asks-fair e 1 (drop 1 s) room (omega arith), tt))
       (λ _. if-eq IfOk (kindOf s) deliver (λ _ x k. delivery-fair (field 2 1 s) room x (passing _ k .1))
-      (λ _. if-eq IfOk (kindOf s) restartKind (λ _. restarts-so s la lb)
+      (λ _. if-eq IfOk (kindOf s) restartKind (λ _. restarts-so s)
       (λ _. not-ok 3))))
 
   pub asked-fair : (line : List ℕ) (room : Rooms) (x : At) → lineAsks w line room ≡ ok x → Good x × (logSize ≤ length (w .log))
@@ -100,4 +95,4 @@ module _ (w : Bench) (e : Two ends) (h : Logged e (w .count) (w .log)) where
       let c = all-yes 11 _ _ (b .1) tt in
       let d = all-yes 11 _ _ (c .1) tt in
       let l = all-yes 11 _ _ (d .1) tt in
-      (asks-so (unhex line) room (leb-true _ _ (a .0)) (leb-true _ _ (b .0)) x (p .1), leb-true logSize (length (w .log)) (l .0))
+      (asks-so (unhex line) room x (p .1), leb-true logSize (length (w .log)) (l .0))

@@ -26,22 +26,23 @@ pub record Lent : Type 0 where
 abbrev pub lent : List ℕ → List ℕ → Lent
 lent rec page = record { rec = rec; page = page }
 
--- What stands in a list at an end: a call; a restart, with a buffer for the record that may hold anything; or a call that is cut after its store,
--- and the restart after it. (A cut before the store is a restart as any other.)
+-- What stands in a list at an end: a call; a restart, with a buffer for the record that may have any length and hold anything; or a call that is cut after
+-- its store, and the restart after it. (A cut before the store is a restart as any other.)
 pub data Act : Type 0 where
   call : Arguments → Act
   restart : List ℕ → Act
   cut : Arguments → List ℕ → Act
 
--- Any call may stand anywhere, but the octets of a frame received equal those of a frame that an earlier call at the other end sent; and an end
--- restarts with room for a record.
+-- Any call may stand anywhere, but the octets of a frame received equal those of a frame that an earlier call at the other end sent.
 abbrev pub DueOctets : History → Call → List ℕ → Type 0
 DueOctets other Request s = Unit {0}
 DueOctets other Receive s = List·Memᴰ s (map encode (sent other))
 
+-- So may any restart: one whose buffer is too short for a record is refused by 11, and leaves the record and the page. After a cut an end has its page
+-- alone, and does nothing before it has restarted; that restart stands with the cut, so it has room for a record.
 abbrev pub Due : Format → History → Act → Type 0
 Due format other (call c) = DueOctets other (c .call) (c .octets)
-Due format other (restart rec) = format .size ≤ length rec
+Due format other (restart rec) = Unit {0}
 Due format other (cut c rec) = format .size ≤ length rec
 
 -- what a cut call says, by its octets and by what it comes to: one that is refused stores nothing, and is a restart

@@ -93,7 +93,7 @@ module _ {a b : History} (i : Roomy a b) (r : Held) (k : Packs r (now a)) where
 
   due : (c : Act) → Due b c → calls.Due format b (onOctets c)
   due (call c) d = d
-  due restart d = enough
+  due restart d = tt
   due (cut c) d = enough
 
   as-octets : (c : Arguments) → outcomeOf (r .endpoint) (r .page) c ≡ performed format rec (r .page) c
