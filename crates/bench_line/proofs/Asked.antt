@@ -15,6 +15,7 @@ use Rattle.hex.proofs.Digits.{length-unhex}
 use Rattle.call_spec.specs.Calls.{Rooms}
 use Rattle.bench_spec.specs.Bench.{Bench, At, neither, bufferQuestions, roomQuestions, soundQuestions, octetsAsk, restartedEnd, lineAsks}
 use Rattle.bench_checks.specs.Ready.{readyQuestions}
+use Rattle.bench_line.specs.Performed.{EmptyLineRefused}
 use Rattle.bench_line.specs.Internal.{readAsks}
 
 -- what is refused by a number is refused by it, whatever follows
@@ -58,7 +59,7 @@ module _ (w : Bench) (line : List ℕ) (room : Rooms) where
       ∙ ap (λ (m : ℕ). refusing (first (readyQuestions m w room)) (refused (suc k))) (eq-no _ _ _ _ (λ z. omega (arith, h, z)))
 
 -- an empty line keeps 1: it asks how an end stands where there is one end (document 02, N5)
-none-refused : (w : Bench) (room : Rooms) → first (readyQuestions neither w room) ≡ 0 → lineAsks w [] room ≡ refused 1
+pub none-refused : EmptyLineRefused
 none-refused w room y = turned-away w [] room 0 reading.none-refused ∙ passes-on (refused 1) y
 
 -- a line has at least one octet

@@ -103,7 +103,7 @@ adds x other {l} count c {y} e f held m =
       leaves = leaves-so l c f (r .0) ∙ ap₂ (λ (z : Lent) (o : Outcome Step). ends .leaves z c o) e (sym k);
       place-left = r .1;
       grown = grows c x k;
-      short = λ f t. encode-short (limited (held .both) .fits f (has-sent c x k f t .0));
+      short = λ f t. encode-short f (limited (held .both) .fits f (has-sent c x k f t .0));
       among = λ f t. has-sent c x k f t .1;
     }
 

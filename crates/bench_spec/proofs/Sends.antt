@@ -1,15 +1,15 @@
 -- What an accepted call adds to what its end has sent, and how long a frame is.
-use Prim.Native.Nat.{ℕ, _≤_}
+use Prim.Native.Nat.{ℕ}
 use mathlib.Core.Path.{_≡_, refl, ap}
 use mathlib.Core.List.{List, map, List·Memᴰ, List·Memᴰ·head, List·Memᴰ·tail}
 use native.Mathlib.Omega.{arith}
-use lib.ListN.{length, length-append}
-use Rattle.octets.specs.Sizes.{longestFrame}
+use lib.ListN.{length-append}
 use Rattle.octets.specs.Test.{ok, mapped}
 use Rattle.octets.proofs.Test.{passing, then-of}
 use Rattle.octets.proofs.Octets.{length-octets}
 use Rattle.frame.specs.Frame.{Frame}
-use Rattle.frame.specs.Fits.{Fits, control-fits, data-fits, ack-fits}
+use Rattle.frame.specs.Fits.{control-fits, data-fits, ack-fits}
+use Rattle.frame.specs.Claim.{EncodeShort}
 use Rattle.frame.specs.Layout.{encode}
 use Rattle.frame.proofs.Writing.{head-length, encode-control, encode-ack, encode-data}
 use Rattle.protocol.specs.Table.{Sent, nothing, frame, Step}
@@ -49,8 +49,8 @@ pub has-sent : (c : Act) (e : End Lent) {y : Step} → ends .comes (e .rec) c �
 has-sent c e {y} h f t = rw (gains c e h, t) (List·Memᴰ·head refl, List·Memᴰ·head refl)
 
 -- a frame has at most 78 octets
-pub encode-short : {f : Frame} → Fits f → length (encode f) ≤ longestFrame
-encode-short (control-fits k {s} {r} h g _ _ _ _) = rw (encode-control k s r h g) (omega (arith, head-length k s r))
-encode-short (data-fits {s} {r} {n} {b} _ _ _ _ _ _ h) =
+pub encode-short : EncodeShort
+encode-short _ (control-fits k {s} {r} h g _ _ _ _) = rw (encode-control k s r h g) (omega (arith, head-length k s r))
+encode-short _ (data-fits {s} {r} {n} {b} _ _ _ _ _ _ h) =
     rw (encode-data s r n b h, length-append, length-append, length-append) (omega (arith, head-length 8 s r, length-octets 4 n))
-encode-short (ack-fits {s} {r} {n} _ _ _ _ _) = rw (encode-ack s r n, length-append) (omega (arith, head-length 9 s r, length-octets 4 n))
+encode-short _ (ack-fits {s} {r} {n} _ _ _ _ _) = rw (encode-ack s r n, length-append) (omega (arith, head-length 9 s r, length-octets 4 n))

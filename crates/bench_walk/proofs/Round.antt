@@ -26,7 +26,8 @@ use Rattle.protocol.proofs.Rank.{Plain, no-frame, of-control, of-ack, descends,
 use Rattle.call_spec.specs.declared.Call.the-variants.{Receive}
 use Rattle.call_spec.specs.Calls.{Arguments, given, reads, does, ownQuestions, asked, wire, performed, recordAfter}
 use Rattle.call_spec.specs.Claim.{Lent, call}
-use Rattle.call_spec.proofs.Holding.{Holding, written}
+use Rattle.call_spec.specs.Holding.{Holding}
+use Rattle.call_spec.proofs.Holding.{written}
 use Rattle.call_spec.proofs.Holding as held
 use Rattle.link.specs.Record.{format}
 use Rattle.link.specs.Lent.{lentAfter}
@@ -133,7 +134,7 @@ module _ (r : Lent) (k : HeldBy r (heldIn r)) (s : List ℕ) (o : Octets s) (use
       subst (Heard (heldIn r)) b (hears (heldIn r) (readFrame s))
 
   after : HeldBy (lentAfter r (ok y)) (y .endpoint)
-  after = goes-on k (received s) o (ok y) accepted
+  after = goes-on _ _ _ k (received s) o (ok y) accepted
 
   -- an end that is left as it is has the same record
   unchanged : y .endpoint ≡ heldIn r → recordAfter format (r .rec) (ok y) ≡ r .rec

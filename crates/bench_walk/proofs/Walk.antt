@@ -30,7 +30,7 @@ use Rattle.bench_query.specs.declared.Found.the-variants.{Frame, Nothing, Refus
 use Rattle.bench_query.specs.Found.{changes, equal, delivers, questions, firstFrame, Means}
 use Rattle.bench_query.proofs.Delivery.{full, ready, not-held, to-a, to-b}
 use Rattle.bench_query.proofs.Lowest.{so-equal, means}
-use Rattle.bench_walk.specs.Walk.{deliveryLine, delivered, walked, deliveriesLeft, Lendable, ended, WalkEnds}
+use Rattle.bench_walk.specs.Walk.{deliveryLine, delivered, walked, deliveriesLeft, Lendable, ended, EveryWalkEnds}
 use Rattle.bench_walk.proofs.Line.{asks}
 use Rattle.bench_walk.proofs.Round.{heldIn, received, Kept, Goes, at-a, at-b}
 
@@ -136,7 +136,7 @@ rounds (suc n) w k h =
     ap (λ (f : Found). firstFrame (walked n (delivered f w))) e ∙ rounds n (delivered (Frame m) w) (g .kept) (omega (arith, g .less)))
     (firstFrame w) refl
 
-pub walk-ends : (w : Bench) → Lendable w → WalkEnds w
+pub walk-ends : EveryWalkEnds
 unfolding delivered ended deliveriesLeft
 walk-ends w l = record {
   accepted = λ n e. round w (kept e) n e .accepted;

@@ -52,10 +52,14 @@ ended (Frame n) = Nothing
 ended Nothing = Nothing
 ended (Refused k) = Refused k
 
--- The claim, of every bench of octets: each line of the walk is accepted, and leaves fewer deliveries; so when all that are left are made it has ended,
+-- Of a bench: each line of the walk is accepted, and leaves fewer deliveries; so when all that are left are made it has ended,
 -- and however long it goes on. They are at most three for each place left and eighteen more, since an open end has a rank of at most nine.
 pub record WalkEnds (w : Bench) : Type 0 where
   pub accepted : (n : ℕ) → firstFrame w ≡ Frame n → numberOf (comes w (lineAsks w (deliveryLine n .0) (deliveryLine n .1))) ≡ 0
   pub fewer : (n : ℕ) → firstFrame w ≡ Frame n → deliveriesLeft (delivered (Frame n) w) < deliveriesLeft w
   pub ends : (n : ℕ) → deliveriesLeft w ≤ n → firstFrame (walked n w) ≡ ended (firstFrame w)
   pub at-most : first (questions w) ≡ 0 → deliveriesLeft w ≤ 3 * (places - w .count) + 18
+
+-- The claim, of every bench of octets.
+abbrev pub EveryWalkEnds : Type 0
+EveryWalkEnds = (w : Bench) → Lendable w → WalkEnds w

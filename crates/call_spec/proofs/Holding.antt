@@ -1,4 +1,4 @@
--- A record that holds a sound endpoint whose numbers have 32 bits, and its page, in buffers that may be longer; and what calls leave of them.
+-- What a record that holds a sound endpoint, and its page, pass, and what calls leave of them.
 use Prim.Native.Nat.{ℕ, _≤_}
 use mathlib.Core.Path.{_≡_, sym, ap, _∙_}
 use mathlib.Core.Bool.{true}
@@ -18,21 +18,7 @@ use Rattle.protocol.specs.Limits.{Bounded, LeavesSound, LeavesBounded}
 use Rattle.protocol.proofs.Calls.{Next}
 use Rattle.call_spec.specs.Calls.{Format, recordAfter, pageAfter}
 use Rattle.call_spec.specs.Claim.{lent, Passes, Lawful}
-
--- the octets of an endpoint, and octets after it
-abbrev pub Lies : Format → List ℕ → Endpoint → Type 0
-Lies format rec e = (rest : List ℕ) × (rec ≡ format .octets e ++ rest)
-
--- the page that goes with its number
-abbrev pub GoesWith : List ℕ → Endpoint → Type 0
-GoesWith page e = (more : List ℕ) × (page ≡ pageOf (usedFor (e .local)) ++ more)
-
-pub record Holding (format : Format) (rec page : List ℕ) (e : Endpoint) : Type 0 where
-  pub is-sound : sound e ≡ true
-  pub bounded : Bounded e
-  pub last : e .local ≤ lastIncarnation
-  pub lies : Lies format rec e
-  pub paged : GoesWith page e
+use Rattle.call_spec.specs.Holding.{GoesWith, Holding}
 
 -- the one store keeps the page
 pub stored : {page : List ℕ} {e x : Endpoint} → GoesWith page e → Next e x → e .local ≤ lastIncarnation → GoesWith (reserving (x .local) page) x

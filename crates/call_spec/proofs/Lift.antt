@@ -35,7 +35,8 @@ use Rattle.call_spec.specs.declared.Call.{Call}
 use Rattle.call_spec.specs.declared.Call.the-variants as which
 use Rattle.call_spec.specs.Calls.{Arguments, reads, said, does, asked, restarting, Format, performed, restartedIn, recordAfter, pageAfter}
 use Rattle.call_spec.specs.Claim.{Lent, lent, Act, call, restart, cut, DueOctets, Due, cutSays, renewed, ends, NeverRefused, Lawful}
-use Rattle.call_spec.proofs.Holding.{Lies, GoesWith, Holding, stored, keeps, passes-both, written}
+use Rattle.call_spec.specs.Holding.{Lies, GoesWith, Holding}
+use Rattle.call_spec.proofs.Holding.{stored, keeps, passes-both, written}
 
 -- a frame whose octets are among those sent
 among : (s : List ℕ) (fs : List Frame) → List·Memᴰ s (map encode fs) → (f : Frame) × List·Memᴰ f fs × (s ≡ encode f)
@@ -73,7 +74,7 @@ said-fair other fits which.Request s d q e =
 said-fair other fits which.Receive s d q e =
     let m = among s (sent other) d in
     let r = of-mapped protocol.deliver (readFrame s) q e in
-    let f : r .0 ≡ m .0 = let k : ok (r .0) ≡ ok (m .0) = sym (r .1) ∙ ap readFrame (m .2) ∙ written-reads (fits (m .0) (m .1)) in cc in
+    let f : r .0 ≡ m .0 = let k : ok (r .0) ≡ ok (m .0) = sym (r .1) ∙ ap readFrame (m .2) ∙ written-reads (m .0) (fits (m .0) (m .1)) in cc in
     subst (λ (x : protocol.Call). Sized other (protocol.call x)) (sym (r .2 ∙ ap protocol.deliver f)) (refl, m .1)
 
 pub call-fair : (a b : History) → Roomy a b → (c : Arguments) → DueOctets b (c .call) (c .octets) → (q : protocol.Call) → said c ≡ ok q → Sized b (protocol.call q)

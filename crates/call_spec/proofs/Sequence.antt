@@ -7,7 +7,7 @@ use mathlib.Core.List.{List, [], _∷_, _++_, List·Memᴰ, List·Memᴰ·head, 
 use native.Mathlib.Omega.{arith}
 use borrow.Author.Tests.{le-leb}
 use lib.ListN.{length, getD, replicate}
-use Rattle.octets.specs.Sizes.{longestFrame, longestBlock, heldSize, lastNumber, pageSize, lastIncarnation}
+use Rattle.octets.specs.Sizes.{longestFrame, longestBlock, heldSize, lastNumber, pageSize}
 use Rattle.octets.specs.Test.{when, ifEq, inRange, first, Outcome, ok, outcome, refusing, mapped, andThen}
 use Rattle.octets.specs.Octets.{size}
 use Rattle.frame.specs.Frame.{Block, COLLECT, dataFrame, collect}
@@ -15,7 +15,7 @@ use Rattle.frame.specs.Fits.{Fits, data-fits}
 use Rattle.frame.specs.Layout.{isFrame, isRequest, hasBlock, layout, numbersSize}
 use Rattle.frame.specs.Read.{kindOf, afterHead, requestAt, fixedOk, readRequest}
 use Rattle.frame.proofs.RoundTrip.{written-reads}
-use Rattle.protocol.specs.Endpoint.{established, Endpoint, noneHeld, sized, sound}
+use Rattle.protocol.specs.Endpoint.{established, Endpoint, sized, sound}
 use Rattle.protocol.specs.Table.{Step}
 use Rattle.protocol.specs.History.{ask, deliver}
 use Rattle.protocol.specs.History as protocol
@@ -30,8 +30,9 @@ use Rattle.call_spec.specs.declared.Call.{Call}
 use Rattle.call_spec.specs.declared.Call.the-variants as call
 use Rattle.call_spec.specs.Calls.{Arguments, Rooms, given, reads, said, does, blockRoomOk, asked, Format, performed, recordAfter, pageAfter}
 use Rattle.call_spec.specs.Claim.{Lawful}
-use Rattle.call_spec.proofs.Holding.{Holding, long, passes, keeps, page-enough, goes, leaves}
-use Rattle.call_spec.specs.Sequence.{comesUp, arrival, overtaking, InSequence}
+use Rattle.call_spec.specs.Holding.{Holding, PerformsAsSaid}
+use Rattle.call_spec.specs.Sequence.{comesUp, arrival, overtaking, EightComeUp}
+use Rattle.call_spec.proofs.Holding.{long, passes, keeps, page-enough, goes, leaves}
 
 pub has-room : (c : Call) (n : ℕ) → longestBlock ≤ n → blockRoomOk c n ≡ true
 unfolding blockRoomOk
@@ -39,12 +40,10 @@ has-room call.Request n h = le-leb longestBlock n h
 has-room call.Receive n h = refl
 
 module _ (format : Format) (law : Lawful format) where
-  -- A call on the record of a sound endpoint does what the protocol's call does that its octets say: so what holds of the one, the cases
-  -- at the edges among it, holds of the other.
-  pub performs : {rec page : List ℕ} {e : Endpoint} → Holding format rec page e → (c : Arguments) {x : protocol.Call}
-      → said c ≡ ok x → longestFrame ≤ c .room → longestBlock ≤ c .blockRoom → performed format rec page c ≡ protocol.perform x e
+  -- a call on the record of a sound endpoint does what the protocol's call does that its octets say
+  pub performs : PerformsAsSaid format
   unfolding performed asked does refusing andThen first when
-  performs {rec} {page} k c h room blockRoom =
+  performs rec page e k c x h room blockRoom =
       rw (le-leb (format .size) (length rec) (long format law k), le-leb longestFrame (c .room) room, has-room (c .call) (c .blockRoom) blockRoom, le-leb pageSize (length page) (page-enough format law k), passes format law k, keeps format law k, goes format law k, h) refl
 
   -- the calls of one list say those of the other
@@ -61,7 +60,7 @@ module _ (format : Format) (law : Lawful format) where
   same-up [] (q ∷ qs) y k = absurd y
   same-up (c ∷ cs) [] y k = absurd y
   same-up (c ∷ cs) (q ∷ qs) y {rec} {page} {e} k =
-      let p = performs k c (y .0 .0) (y .0 .2) (y .0 .3) in
+      let p = performs rec page e k c q (y .0 .0) (y .0 .2) (y .0 .3) in
       let o = protocol.perform q e in
       let l = leaves format law k o (call-sound q e (k .is-sound) (y .0 .1)) (call-bounded q e (k .is-sound) (k .bounded) (y .0 .1)) (next-on q e) in
       ap (λ (x : Outcome Step). upOf x ++ comesUp format cs (recordAfter format rec x) (pageAfter page x)) p
@@ -89,7 +88,7 @@ module _ (format : Format) (law : Lawful format) where
 
       arrives : (i : ℕ) → i < heldSize → reads call.Receive (arrival r e bs i .octets) ≡ ok (protocol-sequence.arrival e bs i)
       unfolding reads mapped
-      arrives i h = ap (mapped deliver) (written-reads (fits i h))
+      arrives i h = ap (mapped deliver) (written-reads _ (fits i h))
 
       says-all : (order : List ℕ) → ((i : ℕ) → List·Memᴰ i order → i < heldSize) → Says (overtaking r e bs order) (protocol-sequence.overtaking e bs order)
       says-all [] only = says-collects 7
@@ -97,10 +96,10 @@ module _ (format : Format) (law : Lawful format) where
           let h = only j (List·Memᴰ·head refl) in
           ((arrives j h, fits j h, frames, blocks), says-all order (λ i m. only i (List·Memᴰ·tail m)))
 
-  pub in-sequence : (e : Endpoint) → sound e ≡ true → Bounded e → e .local ≤ lastIncarnation → e .state ≡ established → e .held ≡ noneHeld → e .delivered + 7 < lastNumber → InSequence format e
-  in-sequence e s b last open-is none numbers = record {
+  pub in-sequence : EightComeUp format
+  in-sequence e t = record {
     comes = λ r frames blocks rest more bs order l8 sz o.
-        same-up (overtaking r e bs order) (protocol-sequence.overtaking e bs order) (says-all r frames blocks e s b open-is numbers bs l8 sz order (o .only))
-        (record { is-sound = s; bounded = b; last = last; lies = (rest, refl); paged = (more, refl) })
-        ∙ proved.in-sequence e open-is none .comes bs order l8 sz o;
+        same-up (overtaking r e bs order) (protocol-sequence.overtaking e bs order) (says-all r frames blocks e (t .is-sound) (t .bounded) (t .holds-none .is-open) (t .numbers) bs l8 sz order (o .only))
+        (record { is-sound = t .is-sound; bounded = t .bounded; last = t .last; lies = (rest, refl); paged = (more, refl) })
+        ∙ proved.in-sequence e (t .holds-none) .comes bs order l8 sz o;
   }

@@ -7,7 +7,7 @@ use lib.ListN.{length}
 use lib.Dec.{leb}
 use Rattle.octets.specs.Sizes.{longestFrame, longestBlock, pageSize}
 use Rattle.octets.specs.Test.{Question, first, Outcome, refused, ok, refusing, mapped, andThen}
-use Rattle.octets.specs.Octets.{left}
+use Rattle.octets.specs.Octets.{left, Octets}
 use Rattle.frame.specs.Layout.{encode}
 use Rattle.frame.specs.Read.{readFrame, readRequest}
 use Rattle.protocol.specs.Endpoint.{Endpoint}
@@ -25,6 +25,11 @@ pub record Arguments : Type 0 where
   pub octets : List ℕ
   pub room : ℕ
   pub blockRoom : ℕ
+
+-- what it is given: the octets of a frame are octets
+abbrev pub InOctets : Call → List ℕ → Type 0
+InOctets Request s = Unit {0}
+InOctets Receive s = Octets s
 
 -- the lengths of both buffers
 pub record Rooms : Type 0 where

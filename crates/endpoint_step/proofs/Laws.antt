@@ -6,7 +6,6 @@ use mathlib.Core.Bool.{Bool, true}
 use mathlib.Core.List.{List}
 use native.Mathlib.Omega.{arith}
 use Rattle.octets.specs.Test.{first, Outcome, refused, ok, mapped, andThen}
-use Rattle.octets.specs.Octets.{Octets}
 use Rattle.octets.proofs.Test.{passing}
 use Rattle.frame.specs.Read.{readFrame, readRequest}
 use Rattle.frame.proofs.Fits.{read-fits}
@@ -21,7 +20,7 @@ use Rattle.endpoint.specs.View.{pack, view}
 use Rattle.endpoint.specs.Sound.{sound}
 use Rattle.call_spec.specs.declared.Call.{Call}
 use Rattle.call_spec.specs.declared.Call.the-variants as call
-use Rattle.call_spec.specs.Calls.{Arguments, reads, does, ownQuestions, asked}
+use Rattle.call_spec.specs.Calls.{Arguments, InOctets, reads, does, ownQuestions, asked}
 use Rattle.call_spec.proofs.Lift.{read-sized}
 use Rattle.endpoint.proofs.Packs.{Long}
 use Rattle.endpoint.proofs.Sounds.{view-sound}
@@ -42,11 +41,6 @@ pub record Accepted (fine : Bool) (a : abstract.Endpoint) (x : Step) : Type 0 wh
   pub call : protocol.Call
   pub readable : Readable call
   pub performs : perform call a ≡ ok x
-
--- what a call is given: the octets of a frame are octets
-abbrev pub InOctets : Call → List ℕ → Type 0
-InOctets call.Request s = Unit {0}
-InOctets call.Receive s = Octets s
 
 -- what an accepted call performs was read
 performs : (c : Call) (s : List ℕ) (a : abstract.Endpoint) → InOctets c s → {x : Step} → does c s a ≡ ok x

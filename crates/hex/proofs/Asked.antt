@@ -1,7 +1,7 @@
 -- What reading a line into a buffer for the longest frame says of questions 1 and 2, and of the octets read.
 use Prim.Native.Nat.{ℕ, zero, suc, _≤_}
 use mathlib.Core.Path.{_≡_, refl, sym, ap, _∙_}
-use mathlib.Core.List.{List, []}
+use mathlib.Core.List.{List}
 use native.Mathlib.Omega.{arith}
 use lib.ListN.{length, take}
 use Rattle.octets.specs.Sizes.{longestFrame}
@@ -9,10 +9,11 @@ use Rattle.octets.specs.Test.{when, inRange, first, Outcome, outcome}
 use Rattle.octets.specs.Octets.{put, left}
 use Rattle.octets.proofs.Buffers.{put-fits, taken}
 use Rattle.hex.specs.Line.{unhex, lengthOk, lineQuestions, readInto, lineOf}
+use Rattle.hex.specs.Claim.{EmptyRefused}
 use Rattle.hex.specs.declared.Line.the-variants.{Decoded, Refused}
 
 -- reading as such refuses a line of no characters by 1
-pub none-refused : first (lineQuestions []) ≡ 1
+pub none-refused : EmptyRefused
 unfolding first when lengthOk inRange
 none-refused = refl
 

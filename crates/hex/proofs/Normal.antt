@@ -10,16 +10,17 @@ use Rattle.octets.specs.Test.{when}
 use Rattle.octets.specs.Octets.{Octets}
 use Rattle.octets.proofs.Test.{split, both, joined}
 use Rattle.hex.specs.Line.{isCapital, isDigit, value, hex, unhex, small, normal, all, noCapitals, lineQuestions, readLine}
+use Rattle.hex.specs.Claim.{WrittenPlain, PlainNormal, NormalTwice, ReadAlike}
 use Rattle.hex.proofs.Digits.{value-capital, value-small, capital-range, after-capitals, capital-digit, letter-digit, shown}
 
 -- what is written has no capitals
-pub written-plain : (s : List ℕ) → Octets s → noCapitals (hex s) ≡ true
+pub written-plain : WrittenPlain
 unfolding hex all Octets
 written-plain [] o = refl
 written-plain (b ∷ s) o = rw (shown (b / 16) (omega (arith, o 0)) .plain, shown (b % 16) (omega arith) .plain) (written-plain s (λ i. o (suc i)))
 
 -- a line without capitals is its own normal form
-pub plain-normal : (l : List ℕ) → noCapitals l ≡ true → normal l ≡ l
+pub plain-normal : PlainNormal
 unfolding all small when
 plain-normal [] h = refl
 plain-normal (c ∷ l) h =
@@ -40,7 +41,7 @@ normal-plain [] = refl
 normal-plain (c ∷ l) = joined (small-plain c) (normal-plain l)
 
 -- so the normal form of a normal form is itself
-pub normal-twice : (l : List ℕ) → normal (normal l) ≡ normal l
+pub normal-twice : NormalTwice
 normal-twice l = plain-normal (normal l) (normal-plain l)
 
 -- a character is asked, and counts, as the same letter made small
@@ -83,5 +84,5 @@ unfolding readLine
 read-normal l = rw (asked-alike l, unhex-normal l) refl
 
 -- lines with one normal form read as the same octets, or are refused by the same number
-pub read-alike : (k l : List ℕ) → normal k ≡ normal l → readLine k ≡ readLine l
+pub read-alike : ReadAlike
 read-alike k l e = sym (read-normal k) ∙ ap readLine e ∙ read-normal l

@@ -21,7 +21,7 @@ use Rattle.protocol.proofs.Theorem as protocol-theorem
 use Rattle.call_spec.specs.Calls.{Arguments, said, asked, restarting, performed, restartedIn, pageAfter}
 use Rattle.call_spec.specs.Claim.{Lent, cutSays, renewed}
 use Rattle.call_spec.specs.Claim as calls
-use Rattle.call_spec.proofs.Holding.{GoesWith}
+use Rattle.call_spec.specs.Holding.{GoesWith}
 use Rattle.call_spec.proofs.Lift.{LiesIn, comes, lies}
 use Rattle.endpoint.specs.declared.Endpoint.{Endpoint}
 use Rattle.endpoint.specs.View.{pack}
@@ -33,15 +33,14 @@ use Rattle.endpoint_step.specs.Calls.{outcomeOf, stepAnswerOf, Advances}
 use Rattle.link.specs.Record.{format}
 use Rattle.link.specs.Record as link
 use Rattle.link.proofs.Demand.{lawful}
-use Rattle.host.specs.Hosts.{Held, paged, Act, call, restart, cut, Due, pageLeft, ends}
+use Rattle.host.specs.Hosts.{Held, paged, Act, call, restart, cut, Due, pageLeft, ends, AsInOctets, RestartsAsInOctets}
 
 -- the octets of a sound endpoint are long enough for a record
 long : (e : abstract.Endpoint) (rest : List ℕ) → abstract.sound e ≡ true → Bounded e → recordSize ≤ length (encode (pack e) ++ rest)
 long e rest s b = omega (arith, length-append (encode (pack e)) rest, lawful .long e s b)
 
 -- a call on the struct of a sound endpoint comes to what the call on its octets comes to, with the same page
-pub alike : (e : abstract.Endpoint) (rest page : List ℕ) → abstract.sound e ≡ true → Bounded e → (c : Arguments)
-    → performed format (encode (pack e) ++ rest) page c ≡ outcomeOf (pack e) page c
+pub alike : AsInOctets
 unfolding performed refusing first when outcomeOf
 alike e rest page s b c =
     rw (le-leb recordSize (length (encode (pack e) ++ rest)) (long e rest s b))
@@ -49,7 +48,7 @@ alike e rest page s b c =
     ∙ ap (λ z. asked (sound (pack e)) page z c) (lawful .keeps e rest s b ∙ sym (held e s)))
 
 -- and so does a restart, in a buffer that is long enough
-pub alike-restarts : (rec page : List ℕ) → recordSize ≤ length rec → restartedIn format rec page ≡ restarting page
+pub alike-restarts : RestartsAsInOctets
 unfolding restartedIn refusing first when
 alike-restarts rec page l = rw (le-leb recordSize (length rec) l) refl
 

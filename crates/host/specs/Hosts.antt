@@ -1,19 +1,24 @@
 -- Hosts that hold their ends' records as structs, each with its page, and call them with octets: a call, or a restart, leaves the record of its answer.
-use Prim.Native.Nat.{ℕ}
+use Prim.Native.Nat.{ℕ, _≤_}
 use mathlib.Core.Path.{_≡_}
+use mathlib.Core.Bool.{true}
 use mathlib.Core.List.{List, _++_}
+use lib.ListN.{length}
 use Rattle.octets.specs.Test.{Outcome, refused, ok, mapped}
 use Rattle.page.specs.Page.{newPage}
 use Rattle.protocol.specs.Endpoint.{fresh}
+use Rattle.protocol.specs.Endpoint as protocol-end
 use Rattle.protocol.specs.Table.{Step}
 use Rattle.protocol.specs.History.{History}
 use Rattle.protocol.specs.History as protocol
 use Rattle.protocol.specs.World.{Ends}
-use Rattle.call_spec.specs.Calls.{Arguments, said, restarting, pageAfter}
+use Rattle.protocol.specs.Limits.{Bounded}
+use Rattle.call_spec.specs.Calls.{Arguments, said, restarting, performed, restartedIn, pageAfter}
 use Rattle.call_spec.specs.Claim.{DueOctets, cutSays}
 use Rattle.endpoint.specs.declared.Endpoint.{Endpoint}
 use Rattle.endpoint.specs.View.{pack}
 use Rattle.endpoint_step.specs.Calls.{outcomeOf, stepAnswerOf}
+use Rattle.link.specs.Record.{format}
 
 -- what a host holds of an end
 pub record Held : Type 0 where
@@ -67,3 +72,13 @@ ends =
       leaves = λ r c o. paged (stepAnswerOf (r .endpoint) o .endpoint) (pageLeft r c o);
       Due = λ this. Due;
     }
+
+-- What is claimed beside demand 3: a call on the struct of a sound endpoint comes to what the call on its octets comes to, with the same page; and so does
+-- a restart, in a buffer that is long enough.
+abbrev pub AsInOctets : Type 0
+AsInOctets =
+    (e : protocol-end.Endpoint) (rest page : List ℕ) → protocol-end.sound e ≡ true → Bounded e → (c : Arguments)
+    → performed format (format .octets e ++ rest) page c ≡ outcomeOf (pack e) page c
+
+abbrev pub RestartsAsInOctets : Type 0
+RestartsAsInOctets = (rec page : List ℕ) → format .size ≤ length rec → restartedIn format rec page ≡ restarting page

@@ -18,13 +18,11 @@ use Rattle.line_answer.proofs.Lines.{in-room}
 use Rattle.line_answer.proofs.Runs.{Holds, fresh-holds, stays-put, line-leaves}
 use Rattle.line_split.specs.Split.{cut}
 use Rattle.line_split.proofs.Long.{asks-cut}
-use Rattle.line_io.specs.declared.Place.{Place}
-use Rattle.line_io.specs.Answering.{stateAfter, Cuts, inputText}
-use Rattle.line_io.specs.Program.{Ran, Over, concat}
+use Rattle.line_io.specs.Answering.{stateAfter, Cuts}
 use Rattle.line_io.proofs.Answers.{input-normal}
 use Rattle.line_io.proofs.Steps.{free, free-room}
 use Rattle.line_io.proofs.Program.{program-run}
-use Rattle.line.specs.Ends.{oneEnd, others}
+use Rattle.line.specs.Ends.{oneEnd, others, LeftOut, EitherCase, WholeText}
 
 -- A line counts as what is kept of it.
 asks-alike : (rec page l : List ℕ) → readyOutcome rec page (cut l) ≡ readyOutcome rec page l
@@ -45,7 +43,7 @@ unfolding lineOutcome readyOutcome
 either-case r [] = refl
 either-case r (c ∷ l) = rw (asked-alike (c ∷ l), unhex-normal (c ∷ l)) refl
 
-pub either-case-text : (input : List ℕ) → inputText oneEnd freshEnd (normal input) ≡ inputText oneEnd freshEnd input
+pub either-case-text : EitherCase
 either-case-text = input-normal oneEnd (λ r l. ap (lentAfter r) (either-case r l)) (λ r l. ap (text (r .rec)) (either-case r l)) freshEnd
 
 -- The record and the page after lines are those after them without the empty ones,
@@ -56,7 +54,7 @@ after-others {r} k ([] ∷ ls) = ap (λ (x : Lent). stateAfter oneEnd x ls) (sta
 after-others k ((c ∷ l) ∷ ls) = after-others (line-leaves k (c ∷ l)) ls
 
 -- so each line of an input is answered as if the empty ones before it were left out (document 02, N5).
-pub left-out : (ls : List (List ℕ)) (l : List ℕ) → oneEnd .says (stateAfter oneEnd freshEnd ls) l ≡ oneEnd .says (stateAfter oneEnd freshEnd (others ls)) l
+pub left-out : LeftOut
 left-out ls l = ap (λ (r : Lent). oneEnd .says r l) (after-others fresh-holds ls)
 
 -- where there is room for an answer, the line is asked
@@ -74,8 +72,6 @@ leaves rec page line out filled h w =
     let q = rw e at (w .paged) in
     λ i. record { rec = p i; page = q i }
 
--- THE theorem, of the program: from a fresh end to its end after the end of the input, however the input came in pieces, all that was handed to be
--- written is the text of the input.
-pub whole : {r : Lent} {buf line out : List ℕ} {p : Place} (w : Ran oneEnd answerRoom freshEnd r buf line out p) → p .steps ≡ 0 → Over (w .pieces)
-    → concat (w .texts) ≡ inputText oneEnd freshEnd (concat (w .pieces))
-whole w z o = program-run cuts (w .run) z o
+-- THE theorem, of the program
+pub whole : WholeText
+whole r buf line out p w z o = program-run cuts (w .run) z o

@@ -10,7 +10,7 @@ use Rattle.hex.proofs.Asked.{none-refused}
 use Rattle.protocol.specs.Endpoint.{Endpoint}
 use Rattle.protocol.specs.Table.{Step}
 use Rattle.protocol.specs.History.{Act, History, now, recorded}
-use Rattle.protocol.specs.World.{End, called}
+use Rattle.protocol.specs.World.{called}
 use Rattle.protocol.specs.Claim.{NoEndAlone, NoNumberTwice}
 use Rattle.protocol.specs.Limits.{Sized}
 use Rattle.protocol.proofs.World.{asking, Asks, Idle, Simulates, no-end-alone}
@@ -25,12 +25,12 @@ use Rattle.link.specs.Lent.{stands, lentAfter}
 use Rattle.link.proofs.Stays.{is-ready}
 use Rattle.link.proofs.Demand.{lawful}
 use Rattle.line_answer.specs.Line.{lineCall, readyOutcome, lineOutcome}
-use Rattle.line_answer.specs.Claim.{saidIn, ends}
+use Rattle.line_answer.specs.Claim.{saidIn, ends, NoTrace}
 use Rattle.line_answer.proofs.Lines.{asks-standing}
 use Rattle.line_answer.proofs.Runs.{stays-put}
 
 -- how an end stands leaves no trace in the history
-pub no-trace : (x : End Lent) → called ends [] x .history ≡ x .history
+pub no-trace : NoTrace
 unfolding called saidIn recorded refusing
 no-trace x = rw none-refused refl
 

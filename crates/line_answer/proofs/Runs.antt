@@ -12,7 +12,7 @@ use Rattle.protocol.specs.Endpoint.{Endpoint, fresh}
 use Rattle.protocol.specs.Table.{Step}
 use Rattle.call_spec.specs.Calls.{performed, recordAfter, pageAfter}
 use Rattle.call_spec.specs.Claim.{Lent, lent}
-use Rattle.call_spec.proofs.Holding.{Holding}
+use Rattle.call_spec.specs.Holding.{Holding}
 use Rattle.link.specs.Record.{format, recordQuestions}
 use Rattle.link.specs.Lent.{freshRecord, lentAfter}
 use Rattle.link.proofs.Stays.{fresh-holding, in-octets, goes-on, is-ready}
@@ -49,4 +49,4 @@ module _ {r : Lent} (k : Holds r) where
       let x = lineCall (unhex l) in
       behind (first (recordQuestions (r .rec) (r .page))) _
       (λ y. behind (first (lineQuestions l)) _
-      (λ h. (_, goes-on (k .1) x (in-octets (x .call) (x .octets) (unhex-octets l (all-yes 2 _ _ (all-yes 1 _ _ h tt .1) tt .0))) (performed format (r .rec) (r .page) x) refl)))
+      (λ h. (_, goes-on _ _ _ (k .1) x (in-octets (x .call) (x .octets) (unhex-octets l (all-yes 2 _ _ (all-yes 1 _ _ h tt .1) tt .0))) (performed format (r .rec) (r .page) x) refl)))

@@ -1,24 +1,22 @@
 -- The answer to an empty line: how the end stands, and nothing moves.
-use Prim.Native.Nat.{ℕ, zero, suc, _≤_}
+use Prim.Native.Nat.{ℕ, zero, suc}
 use mathlib.Core.Path.{_≡_, refl, sym, ap, _∙_}
-use mathlib.Core.List.{List, [], _∷_, append-nil}
+use mathlib.Core.List.{List, [], append-nil}
 use lib.ListN.{length}
 use Rattle.octets.specs.Test.{first, ok, refusing, mapped, numberOf}
-use Rattle.octets.specs.Octets.{left, lay, Octets}
+use Rattle.octets.specs.Octets.{left, Octets}
 use Rattle.protocol.specs.Table.{noticeNumber}
 use Rattle.call_spec.specs.Calls.{wire, recordAfter, pageAfter}
 use Rattle.call_spec.specs.Answers.{noticeOf, sentIn, blockIn, blockOf}
 use Rattle.endpoint.specs.View.{pack, view}
-use Rattle.endpoint.specs.Record.{decode}
 use Rattle.link.specs.Record.{format, recordQuestions}
 use Rattle.link.specs.Lent.{toldOf, statusOf, stands}
 use Rattle.link.proofs.Stays.{holding}
 use Rattle.link.proofs.Standing.{stands-still}
-use Rattle.answer_text.specs.declared.Output.{Output}
-use Rattle.answer_text.specs.Text.{asLine, counted, answerOctets, answerLine, frameLine, textOf, outputOf, answerRoom, Begins}
+use Rattle.answer_text.specs.Text.{asLine, counted, answerOctets, answerLine, frameLine, textOf, outputOf, Begins}
 use Rattle.answer_text.proofs.Text.{length-told}
 use Rattle.line_answer.specs.Line.{readyOutcome, lineOutcome}
-use Rattle.line_answer.specs.Text.{text, standing, recordLeft, pageLeft, LineAnswered, Stood}
+use Rattle.line_answer.specs.Text.{text, standing, recordLeft, pageLeft, EmptyAnswered, StandingSays, Undisturbed, PageUndisturbed}
 use Rattle.line_answer.specs.Internal.{Gives}
 use Rattle.line_answer.proofs.Lines.{asked-of, page-still, asks-standing, in-room}
 
@@ -31,10 +29,9 @@ module _ (rec : List ℕ) where
   pub standing-long : length (standing rec) ≡ 23
   standing-long = ap length standing-is ∙ length-told (statusOf rec (ok (stands rec)))
 
-  -- 80 (hexadecimal), for number 0; the record's state; notice 0; its L and D
-  standing-says : standing rec ≡ asLine (lay (1 ∷ 1 ∷ 1 ∷ 4 ∷ 4 ∷ []) (128 ∷ decode rec .state ∷ 0 ∷ decode rec .local ∷ decode rec .remote ∷ []))
-  unfolding statusOf toldOf numberOf noticeOf noticeNumber pack view answerOctets counted
-  standing-says = standing-is ∙ ap asLine (append-nil _)
+pub standing-says : StandingSays
+unfolding statusOf toldOf numberOf noticeOf noticeNumber pack view answerOctets counted
+standing-says rec = standing-is rec ∙ ap asLine (append-nil _)
 
 module _ (rec page : List ℕ) where
   still : Octets rec → first (recordQuestions rec page) ≡ 0 → recordAfter format rec (ok (stands rec)) ≡ rec
@@ -51,27 +48,27 @@ module _ (rec page : List ℕ) where
   leaves-page zero h = page-still rec page (asked-of rec page (sym h) .goes)
   leaves-page (suc n) h = refl
 
-  pub undisturbed : Octets rec → recordAfter format rec (lineOutcome rec page []) ≡ rec
-  unfolding lineOutcome
-  undisturbed o = leaves o (first (recordQuestions rec page)) refl
-
-  pub page-undisturbed : pageAfter page (lineOutcome rec page []) ≡ page
-  unfolding lineOutcome
-  page-undisturbed = leaves-page (first (recordQuestions rec page)) refl
-
   module _ (out : List ℕ) {out′ : List ℕ} (o : Octets rec) (h : first (recordQuestions rec page) ≡ 0) where
     pub stands-there : {r : ℕ} → Begins (standing rec) out out′ r → Gives (ok (stands rec)) rec page out rec page out′ r
     stands-there w = record { begins = w; end = sym (still o h); paged = sym (page-still rec page (asked-of rec page h .goes)) }
 
-    -- N5 of the call: every octet of what is lent
-    pub stood : answerRoom ≤ length out → {rec′ page′ : List ℕ} {r : Output} → LineAnswered rec page [] out rec′ page′ out′ r → Stood rec page out rec′ page′ out′ r
-    unfolding mapped outputOf left recordLeft pageLeft
-    stood room w =
-        let i = in-room rec page [] out room in
-        let e = i ∙ ap ok (asks-standing rec page [] h refl) in
-        record {
-          answer = rw (e, standing-long) at (w .answer);
-          buffer = rw e at (w .buffer);
-          end = rw i at (w .end) ∙ undisturbed o;
-          paged = rw i at (w .paged) ∙ page-undisturbed;
-        }
+pub undisturbed : Undisturbed
+unfolding lineOutcome
+undisturbed rec page o = leaves rec page o (first (recordQuestions rec page)) refl
+
+pub page-undisturbed : PageUndisturbed
+unfolding lineOutcome
+page-undisturbed rec page = leaves-page rec page (first (recordQuestions rec page)) refl
+
+-- N5 of the call: every octet of what is lent
+pub stood : EmptyAnswered
+unfolding mapped outputOf left recordLeft pageLeft
+stood rec page out rec′ page′ out′ r o h room w =
+    let i = in-room rec page [] out room in
+    let e = i ∙ ap ok (asks-standing rec page [] h refl) in
+    record {
+      answer = rw (e, standing-long rec) at (w .answer);
+      buffer = rw e at (w .buffer);
+      end = rw i at (w .end) ∙ undisturbed rec page o;
+      paged = rw i at (w .paged) ∙ page-undisturbed rec page;
+    }

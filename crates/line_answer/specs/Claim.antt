@@ -2,11 +2,11 @@
 -- No line restarts an end here: 53 is refused by 3 (document 02, N6, has it on the bench).
 use Prim.Native.Nat.{ℕ}
 use mathlib.Core.Path.{_≡_}
-use mathlib.Core.List.{List}
+use mathlib.Core.List.{List, []}
 use Rattle.octets.specs.Test.{first, Outcome, refusing, mapped}
 use Rattle.hex.specs.Line.{unhex, lineQuestions}
 use Rattle.protocol.specs.History as protocol
-use Rattle.protocol.specs.World.{Ends}
+use Rattle.protocol.specs.World.{Ends, End, called}
 use Rattle.call_spec.specs.Calls.{said}
 use Rattle.call_spec.specs.Claim.{Lent, call, Due}
 use Rattle.link.specs.Record.{format}
@@ -31,3 +31,7 @@ ends =
       leaves = λ r line. lentAfter r;
       Due = λ this other line. first (lineQuestions line) ≡ 0 → Due format other (call (lineCall (unhex line)));
     }
+
+-- The claim beside demand 3: how an end stands leaves no trace in the history.
+abbrev pub NoTrace : Type 0
+NoTrace = (x : End Lent) → called ends [] x .history ≡ x .history

@@ -1,19 +1,20 @@
 -- The text of an answer at one end.
-use Prim.Native.Nat.{ℕ}
+use Prim.Native.Nat.{ℕ, _≤_}
 use mathlib.Core.Path.{_≡_}
 use mathlib.Core.List.{List, [], _∷_}
 use lib.Dec.{leb}
 use lib.ListN.{length}
 use Rattle.octets.specs.Test.{first, Outcome, refused, ok, outcome, mapped}
-use Rattle.octets.specs.Octets.{put, left}
+use Rattle.octets.specs.Octets.{put, left, lay, Octets}
 use Rattle.protocol.specs.Table.{Step}
 use Rattle.call_spec.specs.Calls.{wire, recordAfter, pageAfter}
 use Rattle.call_spec.specs.Answers.{sentIn, blockOf}
-use Rattle.link.specs.Record.{format}
+use Rattle.endpoint.specs.Record.{decode}
+use Rattle.link.specs.Record.{format, recordQuestions}
 use Rattle.link.specs.Lent.{statusOf, stands}
 use Rattle.answer_text.specs.declared.Output.{Output}
 use Rattle.answer_text.specs.declared.Output.the-variants.{Written}
-use Rattle.answer_text.specs.Text.{textOf, outputOf, answerRoom}
+use Rattle.answer_text.specs.Text.{asLine, textOf, outputOf, answerRoom}
 use Rattle.line_answer.specs.Line.{lineOutcome}
 
 -- the text of a call's outcome
@@ -49,3 +50,22 @@ pub record Stood (rec page out rec′ page′ out′ : List ℕ) (r : Output) : 
   pub buffer : out′ ≡ put out 0 (standing rec)
   pub end : rec′ ≡ rec
   pub paged : page′ ≡ page
+
+-- The claims: so it is answered, with room for an answer;
+abbrev pub EmptyAnswered : Type 0
+EmptyAnswered =
+    (rec page out rec′ page′ out′ : List ℕ) (r : Output) → Octets rec → first (recordQuestions rec page) ≡ 0 → answerRoom ≤ length out
+    → LineAnswered rec page [] out rec′ page′ out′ r → Stood rec page out rec′ page′ out′ r
+
+-- these are its characters: 80 (hexadecimal), for number 0, the record's state, notice 0, its L and D;
+abbrev pub StandingSays : Type 0
+StandingSays =
+    (rec : List ℕ)
+    → standing rec ≡ asLine (lay (1 ∷ 1 ∷ 1 ∷ 4 ∷ 4 ∷ []) (128 ∷ decode rec .state ∷ 0 ∷ decode rec .local ∷ decode rec .remote ∷ []))
+
+-- and the record and the page stay as they are, whether the end may be asked or not.
+abbrev pub Undisturbed : Type 0
+Undisturbed = (rec page : List ℕ) → Octets rec → recordAfter format rec (lineOutcome rec page []) ≡ rec
+
+abbrev pub PageUndisturbed : Type 0
+PageUndisturbed = (rec page : List ℕ) → pageAfter page (lineOutcome rec page []) ≡ page

@@ -1,17 +1,13 @@
 -- The record's format is lawful, so demand 3 holds of the calls in octets, and each does what the protocol says.
-use Prim.Native.Nat.{ℕ, _+_, _≤_, _<_}
-use mathlib.Core.Path.{_≡_, refl, ap, _∙_}
+use mathlib.Core.Path.{_≡_, ap, _∙_}
 use mathlib.Core.Bool.{true}
-use mathlib.Core.List.{List, _++_}
+use mathlib.Core.List.{_++_}
 use native.Mathlib.Omega.{arith}
 use lib.ListN.{length, length-append}
 use Rattle.octets.proofs.Buffers.{length-padded}
-use Rattle.octets.specs.Sizes.{longestFrame, longestBlock, queueSize, heldSize, lastNumber, lastIncarnation}
-use Rattle.octets.specs.Test.{ok}
+use Rattle.octets.specs.Sizes.{queueSize, heldSize}
 use Rattle.octets.specs.Octets.{octetsOf, lay}
-use Rattle.page.specs.Page.{usedFor, pageOf}
 use Rattle.protocol.specs.Endpoint as abstract
-use Rattle.protocol.specs.History as protocol
 use Rattle.protocol.specs.Claim.{NoEndAlone, NoNumberTwice}
 use Rattle.protocol.specs.Limits.{Bounded}
 use Rattle.protocol.specs.Endpoint.{lengthsOf}
@@ -22,9 +18,9 @@ use Rattle.endpoint.specs.Record.{recordSize, encode, RecordFits}
 use Rattle.endpoint.proofs.Packs.{length-places}
 use Rattle.endpoint.proofs.Held.{small-of, small-held, held, pack-sound}
 use Rattle.endpoint.proofs.Record.{decode-encode}
-use Rattle.call_spec.specs.Calls.{Arguments, said, performed}
 use Rattle.call_spec.specs.Claim.{NeverRefused, Lawful}
-use Rattle.call_spec.specs.Sequence.{InSequence}
+use Rattle.call_spec.specs.Holding.{PerformsAsSaid}
+use Rattle.call_spec.specs.Sequence.{EightComeUp}
 use Rattle.call_spec.proofs.Lift.{demand-3}
 use Rattle.call_spec.proofs.Lift as lift
 use Rattle.call_spec.proofs.Sequence as sequence
@@ -78,12 +74,9 @@ pub never-refused : NeverRefused format
 never-refused = lift.never-refused format lawful
 
 -- a call on the record of a sound endpoint does what the protocol's call does that its octets say
-pub performs : (e : abstract.Endpoint) (rest more : List ℕ) → abstract.sound e ≡ true → Bounded e → e .local ≤ lastIncarnation → (c : Arguments) {x : protocol.Call}
-    → said c ≡ ok x → longestFrame ≤ c .room → longestBlock ≤ c .blockRoom
-    → performed format (format .octets e ++ rest) (pageOf (usedFor (e .local)) ++ more) c ≡ protocol.perform x e
-performs e rest more s b l = sequence.performs format lawful (record { is-sound = s; bounded = b; last = l; lies = (rest, refl); paged = (more, refl) })
+pub performs : PerformsAsSaid format
+performs = sequence.performs format lawful
 
 -- the eight come up in sequence
-pub in-sequence : (e : abstract.Endpoint) → abstract.sound e ≡ true → Bounded e → e .local ≤ lastIncarnation → e .state ≡ abstract.established → e .held ≡ abstract.noneHeld
-    → e .delivered + 7 < lastNumber → InSequence format e
+pub in-sequence : EightComeUp format
 in-sequence = sequence.in-sequence format lawful

@@ -18,7 +18,8 @@ use Rattle.call_spec.proofs.Lift.{restart-comes}
 use Rattle.endpoint.specs.Record.{recordSize}
 use Rattle.link.specs.declared.Answer.{Answer}
 use Rattle.link.specs.Record.{format}
-use Rattle.link.specs.Lent.{Restarted, freshRecord, freshEnd}
+use Rattle.link.specs.Lent.{freshRecord}
+use Rattle.link.specs.Claim.{RestartsFresh}
 use Rattle.link.proofs.Demand.{lawful}
 use Rattle.link.proofs.Stays.{fresh-holding}
 
@@ -33,7 +34,7 @@ fresh-is rec l =
     rw (comes-fresh rec l, drop-of-length-le rec {i = 0 + length freshRecord} (omega (arith, long format lawful fresh-holding)))
     (append-nil freshRecord)
 
-pub end-fresh : {rec page rec′ : List ℕ} {r : Answer} → Restarted rec page rec′ r → length rec ≡ recordSize → page ≡ newPage → lent rec′ page ≡ freshEnd
+pub end-fresh : {rec page rec′ : List ℕ} {r : Answer} → RestartsFresh rec page rec′ r
 end-fresh {rec} w l e =
     let p = w .end ∙ ap (λ (x : List ℕ). recordAfter format rec (restartedIn format rec x)) e ∙ fresh-is rec l in
     λ i. lent (p i) (e i)

@@ -10,7 +10,8 @@ use Rattle.protocol.specs.Endpoint.{Endpoint}
 use Rattle.protocol.specs.Table.{noticeNumber}
 use Rattle.call_spec.specs.Calls.{recordAfter}
 use Rattle.call_spec.specs.Answers.{noticeOf}
-use Rattle.call_spec.proofs.Holding.{Holding, keeps, written}
+use Rattle.call_spec.specs.Holding.{Holding}
+use Rattle.call_spec.proofs.Holding.{keeps, written}
 use Rattle.endpoint.specs.View.{pack, view}
 use Rattle.endpoint.specs.Record.{recordSize}
 use Rattle.link.specs.Record.{format}

@@ -29,14 +29,15 @@ use Rattle.endpoint.proofs.Record.{encode-decode}
 use Rattle.endpoint.proofs.Sounds.{tidy, tidy-held, view-sound}
 use Rattle.endpoint_step.proofs.Ready as ready
 use Rattle.endpoint_step.proofs.Numbers.{receive-local}
-use Rattle.endpoint_step.proofs.Laws.{InOctets, accepts}
+use Rattle.endpoint_step.proofs.Laws.{accepts}
 use Rattle.call_spec.specs.declared.Call.{Call}
 use Rattle.call_spec.specs.declared.Call.the-variants.{Request, Receive}
-use Rattle.call_spec.specs.Calls.{Arguments, Rooms, given, ownQuestions, asked, performed, recordAfter, pageAfter}
-use Rattle.call_spec.specs.Claim.{lent, Passes}
-use Rattle.call_spec.proofs.Holding.{Holding, long, passes, keeps, page-enough, goes, passes-both, leaves}
+use Rattle.call_spec.specs.Calls.{InOctets, given, ownQuestions, asked, performed, pageAfter}
+use Rattle.call_spec.specs.Holding.{Holding}
+use Rattle.call_spec.proofs.Holding.{long, passes, keeps, page-enough, goes, passes-both, leaves}
 use Rattle.link.specs.Record.{format, pagedFor, recordQuestions}
 use Rattle.link.specs.Lent.{freshRecord}
+use Rattle.link.specs.Claim.{GoesOn, StaysSound, ReceivingStays}
 use Rattle.link.proofs.Demand.{lawful}
 use Rattle.link.proofs.Answers.{decode-long}
 
@@ -86,11 +87,10 @@ in-octets Request s o = tt
 in-octets Receive s o = o
 
 -- a record that holds a sound endpoint goes on holding one, whatever calls come
-pub goes-on : {rec page : List ℕ} {e : abstract.Endpoint} → Holding format rec page e → (c : Arguments) → InOctets (c .call) (c .octets) → (o : Outcome Step)
-    → performed format rec page c ≡ o → Holding format (recordAfter format rec o) (pageAfter page o) (endpointLeft e o)
+pub goes-on : GoesOn
 unfolding performed
-goes-on {e = e} k c i (refused n) h = leaves format lawful k (refused n) tt tt (same-number refl)
-goes-on {rec} {page} {e} k c i (ok x) h =
+goes-on rec page e k c i (refused n) h = leaves format lawful k (refused n) tt tt (same-number refl)
+goes-on rec page e k c i (ok x) h =
     let a = accepts (format .sound rec) page (format .holds rec) c i (passing (first ((11, _) ∷ [])) h .1) in
     let p = ap (perform (a .call)) (sym (keeps format lawful k)) ∙ a .performs in
     leaves format lawful k (ok x)
@@ -99,7 +99,7 @@ goes-on {rec} {page} {e} k c i (ok x) h =
     (subst (λ (o : Outcome Step). Next e (endpointLeft e o)) p (next-on (a .call) e))
 
 -- Receiving leaves the page: no number is begun, and the one at hand is reserved.
-pub receive-stays : (rec page s : List ℕ) (r : Rooms) (o : Outcome Step) → performed format rec page (given Receive s r) ≡ o → pageAfter page o ≡ page
+pub receive-stays : ReceivingStays
 unfolding performed asked numberOf pageAfter
 receive-stays rec page s r (refused n) h = refl
 receive-stays rec page s r (ok x) h =
@@ -110,14 +110,13 @@ receive-stays rec page s r (ok x) h =
     stays (x .endpoint .local) page (omega (arith, l, goes-so (format .holds rec .local) page (q .goes) .1))
 
 -- what an accepted call leaves passes 12 and 15
-pub stays-sound : (rec page : List ℕ) → Octets rec → (c : Arguments) → InOctets (c .call) (c .octets) → {x : Step} → performed format rec page c ≡ ok x
-    → Passes format (lent (recordAfter format rec (performed format rec page c)) (pageAfter page (performed format rec page c)))
+pub stays-sound : StaysSound
 unfolding performed numberOf
-stays-sound rec page o c i {x} h =
+stays-sound rec page o c i x h =
     let r = passing (first ((11, _) ∷ [])) h in
     let l = leb-true recordSize (length rec) (all-yes 11 _ _ (r .0) tt .0) in
     let q = ready.passes (format .sound rec) page (format .holds rec) c (ap numberOf (r .1)) in
-    rw h (passes-both format lawful (goes-on (holding rec page l o (q .is-fine) (q .page-long) (q .goes)) c i (ok x) h))
+    passes-both format lawful (goes-on rec page _ (holding rec page l o (q .is-fine) (q .page-long) (q .goes)) c i (ok x) h)
 
 -- 11, 12 and 15 are passed
 pub is-ready : {rec page : List ℕ} {e : abstract.Endpoint} → Holding format rec page e → first (recordQuestions rec page) ≡ 0

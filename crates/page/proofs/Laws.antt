@@ -13,6 +13,7 @@ use Rattle.octets.specs.Sizes.{pageSize, numbersEach, lastIncarnation}
 use Rattle.octets.specs.Test.{when, ifEq}
 use Rattle.octets.proofs.Test.{by-eq, eq-yes, eq-no, if-eq, if-lt, lt-no, both, joined}
 use Rattle.page.specs.Page.{used, unused, usedFor, only, isRun, leading, runs, count, goesWith, reserving, pageOf}
+use Rattle.page.specs.Claim.{PageGoes, PageIs, PageReserves, OneOctet, ReservedStays}
 
 -- p octets of 00 and n of FF
 only-unused : (n : ℕ) → only unused (replicate n unused) ≡ true
@@ -62,15 +63,14 @@ module _ (p : ℕ) (fits : p ≤ pageSize) where
         ap (λ (n : ℕ). set ((replicate p used ++ replicate n unused) ++ more) p used) e ∙ next-of p (pageSize - suc p) more
 
 -- question 15 is answered yes of the page that goes with l
-pub page-goes : (l : ℕ) → l ≤ lastIncarnation → (more : List ℕ) → goesWith l (pageOf (usedFor l) ++ more) ≡ true
+pub page-goes : PageGoes
 unfolding goesWith
 page-goes l h more =
     let f : usedFor l ≤ pageSize = omega arith in
     joined (page-runs (usedFor l) f more) (eq-eqb _ _ (page-count (usedFor l) f more))
 
 -- the one store keeps the page that of the new number
-pub page-reserves : (l k : ℕ) → k ≤ lastIncarnation → l ≤ k → k ≤ l + 1 → (more : List ℕ)
-    → reserving k (pageOf (usedFor l) ++ more) ≡ pageOf (usedFor k) ++ more
+pub page-reserves : PageReserves
 unfolding reserving
 page-reserves l k h a b more =
     let f : usedFor l ≤ pageSize = omega arith in
@@ -106,20 +106,17 @@ pub goes-last : (l : ℕ) (page : List ℕ) → pageSize ≤ length page → goe
 goes-last l page h g = omega (arith, goes-so l page g .1, count≤ page h)
 
 -- nothing is stored where the number is reserved
-pub stays : (l : ℕ) (page : List ℕ) → l ≤ numbersEach * count page → reserving l page ≡ page
+pub stays : ReservedStays
 unfolding reserving
 stays l page h = lt-no _ _ _ _ (omega arith)
 
 -- at most one octet is stored, the first that is not 00
-module _ (l : ℕ) (page : List ℕ) where
-  pub one-octet : (i : ℕ) → i ≢ count page → getD (reserving l page) i 0 ≡ getD page i 0
-  unfolding reserving
-  one-octet i n =
-      if-lt (λ (s : List ℕ). getD s i 0 ≡ getD page i 0) _ _ (λ t. getD-set-other page (count page) i used 0 n) (λ t. refl)
-
-  pub reserving-long : length (reserving l page) ≡ length page
-  unfolding reserving
-  reserving-long = if-lt (λ (s : List ℕ). length s ≡ length page) _ _ (λ t. length-set page (count page) used) (λ t. refl)
+pub one-octet : OneOctet
+unfolding reserving
+one-octet l page = (
+  if-lt (λ (s : List ℕ). length s ≡ length page) _ _ (λ t. length-set page (count page) used) (λ t. refl),
+  λ i n. if-lt (λ (s : List ℕ). getD s i 0 ≡ getD page i 0) _ _ (λ t. getD-set-other page (count page) i used 0 n) (λ t. refl),
+)
 
 -- a page that question 15 is answered yes of is the one that goes with l
 only-is : (x : ℕ) (s : List ℕ) → only x s ≡ true → s ≡ replicate (length s) x
@@ -167,7 +164,7 @@ run-page page h r =
     ∙ ap (λ (t : List ℕ). t ++ drop pageSize page)
     (run-is (take pageSize page) r ∙ ap (λ (m : ℕ). run-of-both (leading (take pageSize page)) (m - leading (take pageSize page))) k)
 
-pub page-is : (l : ℕ) (page : List ℕ) → pageSize ≤ length page → goesWith l page ≡ true → page ≡ pageOf (usedFor l) ++ drop pageSize page
+pub page-is : PageIs
 page-is l page h g =
     let u = goes-so l page g in
     run-page page h (u .0) ∙ ap (λ (n : ℕ). pageOf n ++ drop pageSize page) (u .1)

@@ -14,7 +14,7 @@ use Rattle.octets.specs.Sizes.{lastNumber, lastIncarnation}
 use Rattle.protocol.specs.Requests.{begun, accept}
 use Rattle.protocol.specs.History.{Call, ask, deliver, perform, Act, History, now, sent}
 use Rattle.protocol.specs.Claim.{blockSent, blockAccepted}
-use Rattle.protocol.specs.Limits.{Bounded, Readable, Leaves, LeavesSound, LeavesBounded}
+use Rattle.protocol.specs.Limits.{Bounded, Readable, Leaves, CallSound, CallBounded}
 use Rattle.frame.specs.Fits.{Fits, control-fits, data-fits, ack-fits}
 use Rattle.protocol.proofs.Facts.{Move, stays, answers, recalls, opens, joins, relistens, resets, hangs-up, drops}
 use Rattle.protocol.proofs.Facts.{Each, none-held, each-moved, each-held, none-lengths}
@@ -174,7 +174,7 @@ module _ (P : Endpoint → Type 0) (e : Endpoint) (s : Sound e) (begins : (st : 
   after-call (ask q) t = requested (Leaves P) q e (λ n. tt) (λ y. after-request q t y)
   after-call (deliver f) t = on _ _ _ (small t) sized-none (heard e f)
 
-pub call-sound : (c : Call) (e : Endpoint) → sound e ≡ true → Readable c → LeavesSound (perform c e)
+pub call-sound : CallSound
 call-sound c e p t =
     after-call (λ (x : Endpoint). sound x ≡ true) e (sound-so e p) (λ st a b _. begun-sound st e a b) (λ _ _ _ u k f. sound-on (sound-so e p) u k f) c t
 
@@ -182,7 +182,7 @@ call-sound c e p t =
 bounded-fires : {e : Endpoint} {f : Frame} {bs : List Block} {x : Step} → Bounded e → Sound e → Small f → Fires e f bs x → Bounded (x .endpoint)
 bounded-fires v s u (fires m k _) = bounded-on u v (s .fitting) m k
 
-pub call-bounded : (c : Call) (e : Endpoint) → sound e ≡ true → Bounded e → Readable c → LeavesBounded (perform c e)
+pub call-bounded : CallBounded
 call-bounded c e p v t = after-call Bounded e (sound-so e p) (λ st _ _ l. begun-bounded st v l) (λ _ _ _ u _ f. bounded-fires v (sound-so e p) u f) c t
 
 -- What is kept of one end.

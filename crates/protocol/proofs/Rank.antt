@@ -14,7 +14,7 @@ use Rattle.protocol.specs.declared.Rule.{Rule}
 use Rattle.protocol.specs.Endpoint.{Endpoint, waiting, sound}
 use Rattle.protocol.specs.Table.{whenClosed, whenListening, whenActive, whenPassive, dataRow, ackRow, openRows, whenEstablished, whenClosing, rule}
 use Rattle.protocol.specs.Table.{Sent, nothing, frame, turned, delivering, holdingEarly, releasing, apply, step}
-use Rattle.protocol.specs.Rank.{rank, lift, Descends, stays, sends, falls}
+use Rattle.protocol.specs.Rank.{rank, lift, Descends, stays, sends, falls, EachDescends}
 use Rattle.protocol.proofs.Sound.{sound-so}
 
 -- what is chosen by the state of an end
@@ -140,7 +140,7 @@ descent (does d p) = d
 sent-by : {e : Endpoint} {f : Frame} {r : Rule} → Does e f r → Plain (apply r e f .sent)
 sent-by (does d p) = p
 
-pub descends : (e : Endpoint) (f : Frame) → Descends e (step e f)
+pub descends : EachDescends
 unfolding step
 descends e f = descent (any-row e f)
 

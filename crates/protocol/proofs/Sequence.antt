@@ -21,7 +21,7 @@ use Rattle.protocol.specs.Endpoint.{Endpoint, noneHeld, sized}
 use Rattle.protocol.specs.Table.{dataRow, openRows, whenEstablished, rule, Step, heldAt, delivering, apply, step}
 use Rattle.protocol.specs.Requests.{questions, refusal, collected, accept, request}
 use Rattle.protocol.specs.History.{Call, ask, deliver, perform, endpointLeft, call, does, History, now, recorded, after}
-use Rattle.protocol.specs.Sequence.{upOf, comesUp, arrival, AllEight, overtaking, InSequence, afterAll, HandsUpInSequence}
+use Rattle.protocol.specs.Sequence.{upOf, comesUp, arrival, AllEight, overtaking, EightComeUp, afterAll, EightHandedUp}
 use Rattle.protocol.specs.Claim.{blockUp, handedUpIn}
 use Rattle.protocol.proofs.Facts.{Each, none-held, each-moved, each-held, getD-moved, length-moved, length-held, first-is, held-same, held-other}
 use Rattle.protocol.proofs.Facts.{Fires, fires, heard}
@@ -292,8 +292,8 @@ module _ (e : Endpoint) (bs : List Block) (l8 : length bs ≡ 8) (sz : sized bs 
           absurd (omega (arith, ready 0 (a .then-is) g, ap length (a .at .none-first z))))
           (λ z. omega arith)
 
-pub in-sequence : (e : Endpoint) → e .state ≡ 4 → e .held ≡ noneHeld → InSequence e
-in-sequence e p n = record { comes = λ bs order l8 sz o. comes-up e bs l8 sz p n order o }
+pub in-sequence : EightComeUp
+in-sequence e n = record { comes = λ bs order l8 sz o. comes-up e bs l8 sz (n .is-open) (n .none-held) order o }
 
 -- In the words of demand 3. None of these calls begins an incarnation.
 abbrev Steady : List Call → Type 0
@@ -349,9 +349,9 @@ all-up (c ∷ cs) t h l e =
     ∙ ap (λ (x : List Block). x ++ comesUp cs (endpointLeft (now h) o)) u
     ∙ append-assoc (handedUpIn l h) (upOf o) (comesUp cs (endpointLeft (now h) o))
 
-pub handed-in-sequence : (h : History) → now h .state ≡ 4 → now h .held ≡ noneHeld → HandsUpInSequence h
-handed-in-sequence h p n = record {
+pub handed-in-sequence : EightHandedUp
+handed-in-sequence h n = record {
   hands = λ bs order l8 sz o.
       all-up (overtaking (now h) bs order) (steady-all (now h) bs order) h (now h .local) refl
-      ∙ ap (λ (x : List Block). handedUpIn (now h .local) h ++ x) (in-sequence (now h) p n .comes bs order l8 sz o);
+      ∙ ap (λ (x : List Block). handedUpIn (now h .local) h ++ x) (in-sequence (now h) n .comes bs order l8 sz o);
 }

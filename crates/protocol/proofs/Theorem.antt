@@ -1,10 +1,9 @@
 -- Demand 3 holds of every list of calls, no number is used twice, and so do the limits.
-use mathlib.Core.List.{List}
 use Rattle.protocol.specs.History.{Act, History, after, Due}
 use Rattle.protocol.specs.Endpoint.{Endpoint}
-use Rattle.protocol.specs.World.{Ends, Entry, Two, run, AllDue, BothNew, endsWhere, ends}
+use Rattle.protocol.specs.World.{Ends, ends}
 use Rattle.protocol.specs.Claim.{NoEndAlone, NoNumberTwice}
-use Rattle.protocol.specs.Limits.{Sized, Limited}
+use Rattle.protocol.specs.Limits.{Sized, Limited, reading, WithinLimits}
 use Rattle.protocol.proofs.Calls.{Deed, deed}
 use Rattle.protocol.proofs.Limits.{Room, no-room, room-on}
 use Rattle.protocol.proofs.Sound.{sounds}
@@ -86,12 +85,8 @@ no-number-twice E s start f calls d =
     let h = reached E roomy s start f calls d in
     (h .reached-both .numbers-a .once, h .reached-both .numbers-b .once)
 
--- so it is where each block to send has 1 to 64 octets
-abbrev pub reading : Ends
-reading = endsWhere Sized
-
-pub limits : (start : Two reading) → BothNew reading start → (calls : List (Entry Act)) → AllDue reading start calls
-    → Limited (run reading start calls .a .history) × Limited (run reading start calls .b .history)
+-- the limits, where each block to send has 1 to 64 octets
+pub limits : WithinLimits
 limits start f calls d =
     let h = reached reading roomy (itself Roomy Sized) start f calls d in
     (limited h, limited (roomy .turns _ _ h))

@@ -10,7 +10,7 @@ use Rattle.protocol.specs.Table.{Notice, none, connected, rejected, clos
 use Rattle.protocol.specs.Table.{frame, quiet, says, turned, step}
 use Rattle.protocol.specs.Requests.{request}
 use Rattle.protocol.specs.History.{Call, ask, deliver, Act, call, restart, cut, Event, History, now}
-use Rattle.protocol.specs.World.{Ends, Entry, Two, made, run, AllDue, BothNew}
+use Rattle.protocol.specs.World.{Ends, Entry, Two, made, run, AllDue, BothNew, ends}
 
 -- An incarnation is one L of one end. It is begun by connect where the connect request raised L to it.
 abbrev pub BegunByConnect : History → ℕ → Type 0
@@ -173,3 +173,9 @@ pub record Told (a b : Endpoint) : Type 0 where
   pub b-open : b .state ≡ established → a .state ≡ closed → Disowned b a
   pub a-calls : a .state ≡ activeOpening → b .state ≡ closed → TurnedAway a b
   pub b-calls : b .state ≡ activeOpening → a .state ≡ closed → TurnedAway b a
+
+-- after every list
+abbrev pub AlwaysTold : Type 0
+AlwaysTold =
+    (start : Two ends) → BothNew ends start → (calls : List (Entry Act)) → AllDue ends start calls
+    → Told (now (run ends start calls .a .history)) (now (run ends start calls .b .history))

@@ -1,5 +1,6 @@
 -- The eleven cases that document 01 marks P, "at the edges", as one table: what each call answers, whole; then those of N2, N4 and N6.
 use Prim.Native.Nat.{ℕ}
+use mathlib.Core.Path.{_≡_}
 use mathlib.Core.List.{List, [], _∷_, map}
 use Rattle.octets.specs.Test.{Outcome, refused, ok}
 use Rattle.frame.specs.Frame.{Block, CRAO, CRACK, REJ, RESET, DR, DRACK, control, dataFrame, ackFrame, connect, listen, close, collect, send}
@@ -124,3 +125,7 @@ expected es = map (λ (x : Edge). x .answer) es
 
 unfoldable pub edgeAnswers : List Edge → List (Outcome Step)
 edgeAnswers es = map (λ (x : Edge). perform (x .call) (x .before)) es
+
+-- The claim of such a table: each answer is the one that it says.
+abbrev pub AsExpected : List Edge → Type 0
+AsExpected es = edgeAnswers es ≡ expected es

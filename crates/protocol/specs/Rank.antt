@@ -3,7 +3,7 @@ use Prim.Native.Nat.{ℕ, _+_, _≤_, _<_}
 use Rattle.octets.specs.Test.{ifEq}
 use Rattle.frame.specs.Frame.{Frame}
 use Rattle.protocol.specs.Endpoint.{closed, listening, established, closing, Endpoint, waiting}
-use Rattle.protocol.specs.Table.{Notice, nothing, frame, Step}
+use Rattle.protocol.specs.Table.{Notice, nothing, frame, Step, step}
 
 -- A call, or its answer, is opened or given up; an open end lets its blocks go, one after the other, and is closed; a closing one is closed.
 unfoldable pub rank : Endpoint → ℕ
@@ -23,3 +23,7 @@ pub data Descends (e : Endpoint) : Step → Type 0 where
   stays : {n : Notice} → Descends e (record { endpoint = e; notice = n; sent = nothing })
   sends : {x : Endpoint} {n : Notice} {g : Frame} → rank x ≤ rank e + lift → Descends e (record { endpoint = x; notice = n; sent = frame g })
   falls : {x : Endpoint} {n : Notice} → rank x < rank e → Descends e (record { endpoint = x; notice = n; sent = nothing })
+
+-- The claim, of every delivery to every endpoint.
+abbrev pub EachDescends : Type 0
+EachDescends = (e : Endpoint) (f : Frame) → Descends e (step e f)

@@ -8,7 +8,7 @@ use lib.ListN.{length, getD, replicate}
 use Rattle.octets.specs.Sizes.{heldSize}
 use Rattle.octets.specs.Test.{Outcome, refused, ok}
 use Rattle.frame.specs.Frame.{Block, dataFrame, collect}
-use Rattle.protocol.specs.Endpoint.{Endpoint, sized}
+use Rattle.protocol.specs.Endpoint.{established, Endpoint, noneHeld, sized}
 use Rattle.protocol.specs.Table.{Step}
 use Rattle.protocol.specs.History.{Call, ask, deliver, perform, call, endpointLeft, History, now, after}
 use Rattle.protocol.specs.Claim.{blockUp, handedUpIn}
@@ -40,6 +40,14 @@ overtaking e bs order = map (arrival e bs) order ++ replicate 7 (ask collect)
 pub record InSequence (e : Endpoint) : Type 0 where
   pub comes : (bs : List Block) (order : List ℕ) → length bs ≡ heldSize → sized bs ≡ true → AllEight order → comesUp (overtaking e bs order) e ≡ bs
 
+-- The claim, of every open end that holds none.
+pub record HoldsNone (e : Endpoint) : Type 0 where
+  pub is-open : e .state ≡ established
+  pub none-held : e .held ≡ noneHeld
+
+abbrev pub EightComeUp : Type 0
+EightComeUp = (e : Endpoint) → HoldsNone e → InSequence e
+
 -- a list of calls at one end
 unfoldable pub afterAll : List Call → History → History
 afterAll [] h = h
@@ -49,3 +57,6 @@ afterAll (c ∷ cs) h = afterAll cs (after (call c) h)
 pub record HandsUpInSequence (h : History) : Type 0 where
   pub hands : (bs : List Block) (order : List ℕ) → length bs ≡ heldSize → sized bs ≡ true → AllEight order
       → handedUpIn (now h .local) (afterAll (overtaking (now h) bs order) h) ≡ handedUpIn (now h .local) h ++ bs
+
+abbrev pub EightHandedUp : Type 0
+EightHandedUp = (h : History) → HoldsNone (now h) → HandsUpInSequence h
