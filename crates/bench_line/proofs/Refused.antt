@@ -14,7 +14,7 @@ use Rattle.link.specs.Lent.{sentOf}
 use Rattle.bench_spec.specs.Bench.{Bench, benchOf, endOf, logAfter, countAfter, benchAfter}
 use Rattle.bench_call.specs.Answer.{benchAnswerOf}
 use Rattle.bench_order.specs.Performed.{callOf}
-use Rattle.bench_line.specs.Performed.{asksWith, RefusedLeavesAll}
+use Rattle.bench_line.specs.Performed.{asksLent, RefusedLeavesAll}
 
 -- the bench after a refusal, which names either end
 bench-stays : (i k : ℕ) (w : Bench) → benchAfter i w (refused k) ≡ w
@@ -32,7 +32,7 @@ block-stays Receive up k = refl
 pub refused-leaves : RefusedLeavesAll
 unfolding bufferAfter mapped left benchAnswerOf sentOf blockOf countAfter ifEq when
 refused-leaves w line out up a b log out′ up′ r p k e =
-    let q = asksWith w line out up in
+    let q = asksLent w line out up in
     let s = p .bench ∙ ap (benchAfter (endOf q) w) e ∙ bench-stays (endOf q) k w in
     record {
       end-a = ap (λ (x : Bench). x .a) s;

@@ -14,11 +14,11 @@ use Rattle.bench_call.specs.declared.BenchAnswer.{BenchAnswer}
 use Rattle.bench_order.specs.Performed.{lineStart, Performed}
 
 -- A line's text: all questions up to 13, in document 01's order, give the call.
-abbrev pub asksWith : Bench → List ℕ → List ℕ → List ℕ → Outcome At
-asksWith w line out up = lineAsks w line (rooms (length out) (length up))
+abbrev pub asksLent : Bench → List ℕ → List ℕ → List ℕ → Outcome At
+asksLent w line out up = lineAsks w line (rooms (length out) (length up))
 
 abbrev pub LinePerformed : Bench → List ℕ → List ℕ → List ℕ → Lent → Lent → List ℕ → List ℕ → List ℕ → BenchAnswer → Type 0
-LinePerformed w line out up a b log out′ up′ r = Performed w (asksWith w line out up) (lineStart (unhex line)) out up a b log out′ up′ r
+LinePerformed w line out up a b log out′ up′ r = Performed w (asksLent w line out up) (lineStart (unhex line)) out up a b log out′ up′ r
 
 -- What a line that k refuses leaves: both ends, with their records and pages, the log and the buffers, as they are. Nothing is sent and no block handed up;
 -- the answer tells k, how many places are in use, and how the end i stands.
@@ -34,7 +34,7 @@ pub record LeftAlone (w : Bench) (i k : ℕ) (out up : List ℕ) (a b : Lent) (l
 abbrev pub RefusedLeavesAll : Type 0
 RefusedLeavesAll =
     (w : Bench) (line out up : List ℕ) (a b : Lent) (log out′ up′ : List ℕ) (r : BenchAnswer) → LinePerformed w line out up a b log out′ up′ r
-    → (k : ℕ) → comes w (asksWith w line out up) ≡ refused k → LeftAlone w (endOf (asksWith w line out up)) k out up a b log out′ up′ r
+    → (k : ℕ) → comes w (asksLent w line out up) ≡ refused k → LeftAlone w (endOf (asksLent w line out up)) k out up a b log out′ up′ r
 
 -- An empty line keeps 1 (document 02, N5), where 11, 12 and 15 are passed.
 abbrev pub EmptyLineRefused : Type 0
