@@ -7,7 +7,7 @@ use lib.ListN.{length}
 use Rattle.octets.specs.Test.{Outcome, refused, ok, mapped}
 use Rattle.page.specs.Page.{newPage}
 use Rattle.protocol.specs.Endpoint.{fresh}
-use Rattle.protocol.specs.Endpoint as protocol-end
+use Rattle.protocol.specs.Endpoint as abstract
 use Rattle.protocol.specs.Table.{Step}
 use Rattle.protocol.specs.History.{History}
 use Rattle.protocol.specs.History as protocol
@@ -77,7 +77,7 @@ ends =
 -- a restart, in a buffer that is long enough.
 abbrev pub AsInOctets : Type 0
 AsInOctets =
-    (e : protocol-end.Endpoint) (rest page : List ℕ) → protocol-end.sound e ≡ true → Bounded e → (c : Arguments)
+    (e : abstract.Endpoint) (rest page : List ℕ) → abstract.sound e ≡ true → Bounded e → (c : Arguments)
     → performed format (format .octets e ++ rest) page c ≡ outcomeOf (pack e) page c
 
 abbrev pub RestartsAsInOctets : Type 0

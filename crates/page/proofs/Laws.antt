@@ -114,8 +114,8 @@ stays l page h = lt-no _ _ _ _ (omega arith)
 pub one-octet : OneOctet
 unfolding reserving
 one-octet l page = (
-  if-lt (λ (s : List ℕ). length s ≡ length page) _ _ (λ t. length-set page (count page) used) (λ t. refl),
   λ i n. if-lt (λ (s : List ℕ). getD s i 0 ≡ getD page i 0) _ _ (λ t. getD-set-other page (count page) i used 0 n) (λ t. refl),
+  if-lt (λ (s : List ℕ). length s ≡ length page) _ _ (λ t. length-set page (count page) used) (λ t. refl),
 )
 
 -- a page that question 15 is answered yes of is the one that goes with l

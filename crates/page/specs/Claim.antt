@@ -26,7 +26,7 @@ PageReserves =
 abbrev pub OneOctet : Type 0
 OneOctet =
     (l : ℕ) (page : List ℕ)
-    → (length (reserving l page) ≡ length page) × ((i : ℕ) → i ≢ count page → getD (reserving l page) i 0 ≡ getD page i 0)
+    → ((i : ℕ) → i ≢ count page → getD (reserving l page) i 0 ≡ getD page i 0) × (length (reserving l page) ≡ length page)
 
 -- and none where the number is reserved
 abbrev pub ReservedStays : Type 0
