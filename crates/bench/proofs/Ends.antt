@@ -70,9 +70,9 @@ pub asks-with : (w : Bench) (line out : List ℕ) (filled : ℕ) → filled + an
 unfolding askedWith first when outcome
 asks-with w line out filled h = rw (le-leb answerRoom (length (free out filled)) (free-room out filled answerRoom h)) refl
 
--- a bench of two fresh ends
-pub both-fresh : {a b : Lent} {log : List ℕ} {count : ℕ} → a ≡ freshEnd → b ≡ freshEnd → benchOf a b log count ≡ benchOf freshEnd freshEnd log count
-both-fresh e f = rw (e, f) refl
+-- two fresh ends and an empty log
+pub all-fresh : {a b : Lent} {log : List ℕ} {count : ℕ} → a ≡ freshEnd → b ≡ freshEnd → log ≡ freshBench .log → count ≡ freshBench .count → benchOf a b log count ≡ freshBench
+all-fresh e f l n = rw (e, f, l, n) refl
 
 -- THE theorem, of the program: from fresh ends and an empty log to its end after the end of the input, however the input came in pieces, all that was
 -- handed to be written is the text of the input.

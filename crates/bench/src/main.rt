@@ -4,15 +4,13 @@ use line_io::Place;
 ghost use mathlib.Core.Path.{_≡_};
 ghost use Prim.Native.Nat.{_+_, _≤_, _<_};
 ghost use lib.ListN.{length};
-ghost use Rattle.page.specs.Page.{newPage};
 ghost use Rattle.call_spec.specs.Claim.{lent};
-ghost use Rattle.link.specs.Lent.{freshEnd};
 ghost use Rattle.bench_spec.specs.Bench.{benchOf};
 ghost use Rattle.bench_answer.specs.Text.{answerRoom};
 ghost use Rattle.line_io.specs.Place.{PlaceFits};
 ghost use Rattle.line_io.specs.Step.{Replied, Stepped};
 ghost use Rattle.line_io.specs.Program.{Ran};
-ghost use Rattle.bench.specs.Ends.{bothEnds};
+ghost use Rattle.bench.specs.Ends.{bothEnds, freshBench};
 
 // Answers a line into the free part of out; how many characters the answer has.
 fn answer(
@@ -70,7 +68,7 @@ fn step(
     line_io::answered(q, n)
 }
 
-// Restarts on two new pages, which make two fresh ends, and steps while some are left.
+// Restarts on two new pages, which make two fresh ends beside an empty log, and steps while some are left.
 fn run(
     a: &mut [u8; link::RECORD_SIZE],
     b: &mut [u8; link::RECORD_SIZE],
@@ -82,8 +80,9 @@ fn run(
     line: &mut [u8; line_io::LONGEST_KEPT],
     out: &mut [u8; line_io::BUFFER_SIZE],
 ) -> Place
-    requires { ⌜ (now «a_page» ≡ newPage) × (now «b_page» ≡ newPage) ⌝ }
-    ensures { λ r. ⌜ (Ran bothEnds answerRoom (benchOf freshEnd freshEnd (now (log .entry)) (now (count .entry))) (benchOf (lent (now (a .exit)) (now («a_page» .exit))) (lent (now (b .exit)) (now («b_page» .exit))) (now (log .exit)) (now (count .exit))) (now (buf .exit)) (now (line .exit)) (now (out .exit)) r) × (r .steps ≡ 0) ⌝ }
+    requires { ⌜ (now «a_page» ≡ freshBench .a .page) × (now «b_page» ≡ freshBench .b .page) ⌝ }
+    requires { ⌜ (now log ≡ freshBench .log) × (now count ≡ freshBench .count) ⌝ }
+    ensures { λ r. ⌜ (Ran bothEnds answerRoom freshBench (benchOf (lent (now (a .exit)) (now («a_page» .exit))) (lent (now (b .exit)) (now («b_page» .exit))) (now (log .exit)) (now (count .exit))) (now (buf .exit)) (now (line .exit)) (now (out .exit)) r) × (r .steps ≡ 0) ⌝ }
 {
     link::restart(a, a_page);
     link::restart(b, b_page);

@@ -1,10 +1,11 @@
+use mathlib.Core.Path.{refl}
 use borrow.Author.Needs.{needs}
 use Rattle.link.proofs.Fresh.{all-unused}
 use Rattle.bench.proofs.main.Statement.{statement}
 use Rattle.bench.proofs.main.Tie as tie
 
 run-requires : tie.Need-run-requires
-run-requires c κs = (all-unused, all-unused)
+run-requires c κs = ((all-unused, all-unused), (refl, refl))
 
 pub main-spec : {M : Type 1} → statement M
 main-spec = tie.close (tie.spec run-requires (λ c. search needs))
