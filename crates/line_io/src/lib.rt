@@ -67,12 +67,25 @@ fn after_write(p: Place, all: bool) -> Place
     q
 }
 
+// Tells why not all was written. That nobody reads any more is no failure.
+fn tell_unwritten(all: bool) {
+    if all {
+        return;
+    }
+    if os::errno() == libc::EPIPE {
+        return;
+    }
+    os::fail(b"standard output");
+}
+
 // Writes what waits of the output.
 fn flush(out: &[u8; BUFFER_SIZE], p: Place) -> Place
     requires { ⌜ p .filled ≤ bufferSize ⌝ }
     ensures { λ r. ⌜ Flushed p r ⌝ }
 {
-    after_write(p, io::write_all(1, waiting(out, p)))
+    let all = io::write_all(libc::STDOUT_FILENO, waiting(out, p));
+    tell_unwritten(all);
+    after_write(p, all)
 }
 
 // After a read of n octets. At the end of the input there are none; text after the last line feed is a line too, and one step
@@ -97,6 +110,14 @@ fn after_read(p: Place, n: usize) -> Place
     q
 }
 
+// Tells why a read failed.
+fn tell_unread(got: isize) {
+    if got >= 0 {
+        return;
+    }
+    os::fail(b"standard input");
+}
+
 // Reads on where a step is left. What is read, no contract can say.
 fn fill(buf: &mut [u8; BUFFER_SIZE], p: Place) -> Place
     requires { ⌜ p .lines ≡ 0 ⌝ }
@@ -105,7 +126,8 @@ fn fill(buf: &mut [u8; BUFFER_SIZE], p: Place) -> Place
     if p.steps == 0 {
         return p;
     }
-    let got = libc::read(0, buf);
+    let got = libc::read(libc::STDIN_FILENO, buf);
+    tell_unread(got);
     after_read(p, io::count(got, buf))
 }
 
