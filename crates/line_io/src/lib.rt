@@ -53,6 +53,24 @@ fn waiting(out: &[u8], p: Place) -> &[u8]
     &out[..filled]
 }
 
+// Tells what failed just now, and why. That nobody reads the output any more is no failure.
+fn tell(what: &[u8]) {
+    if os::errno() == libc::EPIPE {
+        return;
+    }
+    os::fail(what);
+}
+
+// Writes a text to standard output. Whether all was written, no contract can say; where not, the cause is told.
+fn write(text: &[u8]) -> bool {
+    let all = io::write_all(libc::STDOUT_FILENO, text);
+    if all {
+        return true;
+    }
+    tell(b"standard output");
+    false
+}
+
 // Nothing waits after a write. The program is done where not all was written.
 fn after_write(p: Place, all: bool) -> Place
     ensures { λ r. ⌜ r ≡ emptied p (when all (p .steps) 0) ⌝ }
@@ -65,27 +83,6 @@ fn after_write(p: Place, all: bool) -> Place
     }
     q.steps = 0;
     q
-}
-
-// Tells why not all was written. That nobody reads any more is no failure.
-fn tell_unwritten(all: bool) {
-    if all {
-        return;
-    }
-    if os::errno() == libc::EPIPE {
-        return;
-    }
-    os::fail(b"standard output");
-}
-
-// Writes what waits of the output.
-fn flush(out: &[u8; BUFFER_SIZE], p: Place) -> Place
-    requires { ⌜ p .filled ≤ bufferSize ⌝ }
-    ensures { λ r. ⌜ Flushed p r ⌝ }
-{
-    let all = io::write_all(libc::STDOUT_FILENO, waiting(out, p));
-    tell_unwritten(all);
-    after_write(p, all)
 }
 
 // After a read of n octets. At the end of the input there are none; text after the last line feed is a line too, and one step
@@ -115,7 +112,7 @@ fn tell_unread(got: isize) {
     if got >= 0 {
         return;
     }
-    os::fail(b"standard input");
+    tell(b"standard input");
 }
 
 // Reads on where a step is left. What is read, no contract can say.
@@ -174,10 +171,10 @@ pub fn next(
     let mut q = p;
     q.steps = p.steps - 1;
     if p.at == p.end {
-        return fill(buf, flush(out, q));
+        return fill(buf, after_write(q, write(waiting(out, q))));
     }
     if BUFFER_SIZE - p.filled < room {
-        return flush(out, q);
+        return after_write(q, write(waiting(out, q)));
     }
     take(buf, line, q)
 }
