@@ -7,6 +7,7 @@ use step_plan::Places;
 use step_plan::Plan;
 use step_rules::Numbers;
 ghost use mathlib.Core.Path.{_≡_};
+ghost use mathlib.Core.Bool.{true};
 ghost use mathlib.Core.List.{List, _++_};
 ghost use Prim.Native.Nat.{ℕ, _+_, _*_, _≤_, _<_};
 ghost use lib.ListN.{length, getD, take, drop, replicate};
@@ -17,6 +18,7 @@ ghost use Rattle.page.specs.Page.{reserving};
 ghost use Rattle.call_spec.specs.declared.Call.the-variants.{Request};
 ghost use Rattle.frame.specs.Layout.{sendBlockAt, dataBlockAt};
 ghost use Rattle.call_spec.specs.Calls.{given, rooms, does, blockRoomOk, restarting};
+ghost use Rattle.step_plan.specs.declared.Places.the-variants.{Clear};
 ghost use Rattle.step_plan.specs.Internal.{blockBy, blockOut, sentBy, Planned, Sends};
 ghost use Rattle.endpoint.specs.View.{placesSize, placeBlock};
 ghost use Rattle.endpoint.specs.Internal.{recordOf};
@@ -125,27 +127,27 @@ fn drop_front(gone: usize, width: usize, d: &mut [u8])
     }
 }
 
-// The n octets of d are written afresh, as zeros.
-fn fill(n: usize, d: &mut [u8])
-    requires { ⌜ length (now d) ≡ n ⌝ }
-    ensures { λ _. ⌜ now (d .exit) ≡ replicate n 0 ⌝ }
+// All of d is written afresh, as zeros.
+pub fn clear(d: &mut [u8])
+    ensures { λ _. ⌜ now (d .exit) ≡ replicate (length (now (d .entry))) 0 ⌝ }
 {
     let mut i = 0;
-    while i < n {
+    while i < d.len() {
         d[i] = 0;
         i += 1;
     }
 }
 
-// All places are written afresh: the blocks by a loop of a fixed length, which takes the machine fewer instructions.
-fn clear(d: &mut [u8])
-    ensures { λ _. ⌜ now (d .exit) ≡ replicate (length (now (d .entry))) 0 ⌝ }
+// Is every place written afresh, of the blocks that wait and of those held?
+pub fn clears(queue: Places, held: Places) -> bool
+    ensures { λ r. ⌜ (r ≡ true → (queue ≡ Clear) × (held ≡ Clear)) ⌝ }
 {
-    if d.len() == endpoint::PLACES_SIZE {
-        fill(endpoint::PLACES_SIZE, d);
-        return;
+    if let Places::Clear = queue {
+        if let Places::Clear = held {
+            return true;
+        }
     }
-    fill(d.len(), d);
+    false
 }
 
 // What a plan makes of places of so many octets, of blocks or of their lengths; s joins.

@@ -1,22 +1,23 @@
 -- A plan that is carried out where the record lies leaves the octets of the record after it.
-use Prim.Native.Nat.{ℕ, _+_, _≤_}
+use Prim.Native.Nat.{ℕ, _+_, _-_, _≤_}
 use mathlib.Core.Path.{_≡_, refl, sym, ap, _∙_}
 use mathlib.Core.List.{List, [], _∷_, _++_, append-assoc}
 use native.Mathlib.Omega.{arith}
-use lib.ListN.{length, take, drop, length-append, length-drop}
+use lib.ListN.{length, take, drop, replicate, length-append, length-drop, length-replicate, replicate-append-replicate}
 use lib.Seq.{drop-at, drop-drop, length-take-le}
 use Rattle.octets.specs.Sizes.{longestBlock, queueSize, heldSize}
 use Rattle.endpoint.specs.View.{placesSize}
 use Rattle.octets.specs.Octets.{put}
-use Rattle.octets.proofs.Octets.{length-put}
+use Rattle.octets.proofs.Octets.{length-put, then-put}
 use Rattle.frame.specs.Frame.{Block}
 use Rattle.step_plan.specs.declared.Plan.{Plan}
 use Rattle.step_plan.specs.declared.Places.{Places}
+use Rattle.step_plan.specs.declared.Places.the-variants.{Clear}
 use Rattle.endpoint.specs.declared.Endpoint.{Endpoint}
 use Rattle.endpoint.specs.Record.{encode, decode, lengthsAt, blocksAt, heldLengthsAt, heldBlocksAt, recordSize}
 use Rattle.endpoint.specs.Internal.{recordOf, numbersIn}
 use Rattle.endpoint.proofs.Record.{numbers-long, encode-puts}
-use Rattle.endpoint_step.specs.Internal.{InEight, Fits, lengthsAfter, blocksAfter, carried}
+use Rattle.endpoint_step.specs.Internal.{InEight, Fits, lengthsAfter, blocksAfter, placesAfter, carried}
 use Rattle.endpoint_step.proofs.Places.{length-after, for-lengths, for-blocks}
 
 -- a part that is lent and comes back is a write
@@ -136,3 +137,29 @@ module _ (rec : List ℕ) (p : Plan) (b y : Block) (long : recordSize ≤ length
       encode-puts (p .numbers) l c hl hc rec (record { lengths = l8; blocks = c512; held-lengths = hl8; held-blocks = hc512 }) long ex
       (lent x l lengthsAt queueSize l8) (lent (x1 x l c hl) c blocksAt placesSize c512) (lent (x2 x l c hl) hl heldLengthsAt heldSize hl8) (lent (x3 x l c hl) hc heldBlocksAt placesSize hc512)
       ∙ ap (λ (e : Endpoint). put rec 0 (encode e)) new
+
+-- Where every place is written afresh, the arrays are one run of zeros.
+abbrev runSize : ℕ
+runSize = recordSize - lengthsAt
+
+zeros : (d : List ℕ) (at n : ℕ) → at + n ≤ length d → replicate {A = ℕ} (length (take n (drop at d))) 0 ≡ replicate n 0
+zeros d at n h = ap (λ (k : ℕ). replicate k 0) (length-take-le n (drop at d) (rw length-drop (omega arith)))
+
+module _ (rec : List ℕ) (p : Plan) (b y : Block) (long : recordSize ≤ length rec) (q : p .queue ≡ Clear) (h : p .held ≡ Clear) where
+  all-zeros : encode (carried p b y (decode rec)) ≡ numbersIn (p .numbers) ++ replicate runSize 0
+  unfolding encode carried decode placesAfter numbersIn
+  all-zeros =
+      let z1 = zeros rec lengthsAt queueSize (omega arith) in
+      let z2 = zeros rec blocksAt placesSize (omega arith) in
+      let z3 = zeros rec heldLengthsAt heldSize (omega arith) in
+      let z4 = zeros rec heldBlocksAt placesSize (omega arith) in
+      rw (q, h) (λ i. numbersIn (p .numbers) ++ (z1 i ++ (z2 i ++ (z3 i ++ z4 i))))
+
+  pub cleared : {x z : List ℕ} → x ≡ put rec 0 (numbersIn (p .numbers)) → z ≡ replicate (length (take runSize (drop lengthsAt x))) 0
+      → back x lengthsAt runSize z ≡ put rec 0 (encode (carried p b y (decode rec)))
+  cleared {x} {z} ex ez =
+      let n = p .numbers in
+      let l : length x ≡ length rec = ap length ex ∙ length-put rec (numbersIn n) 0 (omega (arith, numbers-long n)) in
+      let e : z ≡ replicate runSize 0 = ez ∙ zeros x lengthsAt runSize (omega arith) in
+      then-put rec (numbersIn n) z lengthsAt (numbers-long n) (omega arith) ex (lent x z lengthsAt runSize (ap length e ∙ length-replicate {A = ℕ} runSize 0))
+      ∙ ap (put rec 0) (ap (λ (s : List ℕ). numbersIn n ++ s) e ∙ sym all-zeros)

@@ -205,7 +205,7 @@ pub fn reserve(p: Plan, page: &mut [u8])
 }
 
 // Changes the record where it lies: its numbers, and of the lengths and blocks what the plan says; joined is the block that joins those
-// that wait, early the one that joins those held.
+// that wait, early the one that joins those held. Where every place is written afresh, they are one run of octets.
 fn store<'a>(p: Plan, joined: &'a [u8], early: &'a [u8], rec: &mut [u8])
     requires { ⌜ (recordSize ≤ length (now rec)) × Fits p (now joined) (now early) ⌝ }
     ensures { λ _. ⌜ now (rec .exit) ≡ put (now (rec .entry)) 0 (encode (carried p (now (joined .entry)) (now (early .entry)) (decode (now (rec .entry))))) ⌝ }
@@ -213,6 +213,11 @@ fn store<'a>(p: Plan, joined: &'a [u8], early: &'a [u8], rec: &mut [u8])
     let n = p.numbers;
     endpoint::store_numbers(n, rec);
     let queue = p.queue;
+    let held = p.held;
+    if endpoint_step::clears(queue, held) {
+        endpoint_step::clear(&mut rec[LENGTHS_AT..RECORD_SIZE]);
+        return;
+    }
     let count = [joined.len() as u8];
     endpoint_step::change_places(queue, 1, &count, &mut rec[LENGTHS_AT..BLOCKS_AT]);
     endpoint_step::change_places(
@@ -221,7 +226,6 @@ fn store<'a>(p: Plan, joined: &'a [u8], early: &'a [u8], rec: &mut [u8])
         joined,
         &mut rec[BLOCKS_AT..HELD_LENGTHS_AT],
     );
-    let held = p.held;
     let early_count = [early.len() as u8];
     endpoint_step::change_places(
         held,
