@@ -17,9 +17,8 @@ use Rattle.bench_spec.specs.Bench.{Bench, benchOf, bufferQuestions, roomQuestio
 use Rattle.bench_answer.specs.Text.{answerRoom, benchText, askedWith}
 use Rattle.line_split.specs.Split.{cut}
 use Rattle.line_split.proofs.Long.{asks-cut}
-use Rattle.line_io.specs.declared.Place.{Place}
-use Rattle.line_io.specs.Answering.{Cuts, inputText}
-use Rattle.line_io.specs.Program.{Ran, Over, concat}
+use Rattle.line_io.specs.Answering.{Cuts}
+use Rattle.line_io.specs.Claim.{WholeText, EitherCase}
 use Rattle.line_io.proofs.Answers.{input-normal}
 use Rattle.line_io.proofs.Steps.{free, free-room}
 use Rattle.line_io.proofs.Program.{program-run}
@@ -58,7 +57,7 @@ either-case : (w : Bench) (l : List ℕ) → lineAsks w (normal l) (rooms longes
 unfolding lineAsks restartedEnd
 either-case w l = rw (asked-alike l, unhex-normal l) refl
 
-pub either-case-text : (input : List ℕ) → inputText bothEnds freshBench (normal input) ≡ inputText bothEnds freshBench input
+pub either-case-text : EitherCase bothEnds freshBench
 either-case-text =
     input-normal bothEnds
     (λ w l. ap (λ (q : Outcome At). benchAfter (endOf q) w (comes w q)) (either-case w l))
@@ -76,6 +75,5 @@ all-fresh e f l n = rw (e, f, l, n) refl
 
 -- THE theorem, of the program: from fresh ends and an empty log to its end after the end of the input, however the input came in pieces, all that was
 -- handed to be written is the text of the input.
-pub whole : {w : Bench} {buf line out : List ℕ} {p : Place} (r : Ran bothEnds answerRoom freshBench w buf line out p) → p .steps ≡ 0 → Over (r .pieces)
-    → concat (r .texts) ≡ inputText bothEnds freshBench (concat (r .pieces))
-whole r z o = program-run cuts (r .run) z o
+pub whole : WholeText bothEnds answerRoom freshBench
+whole = program-run cuts

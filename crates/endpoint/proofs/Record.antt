@@ -12,6 +12,7 @@ use Rattle.octets.proofs.Octets.{width, octets-take, octets-drop, then-put, Fit
 use Rattle.endpoint.specs.declared.Endpoint.{Endpoint}
 use Rattle.step_rules.specs.declared.Numbers.{Numbers}
 use Rattle.endpoint.specs.Record.{acceptedAt, blocksAt, deliveredAt, heldBlocksAt, heldLengthsAt, lengthsAt, localAt, recordSize, remoteAt, waitingAt, numbersLayout, encode, decode, RecordFits}
+use Rattle.endpoint.specs.Claim.{WrittenReads, ReadWrites}
 use Rattle.endpoint.specs.Internal.{recordOf, numbersIn}
 use Rattle.endpoint.proofs.Packs.{Long}
 
@@ -80,7 +81,7 @@ fit e r =
 part : (p q r : List ℕ) {s : List ℕ} {at n : ℕ} → s ≡ p ++ (q ++ r) → length p ≡ at → length q ≡ n → take n (drop at s) ≡ q
 part p q r {at = at} {n = n} e k m = rw (e, drop-at p (q ++ r) at k) (take-at q r n m)
 
-pub decode-encode : (e : Endpoint) (d : List ℕ) → RecordFits e → decode (encode e ++ d) ≡ e
+pub decode-encode : WrittenReads
 unfolding decode encode fields size
 decode-encode e d r =
     let vs = e .state ∷ e .local ∷ e .remote ∷ e .accepted ∷ e .delivered ∷ e .waiting ∷ [] in
@@ -117,7 +118,7 @@ decode-encode e d r =
 parts : (at n m : ℕ) (s : List ℕ) {x : List ℕ} → x ≡ take m (drop (at + n) s) → take n (drop at s) ++ x ≡ take (n + m) (drop at s)
 parts at n m s h = ap (λ (x : List ℕ). take n (drop at s) ++ x) (h ∙ ap (take m) (sym (drop-drop n at s))) ∙ sym (take-add n m (drop at s))
 
-pub encode-decode : (s : List ℕ) → Octets s → recordSize ≤ length s → encode (decode s) ≡ take recordSize s
+pub encode-decode : ReadWrites
 unfolding decode encode fields size
 encode-decode s o n =
     ap (λ (x : List ℕ). x ++ (take queueSize (drop lengthsAt s) ++ (take placesSize (drop blocksAt s) ++ (take heldSize (drop heldLengthsAt s) ++ take placesSize (drop heldBlocksAt s)))))

@@ -22,7 +22,8 @@ use Rattle.line_io.specs.Answering.{stateAfter, Cuts}
 use Rattle.line_io.proofs.Answers.{input-normal}
 use Rattle.line_io.proofs.Steps.{free, free-room}
 use Rattle.line_io.proofs.Program.{program-run}
-use Rattle.line.specs.Ends.{oneEnd, others, LeftOut, EitherCase, WholeText}
+use Rattle.line_io.specs.Claim.{WholeText, EitherCase}
+use Rattle.line.specs.Ends.{oneEnd, others, LeftOut}
 
 -- A line counts as what is kept of it.
 asks-alike : (rec page l : List ℕ) → readyOutcome rec page (cut l) ≡ readyOutcome rec page l
@@ -43,7 +44,7 @@ unfolding lineOutcome readyOutcome
 either-case r [] = refl
 either-case r (c ∷ l) = rw (asked-alike (c ∷ l), unhex-normal (c ∷ l)) refl
 
-pub either-case-text : EitherCase
+pub either-case-text : EitherCase oneEnd freshEnd
 either-case-text = input-normal oneEnd (λ r l. ap (lentAfter r) (either-case r l)) (λ r l. ap (text (r .rec)) (either-case r l)) freshEnd
 
 -- The record and the page after lines are those after them without the empty ones,
@@ -73,5 +74,5 @@ leaves rec page line out filled h w =
     λ i. record { rec = p i; page = q i }
 
 -- THE theorem, of the program
-pub whole : WholeText
-whole r buf line out p w z o = program-run cuts (w .run) z o
+pub whole : WholeText oneEnd answerRoom freshEnd
+whole = program-run cuts

@@ -13,6 +13,7 @@ use Rattle.line_io.specs.Answering.{Answering, Cuts, stateAfter, answers
 use Rattle.line_io.specs.Place.{bufferSize, PlaceFits, Starts, between}
 use Rattle.line_io.specs.Step.{Rests, Stepped}
 use Rattle.line_io.specs.Program.{handed, brought, Run, starts, steps, Ran, Over, concat}
+use Rattle.line_io.specs.Claim.{WholeText, AtOnce}
 use Rattle.line_io.proofs.Answers.{Fed, fed-more, fed-whole}
 use Rattle.line_io.proofs.Steps.{by-lt}
 
@@ -257,14 +258,10 @@ module _ {a : Answering} (c : Cuts a) where
   whole {out = out} {texts = texts} (over l) z o =
       sym (ap (λ (n : ℕ). concat texts ++ take n out) (l .done z) ∙ append-nil (concat texts)) ∙ l .text
 
-  -- THE theorem, of a program that is done stateAfter the end of its input: however the input came in pieces, all that was handed to be written is the text of the input.
-  pub program-run : {room : ℕ} {s₀ s : a .State} {buf line out : List ℕ} {p : Place} {pieces texts : List (List ℕ)} → Run a room s₀ s buf line out p pieces texts
-      → p .steps ≡ 0 → Over pieces → concat texts ≡ inputText a s₀ (concat pieces)
-  program-run r z o = whole (so-far r) z o
+  -- the text of the input is handed on whole, and each answer at once
+  pub program-run : {room : ℕ} {s₀ : a .State} → WholeText a room s₀
+  program-run s buf line out p w z o = whole (so-far (w .run)) z o
 
-  -- And whenever it reads, all that was handed to be written before answers every line that has ended: a person who types gets each answer at once.
-  pub at-once : {room : ℕ} {s₀ s s′ : a .State} {buf line out buf′ line′ out′ : List ℕ} {p q : Place} {pieces texts : List (List ℕ)}
-      → Run a room s₀ s buf line out p pieces texts → Stepped a room s buf line out p s′ buf′ line′ out′ q → p .at ≡ p .end → q .steps ≢ 0
-      → concat (texts ++ handed room out p) ≡ answers a s₀ (ended [] (concat pieces))
-  at-once {room} {s₀} {s} {s′} {buf} {line} {out} {buf′} {line′} {out′} {p} {q} {pieces} {texts} r w h n =
-      all-answered c room s₀ s s′ buf line out buf′ line′ out′ p q pieces texts w h n (so-far r)
+  pub at-once : {room : ℕ} {s₀ : a .State} → AtOnce a room s₀
+  at-once {room} {s₀} s s′ buf line out buf′ line′ out′ p q r w h n =
+      all-answered c room s₀ s s′ buf line out buf′ line′ out′ p q (r .pieces) (r .texts) w h n (so-far (r .run))
