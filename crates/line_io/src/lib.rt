@@ -4,7 +4,7 @@ ghost use Prim.Native.Nat.{_+_, _≤_, _<_};
 ghost use lib.ListN.{length, take};
 ghost use Rattle.octets.specs.Test.{when};
 ghost use Rattle.line_split.specs.Split.{longestKept};
-ghost use Rattle.line_io.specs.Place.{bufferSize, PlaceFits, Starts, readyLine, emptied, answeredWith, Flushed, AfterRead, Filled, Taken, Next};
+ghost use Rattle.line_io.specs.Place.{bufferSize, PlaceFits, Starts, readyLine, emptied, answeredWith, AfterRead, Filled, Taken, Next};
 
 // The octets of a program's buffers for its input and its output.
 pub const BUFFER_SIZE: usize = 65536;
@@ -63,8 +63,7 @@ fn tell(what: &[u8]) {
 
 // Writes a text to standard output. Whether all was written, no contract can say; where not, the cause is told.
 fn write(text: &[u8]) -> bool {
-    let all = io::write_all(libc::STDOUT_FILENO, text);
-    if all {
+    if io::write_all(libc::STDOUT_FILENO, text) {
         return true;
     }
     tell(b"standard output");
