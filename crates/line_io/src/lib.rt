@@ -61,16 +61,14 @@ fn tell(what: &[u8]) {
     os::fail(what);
 }
 
-// Writes a text to standard output. Whether all was written, no contract can say; where not, the cause is told.
-fn write(text: &[u8]) -> bool {
-    if io::write_all(libc::STDOUT_FILENO, text) {
-        return true;
-    }
-    tell(b"standard output");
-    false
+// Writes what waits of the output. Whether all was written, no contract can say.
+fn flush(out: &[u8; BUFFER_SIZE], p: Place) -> bool
+    requires { ⌜ p .filled ≤ bufferSize ⌝ }
+{
+    io::write_all(libc::STDOUT_FILENO, waiting(out, p))
 }
 
-// Nothing waits after a write. The program is done where not all was written.
+// Nothing waits after a write. The program is done where not all was written, and tells why.
 fn after_write(p: Place, all: bool) -> Place
     ensures { λ r. ⌜ r ≡ emptied p (when all (p .steps) 0) ⌝ }
 {
@@ -80,6 +78,7 @@ fn after_write(p: Place, all: bool) -> Place
     if all {
         return q;
     }
+    tell(b"standard output");
     q.steps = 0;
     q
 }
@@ -170,10 +169,10 @@ pub fn next(
     let mut q = p;
     q.steps = p.steps - 1;
     if p.at == p.end {
-        return fill(buf, after_write(q, write(waiting(out, q))));
+        return fill(buf, after_write(q, flush(out, q)));
     }
     if BUFFER_SIZE - p.filled < room {
-        return after_write(q, write(waiting(out, q)));
+        return after_write(q, flush(out, q));
     }
     take(buf, line, q)
 }

@@ -12,13 +12,13 @@ fill-requires c κs = ap (λ (q : Place). q .lines) (c .after-write .ensures)
 returns : tie.Need-returns
 returns c =
     let a : tie.Start = search in
-    next-refilled (a .pre .0) (a .pre .1) (c .before .before .before .before .before .before .if1 .taken)
+    next-refilled (a .pre .0) (a .pre .1) (c .before .before .before .before .if1 .taken)
     (record { written = c .before .after-write .result; flushed = flushed _ (c .before .after-write .ensures); filled = c .fill .ensures; held = refl })
 
 returns-2 : tie.Need-returns-2
 returns-2 c =
     let a : tie.Start = search in
-    next-flushed (a .pre .0) (a .pre .1) (c .before .before .before .before .before .before .if1 .left) (omega (arith, c .before .before .before .before .if2 .taken)) (flushed _ (c .after-write2 .ensures))
+    next-flushed (a .pre .0) (a .pre .1) (c .before .before .before .before .if1 .left) (omega (arith, c .before .before .if2 .taken)) (flushed _ (c .after-write2 .ensures))
 
 returns-3 : tie.Need-returns-3
 returns-3 c =
@@ -28,4 +28,4 @@ returns-3 c =
 pub next-spec : {M : Type 1} → statement M
 next-spec =
     tie.close
-    (tie.spec (λ c. search needs) (λ c κs. search needs) (λ c κs. search needs) (λ c κs. search needs) fill-requires returns (λ c. search needs) (λ c κs. search needs) (λ c κs. search needs) (λ c κs. search needs) returns-2 (λ c κs. search needs) returns-3)
+    (tie.spec (λ c. search needs) (λ c κs. search needs) (λ c κs. search needs) fill-requires returns (λ c. search needs) (λ c κs. search needs) (λ c κs. search needs) returns-2 (λ c κs. search needs) returns-3)
