@@ -14,7 +14,7 @@ use Rattle.hex.proofs.Digits.{length-hex}
 use Rattle.frame.specs.Frame.{Block}
 use Rattle.call_spec.specs.declared.Status.{Status}
 use Rattle.answer_text.specs.Text.{asLine, counted, answerOctets, answerLine, frameLine, textOf, longestAnswer}
-use Rattle.answer_text.specs.Text.{Begins}
+use Rattle.answer_text.specs.Text.{StartsWith}
 
 pub length-line : (s : List ℕ) → length (asLine s) ≡ 2 * length s + 1
 unfolding asLine
@@ -22,7 +22,7 @@ length-line s = length-append (hex s) (10 ∷ []) ∙ ap (λ (n : ℕ). n + 1) (
 
 -- the digits, then the line feed
 pub line-puts : (s d : List ℕ) → 2 * length s + 1 ≤ length d → {a b : List ℕ} → a ≡ put d 0 (hex s) → b ≡ put a (2 * length s) (10 ∷ [])
-    → Begins (asLine s) d b (2 * length s + 1)
+    → StartsWith (asLine s) d b (2 * length s + 1)
 unfolding asLine
 line-puts s d h ea eb =
     record { count = sym (length-line s); buffer = then-put d (hex s) (10 ∷ []) (2 * length s) (length-hex s) (omega arith) ea eb }
@@ -64,7 +64,7 @@ unfolding answerOctets counted lay octetsOf
 length-numbers t = refl
 
 -- an answer line without a block, and with one
-pub told-none : (t : Status) (b d : List ℕ) → length b ≡ 0 → {f : List ℕ} → f ≡ put d 0 (answerOctets t []) → Begins (answerOctets t b) d f 11
+pub told-none : (t : Status) (b d : List ℕ) → length b ≡ 0 → {f : List ℕ} → f ≡ put d 0 (answerOctets t []) → StartsWith (answerOctets t b) d f 11
 told-none t b d h e = rw (none b h) (record { count = sym (length-numbers t); buffer = e })
 
 with-block : (t : Status) (b : Block) → length b ≢ 0 → answerOctets t b ≡ (answerOctets t [] ++ (length b ∷ [])) ++ b
@@ -72,7 +72,7 @@ unfolding answerOctets counted lay octetsOf
 with-block t b h = rw (counts b h) refl
 
 pub told-some : (t : Status) (b d : List ℕ) → length b ≢ 0 → longestAnswer ≤ length d → length b ≤ longestBlock → {f g h : List ℕ} → f ≡ put d 0 (answerOctets t [])
-    → g ≡ put f 11 (length b ∷ []) → h ≡ put g 12 b → Begins (answerOctets t b) d h (12 + length b)
+    → g ≡ put f 11 (length b ∷ []) → h ≡ put g 12 b → StartsWith (answerOctets t b) d h (12 + length b)
 told-some t b d z n m ef eg eh =
     let p = answerOctets t [] in
     let q = p ++ (length b ∷ []) in
@@ -89,7 +89,7 @@ told-short t (x ∷ b) h =
     rw (with-block t (x ∷ b) (λ z. omega arith))
     (omega (arith, length-append (p ++ (length (x ∷ b) ∷ [])) (x ∷ b), length-append p (length (x ∷ b) ∷ []), length-numbers t))
 
-pub told-room : (t : Status) (b d : List ℕ) {x : List ℕ} {n : ℕ} → length b ≤ longestBlock → length d ≡ longestAnswer → Begins (answerOctets t b) d x n
+pub told-room : (t : Status) (b d : List ℕ) {x : List ℕ} {n : ℕ} → length b ≤ longestBlock → length d ≡ longestAnswer → StartsWith (answerOctets t b) d x n
     → (n ≤ longestAnswer) × (length x ≡ longestAnswer)
 told-room t b d h l w =
     let k = told-short t b h in
@@ -104,8 +104,8 @@ pub length-told : (t : Status) → length (answerLine t []) ≡ 23
 length-told t = length-line (answerOctets t []) ∙ ap (λ (n : ℕ). 2 * n + 1) (length-numbers t)
 
 -- the answer line alone, and with the frame's line after it
-pub text-none : (t : Status) (b : Block) (sent d : List ℕ) → length sent ≡ 0 → {x : List ℕ} {m : ℕ} → Begins (answerLine t b) d x m
-    → Begins (textOf t b sent) d x m
+pub text-none : (t : Status) (b : Block) (sent d : List ℕ) → length sent ≡ 0 → {x : List ℕ} {m : ℕ} → StartsWith (answerLine t b) d x m
+    → StartsWith (textOf t b sent) d x m
 unfolding textOf frameLine
 text-none t b sent d h w = rw (none sent h, append-nil (answerLine t b)) w
 
@@ -114,8 +114,8 @@ unfolding textOf frameLine
 with-frame t b [] h = absurd (h refl)
 with-frame t b (x ∷ sent) h = refl
 
-pub text-some : (t : Status) (b : Block) (sent d : List ℕ) → length sent ≢ 0 → {x y : List ℕ} {m k : ℕ} → Begins (answerLine t b) d x m
-    → m ≤ length d → Begins (asLine sent) (take (length x - m) (drop m x)) y k → Begins (textOf t b sent) d (take m x ++ (y ++ drop (length x - m) (drop m x))) (m + k)
+pub text-some : (t : Status) (b : Block) (sent d : List ℕ) → length sent ≢ 0 → {x y : List ℕ} {m k : ℕ} → StartsWith (answerLine t b) d x m
+    → m ≤ length d → StartsWith (asLine sent) (take (length x - m) (drop m x)) y k → StartsWith (textOf t b sent) d (take m x ++ (y ++ drop (length x - m) (drop m x))) (m + k)
 text-some t b sent d h {x} {y} {m} {k} w l v =
     let p = answerLine t b in
     let q = asLine sent in

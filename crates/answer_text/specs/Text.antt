@@ -52,6 +52,6 @@ outputOf (refused n) = Refused n
 outputOf (ok s) = Written (length s)
 
 -- s stands at the start of the buffer, and n is its length
-pub record Begins (s out out′ : List ℕ) (n : ℕ) : Type 0 where
+pub record StartsWith (s out out′ : List ℕ) (n : ℕ) : Type 0 where
   pub count : n ≡ length s
   pub buffer : out′ ≡ put out 0 s

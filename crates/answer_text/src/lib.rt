@@ -3,7 +3,7 @@ use call_spec::Status;
 ghost use Prim.Native.Nat.{_+_, _*_, _≤_};
 ghost use lib.ListN.{length};
 ghost use Rattle.octets.specs.Sizes.{longestFrame, longestBlock};
-ghost use Rattle.answer_text.specs.Text.{asLine, answerOctets, answerLine, textOf, longestAnswer, answerRoom, Begins};
+ghost use Rattle.answer_text.specs.Text.{asLine, answerOctets, answerLine, textOf, longestAnswer, answerRoom, StartsWith};
 
 // Room for an answer: 153 characters for its line with the longest block, 157 for the line of the longest frame.
 pub const ANSWER_ROOM: usize = 2 * LONGEST_ANSWER + 1 + 2 * octets::LONGEST_FRAME + 1;
@@ -26,7 +26,7 @@ pub enum Output {
 // Writes the octets of s as a line to the start of out.
 fn write_line(s: &[u8], out: &mut [u8]) -> usize
     requires { ⌜ 2 * length (now s) + 1 ≤ length (now out) ⌝ }
-    ensures { λ r. ⌜ Begins (asLine (now (s .entry))) (now (out .entry)) (now (out .exit)) r ⌝ }
+    ensures { λ r. ⌜ StartsWith (asLine (now (s .entry))) (now (out .entry)) (now (out .exit)) r ⌝ }
 {
     hex::write(s, out);
     let n = 2 * s.len();
@@ -37,7 +37,7 @@ fn write_line(s: &[u8], out: &mut [u8]) -> usize
 // Writes the octets of an answer line to the start of out.
 fn tell(t: Status, block: &[u8], out: &mut [u8]) -> usize
     requires { ⌜ (longestAnswer ≤ length (now out)) × (length (now block) ≤ longestBlock) ⌝ }
-    ensures { λ r. ⌜ Begins (answerOctets t (now (block .entry))) (now (out .entry)) (now (out .exit)) r ⌝ }
+    ensures { λ r. ⌜ StartsWith (answerOctets t (now (block .entry))) (now (out .entry)) (now (out .exit)) r ⌝ }
 {
     let first = (128 + octets::wide32(t.number)) % 256;
     octets::store8(out, 0, first as u8);
@@ -56,7 +56,7 @@ fn tell(t: Status, block: &[u8], out: &mut [u8]) -> usize
 // Writes an answer line to the start of out.
 pub fn write_answer(t: Status, block: &[u8], out: &mut [u8]) -> usize
     requires { ⌜ (length (now block) ≤ longestBlock) × (length (answerLine t (now block)) ≤ length (now out)) ⌝ }
-    ensures { λ r. ⌜ Begins (answerLine t (now (block .entry))) (now (out .entry)) (now (out .exit)) r ⌝ }
+    ensures { λ r. ⌜ StartsWith (answerLine t (now (block .entry))) (now (out .entry)) (now (out .exit)) r ⌝ }
 {
     let mut octets = [0u8; LONGEST_ANSWER];
     let n = tell(t, block, &mut octets);
@@ -66,7 +66,7 @@ pub fn write_answer(t: Status, block: &[u8], out: &mut [u8]) -> usize
 // Writes the text of an answer to the start of out: the answer line, and the line of the frame sent, if there is one.
 pub fn write_text(t: Status, block: &[u8], sent: &[u8], out: &mut [u8]) -> usize
     requires { ⌜ (answerRoom ≤ length (now out)) × ((length (now block) ≤ longestBlock) × (length (now sent) ≤ longestFrame)) ⌝ }
-    ensures { λ r. ⌜ Begins (textOf t (now (block .entry)) (now (sent .entry))) (now (out .entry)) (now (out .exit)) r ⌝ }
+    ensures { λ r. ⌜ StartsWith (textOf t (now (block .entry)) (now (sent .entry))) (now (out .entry)) (now (out .exit)) r ⌝ }
 {
     let m = write_answer(t, block, out);
     if sent.len() == 0 {

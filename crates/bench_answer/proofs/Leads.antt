@@ -11,7 +11,7 @@ use Rattle.octets.proofs.Octets.{then-put}
 use Rattle.hex.specs.Line.{digit, hex}
 use Rattle.frame.specs.Frame.{Block}
 use Rattle.call_spec.specs.declared.Status.{Status}
-use Rattle.answer_text.specs.Text.{asLine, answerOctets, frameLine, textOf, answerRoom, Begins}
+use Rattle.answer_text.specs.Text.{asLine, answerOctets, frameLine, textOf, answerRoom, StartsWith}
 use Rattle.octets.proofs.Buffers.{rest-put}
 use Rattle.answer_text.proofs.Text.{length-line, told-short}
 use Rattle.bench_answer.specs.Text.{lead}
@@ -34,7 +34,7 @@ leads (suc zero) h = refl
 leads (suc (suc i)) h = absurd (omega arith)
 
 pub tells : (i : ℕ) (d s : List ℕ) → i ≤ 1 → answerRoom + 2 ≤ length d → {x y u : List ℕ} {n : ℕ} → x ≡ put d 0 (53 ∷ []) → y ≡ put x 1 ((48 + i) ∷ [])
-    → Begins s (take (length y - 2) (drop 2 y)) u n → Begins (lead i ++ s) d (take 2 y ++ (u ++ drop (length y - 2) (drop 2 y))) (n + 2)
+    → StartsWith s (take (length y - 2) (drop 2 y)) u n → StartsWith (lead i ++ s) d (take 2 y ++ (u ++ drop (length y - 2) (drop 2 y))) (n + 2)
 tells i d s h l {x} {y} ex ey w =
     let p : List ℕ = 53 ∷ (48 + i) ∷ [] in
     let e : y ≡ put d 0 p = then-put d (53 ∷ []) ((48 + i) ∷ []) 1 refl (omega arith) ex ey in

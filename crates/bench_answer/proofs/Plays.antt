@@ -18,7 +18,7 @@ use Rattle.hex.specs.Line.{unhex}
 use Rattle.frame.specs.Read.{kindOf}
 use Rattle.call_spec.specs.declared.Call.the-variants.{Request, Receive}
 use Rattle.call_spec.specs.Calls.{Rooms, rooms, given, restartedIn}
-use Rattle.call_spec.specs.Claim.{Lent, Act, call, restart, comesBy}
+use Rattle.call_spec.specs.Claim.{Lent, LentAct, call, restart, comesBy}
 use Rattle.call_spec.specs.Answers.{blockIn, blockOf}
 use Rattle.link.specs.Lent.{statusOf, sentOf}
 use Rattle.link.specs.Record.{format}
@@ -27,11 +27,11 @@ use Rattle.bench_log.specs.Log.{placeSize, senderAt, lengthAt, frameLogged, hol
 use Rattle.bench_log.proofs.Log.{held}
 use Rattle.answer_text.specs.declared.Output.{Output}
 use Rattle.answer_text.specs.declared.Output.the-variants as output
-use Rattle.answer_text.specs.Text.{textOf, outputOf, Begins}
+use Rattle.answer_text.specs.Text.{textOf, outputOf, StartsWith}
 use Rattle.answer_text.proofs.Outputs.{output-fits}
 use Rattle.bench_spec.specs.Bench.{Bench, benchOf, lentAt, At, delivery, octetsAsk, restartAsk, lineAsks, comes, endOf, endNamed, requestOfA, requestOfB, deliver, restartKind}
 use Rattle.bench_call.specs.declared.BenchAnswer.{BenchAnswer}
-use Rattle.bench_call.specs.Answer.{blockAt, benchAnswerOf}
+use Rattle.bench_call.specs.Answer.{benchBlockAt, benchAnswerOf}
 use Rattle.bench_call.proofs.Does.{with-14}
 use Rattle.bench_call.proofs.Restarts.{restart-step}
 use Rattle.bench_order.specs.Performed.{Performed}
@@ -58,7 +58,7 @@ module _ (w : Bench) where
   fine-refused n = record { end = omega arith; block = omega arith }
 
   -- an act whose block is short, with 14 too
-  fine-act : (i : ℕ) (c : Act) → i ≤ 1 → Short (comesBy format (lentAt i w) c) → Fine (ok (i, c))
+  fine-act : (i : ℕ) (c : LentAct) → i ≤ 1 → Short (comesBy format (lentAt i w) c) → Fine (ok (i, c))
   unfolding endOf comes andThen blockOf
   fine-act i c h k = record { end = h; block = with-14 Short (λ n. omega arith) (lentAt i w) (w .count) c k }
 
@@ -133,10 +133,10 @@ module _ {w : Bench} {q : Outcome At} {start : ℕ} {a b : Lent} {log frame up :
   sent-is = ap (λ (x : BenchAnswer). x .sent) (p .answer)
 
   -- the block stands where it is told
-  pub block-there : length (blockAt (r .at) (r .block) log up) ≡ r .block
+  pub block-there : length (benchBlockAt (r .at) (r .block) log up) ≡ r .block
   block-there = ap length (p .handed) ∙ sym block-is
 
-  pub tellable : Fine w q → length frame ≡ longestFrame → {block : Block} → block ≡ blockAt (r .at) (r .block) log up
+  pub tellable : Fine w q → length frame ≡ longestFrame → {block : Block} → block ≡ benchBlockAt (r .at) (r .block) log up
       → (r .end ≤ 1) × ((length block ≤ longestBlock) × ((r .sent ≤ longestFrame) × (r .sent ≤ length frame)))
   tellable f l e =
       let s = sent-fits frames (comes w q) (p .buffer) l sent-is in
@@ -146,7 +146,7 @@ module _ {w : Bench} {q : Outcome At} {start : ℕ} {a b : Lent} {log frame up :
   unfolding benchAnswerOf
   told-is = ap (λ (x : BenchAnswer). x .status) (p .answer)
 
-  pub gives : {block : Block} → block ≡ blockAt (r .at) (r .block) log up → {out out′ : List ℕ} {k : ℕ} → Begins (lead (r .end) ++ textOf (r .status) block (take (r .sent) frame)) out out′ k
+  pub gives : {block : Block} → block ≡ benchBlockAt (r .at) (r .block) log up → {out out′ : List ℕ} {k : ℕ} → StartsWith (lead (r .end) ++ textOf (r .status) block (take (r .sent) frame)) out out′ k
       → BenchGives w q out a b log (r .count) out′ k
   unfolding benchText
   gives e g = record { begins = rw (end-is, told-is, e, p .handed, sent-taken frames (comes w q) (p .buffer) sent-is) at g; bench = p .bench }

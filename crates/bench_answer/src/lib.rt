@@ -7,11 +7,11 @@ ghost use mathlib.Core.List.{_++_};
 ghost use Prim.Native.Nat.{_≤_};
 ghost use lib.ListN.{length, take};
 ghost use Rattle.octets.specs.Sizes.{longestFrame, longestBlock};
-ghost use Rattle.answer_text.specs.Text.{textOf, Begins};
+ghost use Rattle.answer_text.specs.Text.{textOf, StartsWith};
 ghost use Rattle.call_spec.specs.Calls.{rooms};
 ghost use Rattle.call_spec.specs.Claim.{lent};
 ghost use Rattle.bench_spec.specs.Bench.{benchOf, lineAsks};
-ghost use Rattle.bench_call.specs.Answer.{blockAt};
+ghost use Rattle.bench_call.specs.Answer.{benchBlockAt};
 ghost use Rattle.bench_answer.specs.Text.{lead, answerRoom, BenchAnswered};
 ghost use Rattle.bench_answer.specs.Internal.{BenchGives};
 
@@ -25,8 +25,8 @@ const DIGIT_ZERO: u8 = 48;
 
 // The block handed up, of n octets: in the log from at on; one collected, whose at is 0, at the start of up.
 fn block_of<'a>(at: usize, n: usize, log: &'a [u8], up: &'a [u8]) -> &'a [u8]
-    requires { ⌜ length (blockAt at n (now log) (now up)) ≡ n ⌝ }
-    ensures { λ r. ⌜ now r ≡ blockAt at n (now (log .entry)) (now (up .entry)) ⌝ }
+    requires { ⌜ length (benchBlockAt at n (now log) (now up)) ≡ n ⌝ }
+    ensures { λ r. ⌜ now r ≡ benchBlockAt at n (now (log .entry)) (now (up .entry)) ⌝ }
 {
     if n == 0 {
         return &up[..0];
@@ -40,7 +40,7 @@ fn block_of<'a>(at: usize, n: usize, log: &'a [u8], up: &'a [u8]) -> &'a [u8]
 // Writes the text of an answer to the start of out: 50 or 51, then the text as at one end.
 fn tell(r: BenchAnswer, block: &[u8], frame: &[u8], out: &mut [u8]) -> usize
     requires { ⌜ (answerRoom ≤ length (now out)) × ((r .end ≤ 1) × ((length (now block) ≤ longestBlock) × ((r .sent ≤ longestFrame) × (r .sent ≤ length (now frame))))) ⌝ }
-    ensures { λ n. ⌜ Begins (lead (r .end) ++ textOf (r .status) (now (block .entry)) (take (r .sent) (now (frame .entry)))) (now (out .entry)) (now (out .exit)) n ⌝ }
+    ensures { λ n. ⌜ StartsWith (lead (r .end) ++ textOf (r .status) (now (block .entry)) (take (r .sent) (now (frame .entry)))) (now (out .entry)) (now (out .exit)) n ⌝ }
 {
     octets::store8(out, 0, DIGIT_FIVE);
     octets::store8(out, 1, DIGIT_ZERO + r.end);

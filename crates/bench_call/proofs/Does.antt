@@ -14,7 +14,7 @@ use Rattle.frame.specs.Layout.{encode}
 use Rattle.protocol.specs.Table.{Step, Sent, nothing, frame}
 use Rattle.call_spec.specs.declared.Call.the-variants.{Request}
 use Rattle.call_spec.specs.Calls.{Arguments, wire, pageAfter}
-use Rattle.call_spec.specs.Claim.{Lent, lent, Act, call, comesBy}
+use Rattle.call_spec.specs.Claim.{Lent, lent, LentAct, call, comesBy}
 use Rattle.call_spec.specs.Answers.{sentIn, blockOf, blockPart}
 use Rattle.endpoint.specs.Record.{recordSize}
 use Rattle.link.specs.declared.Answer.{Answer}
@@ -24,7 +24,7 @@ use Rattle.link.proofs.Answers.{sent-fits, sent-taken}
 use Rattle.bench_log.specs.Log.{places}
 use Rattle.bench_spec.specs.Bench.{sends, logged, callOutcome, logAfter, countAfter}
 use Rattle.bench_call.specs.declared.BenchAnswer.{BenchAnswer}
-use Rattle.bench_call.specs.Answer.{blockAt, benchAnswerOf}
+use Rattle.bench_call.specs.Answer.{benchBlockAt, benchAnswerOf}
 use Rattle.bench_call.specs.Internal.{noted, notedCount, blockPlace, answerFrom, Does}
 use Rattle.bench_call.proofs.Moves.{has-place}
 use Rattle.bench_call.proofs.Short.{sent-short}
@@ -65,18 +65,18 @@ unfolding answerFrom answerOf benchAnswerOf blockPlace
 tells i rec count start o = rw (counts count o) refl
 
 -- what holds of the outcome of a call at an end, and of each refusal, holds of its outcome with 14
-pub with-14 : (P : Outcome Step → Type 0) → ((n : ℕ) → P (refused n)) → (l : Lent) (count : ℕ) (c : Act) → P (comesBy format l c) → P (callOutcome l count c)
+pub with-14 : (P : Outcome Step → Type 0) → ((n : ℕ) → P (refused n)) → (l : Lent) (count : ℕ) (c : LentAct) → P (comesBy format l c) → P (callOutcome l count c)
 unfolding callOutcome logged
 with-14 P refusals l count c h =
     after-value P refusals (comesBy format l c) (logged count) (λ x e. of-value P refusals _ x (subst P e h))
 
 -- the block stands where the answer says
 abbrev pub Stands : ℕ → List ℕ → List ℕ → List ℕ → Type 0
-Stands start log up b = blockAt (ifEq (length b) 0 0 start) (length b) log up ≡ b
+Stands start log up b = benchBlockAt (ifEq (length b) 0 0 start) (length b) log up ≡ b
 
 -- that of a request at the start of the buffer for it
 collected-stands : (log up b : List ℕ) → take (length b) up ≡ b → Stands 0 log up b
-unfolding blockAt
+unfolding benchBlockAt
 collected-stands log up b h =
     let none : _≡_ {A = ℕ} (ifEq (length b) 0 0 0) 0 = by-eq (length b) 0 (λ z. eq-yes (length b) 0 0 0 z) (λ z. eq-no (length b) 0 0 0 z) in
     eq-yes _ 0 _ _ none ∙ h

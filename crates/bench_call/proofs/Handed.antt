@@ -22,7 +22,7 @@ use Rattle.link.proofs.Answers.{hands-it-up}
 use Rattle.bench_log.specs.Log.{placeSize, places, logSize, lengthAt, frameLogged, place, placeHead}
 use Rattle.bench_log.proofs.Places.{stays}
 use Rattle.bench_spec.specs.Bench.{sends, callOutcome, logAfter}
-use Rattle.bench_call.specs.Answer.{blockStart, blockAt}
+use Rattle.bench_call.specs.Answer.{blockStart, benchBlockAt}
 use Rattle.bench_call.proofs.Does.{some-octets, with-14, Stands}
 
 -- a block is empty, or what follows octet 14 of the frame received
@@ -76,7 +76,7 @@ block-part n log =
     rw (drop-part dataBlockAt (lengthAt n log) y, e) (again (lengthAt n log - dataBlockAt) (drop (n * placeSize + (placeHead + dataBlockAt)) log))
 
 none-stands : (start : ℕ) (log up b : List ℕ) → length b ≡ 0 → Stands start log up b
-unfolding blockAt ifEq when
+unfolding benchBlockAt ifEq when
 none-stands start log up [] h = refl
 none-stands start log up (x ∷ b) h = absurd (omega arith)
 
@@ -86,7 +86,7 @@ unfolding blockStart
 far n z = omega arith
 
 some-stands : (n : ℕ) (log up b : List ℕ) → b ≡ drop dataBlockAt (frameLogged n log) → Stands (blockStart n) log up b
-unfolding blockAt
+unfolding benchBlockAt
 some-stands n log up b e =
     by-eq (length b) 0 (none-stands (blockStart n) log up b)
     (λ z. rw (eq-no (length b) 0 0 (blockStart n) z) (eq-no (blockStart n) 0 _ _ (far n) ∙ rw e (block-part n log)))

@@ -12,7 +12,7 @@ use Rattle.octets.specs.Test.{when, first, Outcome, refused, ok, outcome, andTh
 use Rattle.frame.specs.Frame.{Block, Frame}
 use Rattle.protocol.specs.Table.{Step, Sent, nothing, frame}
 use Rattle.call_spec.specs.Calls.{Arguments, wire, performed}
-use Rattle.call_spec.specs.Claim.{Lent, Act, call}
+use Rattle.call_spec.specs.Claim.{Lent, LentAct, call}
 use Rattle.step_plan.specs.declared.Plan.{Plan}
 use Rattle.step_plan.specs.declared.Reply.{Reply}
 use Rattle.step_plan.specs.declared.Reply.the-variants as reply
@@ -71,6 +71,6 @@ unfolding andThen sentOf
 place-left (refused n) count h = absurd (h refl)
 place-left (ok x) count h = by-sent count x (x .sent) refl h
 
-pub has-place : (l : Lent) (count : ℕ) (c : Act) → sentOf (callOutcome l count c) ≢ 0 → count < places
+pub has-place : (l : Lent) (count : ℕ) (c : LentAct) → sentOf (callOutcome l count c) ≢ 0 → count < places
 unfolding callOutcome
 has-place l count c h = place-left (ends .comes l c) count h

@@ -20,7 +20,7 @@ use Rattle.link.specs.declared.Answer.{Answer}
 use Rattle.link.specs.Record.{format}
 use Rattle.link.specs.Lent.{sentOf, answerOf, Restarted}
 use Rattle.bench_spec.specs.Bench.{sends, callOutcome, logAfter, countAfter}
-use Rattle.bench_call.specs.Answer.{blockAt, benchAnswerOf}
+use Rattle.bench_call.specs.Answer.{benchBlockAt, benchAnswerOf}
 use Rattle.bench_call.specs.Internal.{restartAt, Does}
 use Rattle.bench_call.proofs.Moves.{quiet-logs}
 
@@ -45,12 +45,12 @@ module _ (i : ℕ) (rec page : List ℕ) (n : ℕ) where
       (record { end = i; status = r .status; sent = r .sent; at = 0; block = r .block; count = n })
 
   refused-leaves : (k : ℕ) → Leaves (refused k)
-  unfolding pageAfter logAfter countAfter bufferAfter blockBufferAfter benchAnswerOf answerOf sentOf blockOf blockAt mapped left ifEq when
+  unfolding pageAfter logAfter countAfter bufferAfter blockBufferAfter benchAnswerOf answerOf sentOf blockOf benchBlockAt mapped left ifEq when
   refused-leaves k rec′ r a e log out up start =
       record { answer = rw a refl; end = λ j. lent (e j) page; entered = refl; buffer = refl; block-buffer = refl; handed = rw a refl }
 
   restarted-leaves : Leaves (ok (quiet (restarted (count page)) none))
-  unfolding pageAfter logAfter countAfter bufferAfter blockBufferAfter benchAnswerOf answerOf sentOf blockOf blockIn blockAt sends wire mapped left ifEq when
+  unfolding pageAfter logAfter countAfter bufferAfter blockBufferAfter benchAnswerOf answerOf sentOf blockOf blockIn benchBlockAt sends wire mapped left ifEq when
   restarted-leaves rec′ r a e log out up start =
       record {
         answer = rw a refl;

@@ -18,8 +18,8 @@ blockStart n = n * placeSize + (placeHead + dataBlockAt)
 
 -- Where a block handed up stands, of n octets: a delivered one in the log, from at on; a collected one, whose at is 0, at the start of the
 -- buffer up.
-unfoldable pub blockAt : ℕ → ℕ → List ℕ → List ℕ → Block
-blockAt at n log up = ifEq at 0 (take n up) (take n (drop at log))
+unfoldable pub benchBlockAt : ℕ → ℕ → List ℕ → List ℕ → Block
+benchBlockAt at n log up = ifEq at 0 (take n up) (take n (drop at log))
 
 -- What is told of a call at end i with this record, with so many places in use. A block that the call hands up is in the log from start
 -- on, which is 0 for a request.

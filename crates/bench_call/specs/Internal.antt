@@ -1,4 +1,4 @@
--- What the parts of such a call do. No public call's contract needs this.
+-- What the parts of such a call do. No entry point's contract needs this.
 use Prim.Native.Nat.{ℕ, _+_, _*_, _≤_}
 use mathlib.Core.Path.{_≡_}
 use mathlib.Core.Bool.{Bool, true}
@@ -23,7 +23,7 @@ use Rattle.bench_log.specs.Log.{placeSize, places, place}
 use Rattle.bench_spec.specs.Bench.{callOutcome, logAfter}
 use Rattle.link.specs.Lent.{lentAfter}
 use Rattle.bench_call.specs.declared.BenchAnswer.{BenchAnswer}
-use Rattle.bench_call.specs.Answer.{blockAt, benchAnswerOf}
+use Rattle.bench_call.specs.Answer.{benchBlockAt, benchAnswerOf}
 
 -- what a call at an end comes to, and its restart
 abbrev pub outcomeAt : Lent → ℕ → Arguments → Outcome Step
@@ -33,8 +33,8 @@ abbrev pub restartAt : Lent → ℕ → Outcome Step
 restartAt l count = callOutcome l count (act.restart (l .rec))
 
 -- 11, 12 and 15 of a call at an end are passed
-abbrev pub Ready : Lent → List ℕ → List ℕ → Type 0
-Ready r out up =
+abbrev pub CallReady : Lent → List ℕ → List ℕ → Type 0
+CallReady r out up =
     (((recordSize ≤ length (r .rec)) × (format .sound (r .rec) ≡ true)) × ((pageSize ≤ length (r .page)) × (pagedFor (r .rec) (r .page) ≡ true)))
     × ((longestFrame ≤ length out) × (longestBlock ≤ length up))
 
@@ -67,4 +67,4 @@ pub record Does (i : ℕ) (l : Lent) (log : List ℕ) (count start : ℕ) (c : C
   pub entered : log′ ≡ logAfter i log count o
   pub buffer : out′ ≡ bufferAfter out o
   pub block-buffer : up′ ≡ blockBufferAfter c up o
-  pub handed : blockAt (r .at) (r .block) log′ up′ ≡ blockOf o
+  pub handed : benchBlockAt (r .at) (r .block) log′ up′ ≡ blockOf o

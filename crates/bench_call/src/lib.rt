@@ -16,7 +16,7 @@ ghost use Rattle.call_spec.specs.Claim.{lent};
 ghost use Rattle.link.specs.Lent.{Called, lentCall};
 ghost use Rattle.bench_log.specs.Log.{places, logSize, lengthAt, frameLogged};
 ghost use Rattle.bench_call.specs.Answer.{blockStart};
-ghost use Rattle.bench_call.specs.Internal.{outcomeAt, restartAt, Ready, hasPlace, noted, notedCount, blockPlace, answerFrom, Does};
+ghost use Rattle.bench_call.specs.Internal.{outcomeAt, restartAt, CallReady, hasPlace, noted, notedCount, blockPlace, answerFrom, Does};
 
 // Question 14 of a plan: what sends a frame needs a place for it in the log.
 pub fn has_place(reply: Reply, count: usize) -> bool
@@ -38,7 +38,7 @@ fn call_end(
     out: &mut [u8],
     up: &mut [u8],
 ) -> Answer
-    requires { ⌜ Ready (lent (now rec) (now page)) (now out) (now up) ⌝ }
+    requires { ⌜ CallReady (lent (now rec) (now page)) (now out) (now up) ⌝ }
     ensures { λ r. ⌜ Called call (outcomeAt (lent (now (rec .entry)) (now (page .entry))) count (lentCall call (now (s .entry)) (now (out .entry)) (now (up .entry)))) (now (rec .entry)) (now (s .entry)) (now (out .entry)) (now (up .entry)) (now (rec .exit)) (now (out .exit)) (now (up .exit)) r × (now (page .exit) ≡ pageAfter (now (page .entry)) (outcomeAt (lent (now (rec .entry)) (now (page .entry))) count (lentCall call (now (s .entry)) (now (out .entry)) (now (up .entry))))) ⌝ }
 {
     let p = link::plan_sound(call, rec, s);
@@ -115,7 +115,7 @@ pub fn request_at(
     out: &mut [u8],
     up: &mut [u8],
 ) -> BenchAnswer
-    requires { ⌜ Ready (lent (now rec) (now page)) (now out) (now up) × (logSize ≤ length (now log)) ⌝ }
+    requires { ⌜ CallReady (lent (now rec) (now page)) (now out) (now up) × (logSize ≤ length (now log)) ⌝ }
     ensures { λ r. ⌜ Does end (lent (now (rec .entry)) (now (page .entry))) (now (log .entry)) count 0 Request (outcomeAt (lent (now (rec .entry)) (now (page .entry))) count (lentCall Request (now (s .entry)) (now (out .entry)) (now (up .entry)))) (now (out .entry)) (now (up .entry)) (lent (now (rec .exit)) (now (page .exit))) (now (log .exit)) (now (out .exit)) (now (up .exit)) r ⌝ }
 {
     let a = call_end(Call::Request, rec, page, s, count, out, up);
@@ -133,7 +133,7 @@ pub fn deliver_at(
     out: &mut [u8],
     up: &mut [u8],
 ) -> BenchAnswer
-    requires { ⌜ Ready (lent (now rec) (now page)) (now out) (now up) × ((logSize ≤ length (now log)) × (((n < count) × (count ≤ places)) × (lengthAt n (now log) ≤ longestFrame))) ⌝ }
+    requires { ⌜ CallReady (lent (now rec) (now page)) (now out) (now up) × ((logSize ≤ length (now log)) × (((n < count) × (count ≤ places)) × (lengthAt n (now log) ≤ longestFrame))) ⌝ }
     ensures { λ r. ⌜ Does end (lent (now (rec .entry)) (now (page .entry))) (now (log .entry)) count (blockStart n) Receive (outcomeAt (lent (now (rec .entry)) (now (page .entry))) count (lentCall Receive (frameLogged n (now (log .entry))) (now (out .entry)) (now (up .entry)))) (now (out .entry)) (now (up .entry)) (lent (now (rec .exit)) (now (page .exit))) (now (log .exit)) (now (out .exit)) (now (up .exit)) r ⌝ }
 {
     let a = call_end(

@@ -1,4 +1,4 @@
--- The tests of each question, for the code. No public call's contract needs this.
+-- The tests of each question, for the code. No entry point's contract needs this.
 use Prim.Native.Nat.{ℕ}
 use mathlib.Core.Bool.{Bool}
 use mathlib.Core.List.{List, [], _∷_}

@@ -1,4 +1,4 @@
--- What the octets of a line come to. No public call's contract needs this.
+-- What the octets of a line come to. No entry point's contract needs this.
 use mathlib.Core.List.{List}
 use Prim.Native.Nat.{ℕ}
 use Rattle.octets.specs.Test.{first, Outcome, refusing}

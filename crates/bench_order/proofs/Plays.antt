@@ -15,26 +15,26 @@ use Rattle.octets.proofs.Octets.{field-more, field-one}
 use Rattle.frame.specs.Read.{kindOf}
 use Rattle.call_spec.specs.declared.Call.the-variants.{Request}
 use Rattle.call_spec.specs.Calls.{Rooms, rooms, given, recordAfter, bufferAfter, pageAfter}
-use Rattle.call_spec.specs.Claim.{Lent, Act, call, restart}
+use Rattle.call_spec.specs.Claim.{Lent, LentAct, call, restart}
 use Rattle.call_spec.specs.Answers.{blockOf, blockBufferAfter}
 use Rattle.bench_spec.specs.Bench.{Bench, benchOf, lentAt, At, delivery, octetsAsk, restartAsk, restartedBy, neither, endNamed, callOutcome, comes, endOf, logAfter, countAfter, benchAfter, requestOfA, requestOfB, deliver, restartKind}
 use Rattle.link.specs.Lent.{answerOf}
 use Rattle.link.specs.declared.Answer.{Answer}
 use Rattle.bench_checks.proofs.Passed.{Fit, Passed}
 use Rattle.bench_call.specs.declared.BenchAnswer.{BenchAnswer}
-use Rattle.bench_call.specs.Answer.{blockStart, blockAt, benchAnswerOf}
-use Rattle.bench_call.specs.Internal.{Ready, Does}
+use Rattle.bench_call.specs.Answer.{blockStart, benchBlockAt, benchAnswerOf}
+use Rattle.bench_call.specs.Internal.{CallReady, Does}
 use Rattle.bench_order.specs.Performed.{lineStart, callBy, callOf, Performed}
 
 -- where 11, 12 and 15 of a line are passed, so are those of a call at either end
 module _ {w : Bench} (out up : List ℕ) (y : Passed w (rooms (length out) (length up))) where
-  at-end : {l : Lent} → Fit l → Ready l out up
+  at-end : {l : Lent} → Fit l → CallReady l out up
   at-end f = (((f .long, f .is-sound), (f .page-long, f .goes)), (y .enough, y .enough-block))
 
-  pub ready-a : Ready (w .a) out up
+  pub ready-a : CallReady (w .a) out up
   ready-a = at-end (y .fit-a)
 
-  pub ready-b : Ready (w .b) out up
+  pub ready-b : CallReady (w .b) out up
   ready-b = at-end (y .fit-b)
 
 -- a refusal tells of A's record
@@ -50,12 +50,12 @@ module _ (a b : Lent) (log : List ℕ) (count : ℕ) where
   -- a refused line leaves all as it is
   pub declines : {q : Outcome At} (start k : ℕ) (out up : List ℕ) {r : BenchAnswer} → q ≡ refused k → r ≡ benchAnswerOf 0 (a .rec) count start (refused k)
       → Performed w q start out up a b log out up r
-  unfolding comes endOf callOf andThen lentAt benchAfter benchAnswerOf recordAfter pageAfter bufferAfter blockBufferAfter mapped left logAfter countAfter blockOf blockAt ifEq when
+  unfolding comes endOf callOf andThen lentAt benchAfter benchAnswerOf recordAfter pageAfter bufferAfter blockBufferAfter mapped left logAfter countAfter blockOf benchBlockAt ifEq when
   declines start k out up e h =
       rw e (record { answer = h; bench = λ i. benchOf a b log (h i .count); buffer = refl; block-buffer = refl; handed = rw h refl })
 
   -- a call at an end leaves the other as it is
-  pub at-a : {q : Outcome At} (start : ℕ) (c : Act) (out up : List ℕ) {a′ : Lent} {log′ out′ up′ : List ℕ} {r : BenchAnswer} → q ≡ ok (0, c)
+  pub at-a : {q : Outcome At} (start : ℕ) (c : LentAct) (out up : List ℕ) {a′ : Lent} {log′ out′ up′ : List ℕ} {r : BenchAnswer} → q ≡ ok (0, c)
       → Does 0 a log count start (callBy c) (callOutcome a count c) out up a′ log′ out′ up′ r → Performed w q start out up a′ b log′ out′ up′ r
   unfolding comes endOf callOf andThen lentAt benchAfter benchAnswerOf ifEq when
   at-a start c out up e d =
@@ -68,7 +68,7 @@ module _ (a b : Lent) (log : List ℕ) (count : ℕ) where
         handed = d .handed;
       })
 
-  pub at-b : {q : Outcome At} (start : ℕ) (c : Act) (out up : List ℕ) {b′ : Lent} {log′ out′ up′ : List ℕ} {r : BenchAnswer} → q ≡ ok (1, c)
+  pub at-b : {q : Outcome At} (start : ℕ) (c : LentAct) (out up : List ℕ) {b′ : Lent} {log′ out′ up′ : List ℕ} {r : BenchAnswer} → q ≡ ok (1, c)
       → Does 1 b log count start (callBy c) (callOutcome b count c) out up b′ log′ out′ up′ r → Performed w q start out up a b′ log′ out′ up′ r
   unfolding comes endOf callOf andThen lentAt benchAfter benchAnswerOf ifEq when
   at-b start c out up e d =

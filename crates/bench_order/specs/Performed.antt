@@ -8,18 +8,18 @@ use Rattle.frame.specs.Read.{kindOf}
 use Rattle.call_spec.specs.declared.Call.{Call}
 use Rattle.call_spec.specs.declared.Call.the-variants.{Receive}
 use Rattle.call_spec.specs.Calls.{bufferAfter}
-use Rattle.call_spec.specs.Claim.{Lent, Act, call, restart, cut}
+use Rattle.call_spec.specs.Claim.{Lent, LentAct, call, restart, cut}
 use Rattle.call_spec.specs.Answers.{blockOf, blockBufferAfter}
 use Rattle.bench_spec.specs.Bench.{Bench, benchOf, At, lentAt, comes, endOf, benchAfter, deliver}
 use Rattle.bench_call.specs.declared.BenchAnswer.{BenchAnswer}
-use Rattle.bench_call.specs.Answer.{blockStart, blockAt, benchAnswerOf}
+use Rattle.bench_call.specs.Answer.{blockStart, benchBlockAt, benchAnswerOf}
 
 -- where the block of the frame that a line delivers stands in the log; 0 for a line that delivers none
 unfoldable pub lineStart : List ℕ → ℕ
 lineStart s = ifEq (kindOf s) deliver (blockStart (field 2 1 s)) 0
 
 -- The call that a line makes. One that is refused, or restarts an end, leaves the buffer for a block alone, as receiving does.
-unfoldable pub callBy : Act → Call
+unfoldable pub callBy : LentAct → Call
 callBy (call c) = c .call
 callBy (restart rec) = Receive
 callBy (cut c rec) = Receive
@@ -35,4 +35,4 @@ pub record Performed (w : Bench) (q : Outcome At) (start : ℕ) (out up : List �
   pub bench : benchOf a b log (r .count) ≡ benchAfter (endOf q) w (comes w q)
   pub buffer : out′ ≡ bufferAfter out (comes w q)
   pub block-buffer : up′ ≡ blockBufferAfter (callOf q) up (comes w q)
-  pub handed : blockAt (r .at) (r .block) log up′ ≡ blockOf (comes w q)
+  pub handed : benchBlockAt (r .at) (r .block) log up′ ≡ blockOf (comes w q)

@@ -14,13 +14,13 @@ use Rattle.bench_spec.specs.Bench.{Bench, At, lentAt, comes, endOf}
 use Rattle.bench_spec.proofs.Delivery as delivery
 use Rattle.bench_checks.proofs.Passed.{Passed, passed}
 use Rattle.bench_call.specs.Internal.{outcomeAt}
-use Rattle.bench_query.specs.Found.{changes, wouldChange, questions}
+use Rattle.bench_query.specs.Found.{changes, wouldChange, queryQuestions}
 
 abbrev pub full : Rooms
 full = rooms longestFrame longestBlock
 
 -- 11, 12 and 15 have been passed; there is no buffer for a frame that could be too short
-pub ready : (w : Bench) → first (questions w) ≡ 0 → Passed w full
+pub ready : (w : Bench) → first (queryQuestions w) ≡ 0 → Passed w full
 unfolding first when
 ready w h = passed w full h
 

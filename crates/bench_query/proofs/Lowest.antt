@@ -12,7 +12,7 @@ use Rattle.octets.proofs.Test.{both, joined, split, by-eq, by-lt}
 use Rattle.bench_spec.specs.Bench.{Bench}
 use Rattle.bench_query.specs.declared.Found.{Found}
 use Rattle.bench_query.specs.declared.Found.the-variants.{Frame, Nothing, Refused}
-use Rattle.bench_query.specs.Found.{equal, wouldChange, lowest, questions, foundUnless, firstFrame, Means}
+use Rattle.bench_query.specs.Found.{equal, wouldChange, lowest, queryQuestions, foundUnless, firstFrame, Means}
 use Rattle.bench_query.proofs.Delivery.{beyond}
 
 -- the test of two lists
@@ -82,19 +82,19 @@ module _ (p : ℕ → Bool) where
 
 module _ (w : Bench) where
   -- past 11, 12 and 15
-  passed : (f : Found) → Finds (wouldChange w) 0 (w .count) f → first (questions w) ≡ 0 → Means w f
+  passed : (f : Found) → Finds (wouldChange w) 0 (w .count) f → first (queryQuestions w) ≡ 0 → Means w f
   passed (Frame n) (a, b, c, d) h = (h, omega arith, c, λ k l. d k (omega arith) l)
   passed Nothing d h = (h, λ k. by-lt k (w .count) (λ l. d k (omega arith) (omega arith)) (λ l. beyond w k l))
   passed (Refused k) d h = absurd d
 
-  by-number : (n : ℕ) → first (questions w) ≡ n → Means w (foundUnless n (lowest (wouldChange w) 0 (w .count)))
+  by-number : (n : ℕ) → first (queryQuestions w) ≡ n → Means w (foundUnless n (lowest (wouldChange w) 0 (w .count)))
   unfolding foundUnless
   by-number zero h = passed (lowest (wouldChange w) 0 (w .count)) (finds (wouldChange w) 0 (w .count)) h
   by-number (suc k) h = (h, omega arith)
 
   pub means : Means w (firstFrame w)
   unfolding firstFrame
-  means = by-number (first (questions w)) refl
+  means = by-number (first (queryQuestions w)) refl
 
   -- the answer where 11, 12 or 15 refuses
   refused-by : (f : Found) (n : ℕ) → n ≢ 0 → foundUnless n f ≡ Refused n
@@ -102,13 +102,13 @@ module _ (w : Bench) where
   refused-by f zero h = absurd (h refl)
   refused-by f (suc k) h = refl
 
-  pub refuses : {n : ℕ} → n ≡ first (questions w) → n ≢ 0 → Refused n ≡ firstFrame w
+  pub refuses : {n : ℕ} → n ≡ first (queryQuestions w) → n ≢ 0 → Refused n ≡ firstFrame w
   unfolding firstFrame
   refuses {n} e h =
       let f = lowest (wouldChange w) 0 (w .count) in
       sym (refused-by f n h) ∙ ap (λ (k : ℕ). foundUnless k f) e
 
   -- and where they do not
-  pub names : first (questions w) ≡ 0 → {f : Found} → lowest (wouldChange w) 0 (w .count) ≡ f → f ≡ firstFrame w
+  pub names : first (queryQuestions w) ≡ 0 → {f : Found} → lowest (wouldChange w) 0 (w .count) ≡ f → f ≡ firstFrame w
   unfolding firstFrame foundUnless
   names h e = rw h (sym e)

@@ -41,8 +41,8 @@ lowest p i zero = Nothing
 lowest p i (suc n) = when (p i) (Frame i) (lowest p (i + 1) n)
 
 -- 11, 12 and 15, as for a line that restarts no end; no buffer for a frame or for a block is lent.
-abbrev pub questions : Bench → List Question
-questions w = bufferQuestions w (soundQuestions neither w [])
+abbrev pub queryQuestions : Bench → List Question
+queryQuestions w = bufferQuestions w (soundQuestions neither w [])
 
 -- what is found, where none of them refuses
 unfoldable pub foundUnless : ℕ → Found → Found
@@ -51,11 +51,11 @@ foundUnless (suc k) f = Refused (suc k)
 
 -- the answer: the first frame that matters
 unfoldable pub firstFrame : Bench → Found
-firstFrame w = foundUnless (first (questions w)) (lowest (wouldChange w) 0 (w .count))
+firstFrame w = foundUnless (first (queryQuestions w)) (lowest (wouldChange w) 0 (w .count))
 
 -- What that comes to, claimed of every bench: the frame named is in the book, its delivery would change a record, and that of no lower one would;
 -- where none is named, no frame's would.
 abbrev pub Means : Bench → Found → Type 0
-Means w (Frame n) = (first (questions w) ≡ 0) × (n < w .count) × (wouldChange w n ≡ true) × ((k : ℕ) → k < n → wouldChange w k ≡ false)
-Means w Nothing = (first (questions w) ≡ 0) × ((k : ℕ) → wouldChange w k ≡ false)
-Means w (Refused k) = (first (questions w) ≡ k) × (k ≢ 0)
+Means w (Frame n) = (first (queryQuestions w) ≡ 0) × (n < w .count) × (wouldChange w n ≡ true) × ((k : ℕ) → k < n → wouldChange w k ≡ false)
+Means w Nothing = (first (queryQuestions w) ≡ 0) × ((k : ℕ) → wouldChange w k ≡ false)
+Means w (Refused k) = (first (queryQuestions w) ≡ k) × (k ≢ 0)

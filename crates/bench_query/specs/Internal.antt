@@ -1,4 +1,4 @@
--- Parts of the question, for the code. No public call's contract needs this.
+-- Parts of the question, for the code. No entry point's contract needs this.
 use mathlib.Core.Path.{_≡_}
 use mathlib.Core.Bool.{Bool, true, false, _&&_}
 use lib.Dec.{eqb}
@@ -7,11 +7,11 @@ use Rattle.step_plan.specs.declared.Places.{Places}
 use Rattle.step_plan.specs.declared.Places.the-variants.{Keep, Join, Release, Clear}
 use Rattle.step_rules.specs.declared.Numbers.{Numbers}
 use Rattle.bench_spec.specs.Bench.{Bench}
-use Rattle.bench_query.specs.Found.{questions}
+use Rattle.bench_query.specs.Found.{queryQuestions}
 
 -- 11, 12 and 15 are passed
-abbrev pub Ready : Bench → Type 0
-Ready w = first (questions w) ≡ 0
+abbrev pub BenchReady : Bench → Type 0
+BenchReady w = first (queryQuestions w) ≡ 0
 
 -- a plan leaves the held blocks as they are
 unfoldable pub staying : Places → Bool

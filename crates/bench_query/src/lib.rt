@@ -16,7 +16,7 @@ ghost use Rattle.link.specs.Record.{format, pagedFor};
 ghost use Rattle.bench_spec.specs.Bench.{benchOf};
 ghost use Rattle.bench_call.specs.Internal.{outcomeAt};
 ghost use Rattle.bench_query.specs.Found.{changes, wouldChange, firstFrame};
-ghost use Rattle.bench_query.specs.Internal.{sameNumbers, staying, Ready};
+ghost use Rattle.bench_query.specs.Internal.{sameNumbers, staying, BenchReady};
 
 // What the question answers: a frame's number, none, or the number of a refusal.
 pub enum Found {
@@ -71,8 +71,8 @@ fn changes(rec: &[u8], s: &[u8], count: usize) -> bool
 
 // Whether the delivery of frame n would, with any pages by which 15 is passed. It goes to the end that did not send it.
 fn would_change(a: &[u8], b: &[u8], log: &[u8], count: usize, n: usize) -> bool
-    requires { ⌜ ((pa : List ℕ) × ((pb : List ℕ) × Ready (benchOf (lent (now a) pa) (lent (now b) pb) (now log) count))) ⌝ }
-    ensures { λ r. ⌜ ((pa pb : List ℕ) → Ready (benchOf (lent (now (a .entry)) pa) (lent (now (b .entry)) pb) (now (log .entry)) count) → r ≡ wouldChange (benchOf (lent (now (a .entry)) pa) (lent (now (b .entry)) pb) (now (log .entry)) count) n) ⌝ }
+    requires { ⌜ ((pa : List ℕ) × ((pb : List ℕ) × BenchReady (benchOf (lent (now a) pa) (lent (now b) pb) (now log) count))) ⌝ }
+    ensures { λ r. ⌜ ((pa pb : List ℕ) → BenchReady (benchOf (lent (now (a .entry)) pa) (lent (now (b .entry)) pb) (now (log .entry)) count) → r ≡ wouldChange (benchOf (lent (now (a .entry)) pa) (lent (now (b .entry)) pb) (now (log .entry)) count) n) ⌝ }
 {
     if !bench_log::holds(log, count, n) {
         return false;

@@ -24,7 +24,7 @@ use Rattle.protocol.proofs.World as law
 use Rattle.protocol.proofs.Theorem.{Roomy, roomy, limited}
 use Rattle.page.proofs.Laws.{stays}
 use Rattle.call_spec.specs.Calls.{restarting, restartedIn, recordAfter, pageAfter}
-use Rattle.call_spec.specs.Claim.{Lent, lent, Act, call, restart, cut, renewed}
+use Rattle.call_spec.specs.Claim.{Lent, lent, LentAct, call, restart, cut, renewed}
 use Rattle.call_spec.proofs.Lift.{LiesIn, lies}
 use Rattle.link.specs.Record.{format, ends}
 use Rattle.link.proofs.Demand.{lawful, no-end-alone, no-number-twice}
@@ -62,7 +62,7 @@ refusal {w} {e} h i n =
     }
 
 -- what an accepted call came to: its own outcome, and a place left if it sends
-pub came : (l : Lent) (count : ℕ) (c : Act) {y : Step} → callOutcome l count c ≡ ok y
+pub came : (l : Lent) (count : ℕ) (c : LentAct) {y : Step} → callOutcome l count c ≡ ok y
     → (ends .comes l c ≡ ok y) × (when (sends (y .sent)) (ltb count places) true ≡ true)
 unfolding callOutcome logged
 came l count c h =
@@ -79,21 +79,21 @@ page-stays rec page {y} h =
     stays (y .endpoint .local) page (omega (arith, ap (λ (s : Step). s .endpoint .local) z))
 
 -- so what an accepted line leaves is what the list leaves
-leaves-so : (l : Lent) (c : Act) {y : Step} → FromLine l c → ends .comes l c ≡ ok y → lentAfter l (ok y) ≡ ends .leaves l c (ok y)
+leaves-so : (l : Lent) (c : LentAct) {y : Step} → FromLine l c → ends .comes l c ≡ ok y → lentAfter l (ok y) ≡ ends .leaves l c (ok y)
 unfolding renewed
 leaves-so l (call c) f h = refl
 leaves-so l (restart rec) {y} f h = λ i. lent (recordAfter format (sym f i) (ok y)) (page-stays rec (l .page) h i)
 leaves-so l (cut c rec) f h = absurd f
 
 -- what an accepted call at an end adds to it
-record Adds (x : End Lent) (l : Lent) (count : ℕ) (c : Act) (y : Step) : Type 0 where
+record Adds (x : End Lent) (l : Lent) (count : ℕ) (c : LentAct) (y : Step) : Type 0 where
   pub leaves : lentAfter l (ok y) ≡ called ends c x .rec
   pub place-left : when (sends (y .sent)) (ltb count places) true ≡ true
   pub grown : Grows (x .history) (called ends c x .history)
   pub short : (f : Frame) → y .sent ≡ frame f → length (encode f) ≤ longestFrame
   pub among : (f : Frame) → y .sent ≡ frame f → Among (encode f) (called ends c x .history)
 
-adds : (x other : End Lent) {l : Lent} (count : ℕ) (c : Act) {y : Step} → l ≡ x .rec → FromLine l c → Held (called ends c x) other
+adds : (x other : End Lent) {l : Lent} (count : ℕ) (c : LentAct) {y : Step} → l ≡ x .rec → FromLine l c → Held (called ends c x) other
     → callOutcome l count c ≡ ok y → Adds x l count c y
 unfolding called
 adds x other {l} count c {y} e f held m =
@@ -108,7 +108,7 @@ adds x other {l} count c {y} e f held m =
     }
 
 -- an accepted call at A, and at B
-at-a : {w : Bench} {e : Two ends} → Beside w e → (c : Act) → FromLine (w .a) c → DueAt ends (atA c) e → logSize ≤ length (w .log)
+at-a : {w : Bench} {e : Two ends} → Beside w e → (c : LentAct) → FromLine (w .a) c → DueAt ends (atA c) e → logSize ≤ length (w .log)
     → {y : Step} → callOutcome (w .a) (w .count) c ≡ ok y → Beside (benchAfter 0 w (ok y)) (world.made ends (atA c) e)
 unfolding benchAfter ifEq when logAfter countAfter
 at-a {w} {e} h c f d room {y} m =
@@ -123,7 +123,7 @@ at-a {w} {e} h c f d room {y} m =
       held = held;
     }
 
-at-b : {w : Bench} {e : Two ends} → Beside w e → (c : Act) → FromLine (w .b) c → DueAt ends (atB c) e → logSize ≤ length (w .log)
+at-b : {w : Bench} {e : Two ends} → Beside w e → (c : LentAct) → FromLine (w .b) c → DueAt ends (atB c) e → logSize ≤ length (w .log)
     → {y : Step} → callOutcome (w .b) (w .count) c ≡ ok y → Beside (benchAfter 1 w (ok y)) (world.made ends (atB c) e)
 unfolding benchAfter ifEq when logAfter countAfter
 at-b {w} {e} h c f d room {y} m =
@@ -139,7 +139,7 @@ at-b {w} {e} h c f d room {y} m =
     }
 
 -- at either
-accepts : {w : Bench} {e : Two ends} → Beside w e → (i : ℕ) (c : Act) → i ≤ 1 → FromLine (lentAt i w) c → DueAt ends (entry (i, c)) e → logSize ≤ length (w .log)
+accepts : {w : Bench} {e : Two ends} → Beside w e → (i : ℕ) (c : LentAct) → i ≤ 1 → FromLine (lentAt i w) c → DueAt ends (entry (i, c)) e → logSize ≤ length (w .log)
     → {y : Step} → callOutcome (lentAt i w) (w .count) c ≡ ok y → Beside (benchAfter i w (ok y)) (world.made ends (entry (i, c)) e)
 unfolding entry lentAt ifEq when
 accepts h zero c l f d room m = at-a h c f d room m
@@ -171,7 +171,7 @@ module _ (w : Bench) (l : LentLine) where
   abbrev asks : Outcome At
   asks = lineAsks w (l .0) (l .1)
 
-  abbrev calls-callOutcome : List (Entry Act)
+  abbrev calls-callOutcome : List (Entry LentAct)
   calls-callOutcome = entriesOf asks (comes w asks)
 
 line-goes : {w : Bench} {e : Two ends} → Beside w e → (l : LentLine) → Goes w e (asks w l) (comes w (asks w l))

@@ -17,11 +17,11 @@ use Rattle.protocol.specs.History.{also, sent, recorded}
 use Rattle.protocol.specs.History as protocol
 use Rattle.protocol.specs.World.{End, called}
 use Rattle.call_spec.specs.Calls.{said, does, asked, performed}
-use Rattle.call_spec.specs.Claim.{Lent, Act, call, restart, cut}
+use Rattle.call_spec.specs.Claim.{Lent, LentAct, call, restart, cut}
 use Rattle.link.specs.Record.{ends}
 
 -- only a call whose octets say one is accepted; a restart says one always
-says : (r : Lent) (c : Act) {y : Step} → ends .comes r c ≡ ok y → (x : protocol.Act) × (ends .said r c ≡ ok x)
+says : (r : Lent) (c : LentAct) {y : Step} → ends .comes r c ≡ ok y → (x : protocol.Act) × (ends .said r c ≡ ok x)
 unfolding performed asked does mapped
 says r (call c) h =
     let s = then-of (said c) _ (passing _ (passing _ h .1) .1) in
@@ -30,7 +30,7 @@ says r (restart rec) h = (_, refl)
 says r (cut c rec) h = (_, refl)
 
 -- what the end has sent after it
-gains : (c : Act) (e : End Lent) {y : Step} → ends .comes (e .rec) c ≡ ok y
+gains : (c : LentAct) (e : End Lent) {y : Step} → ends .comes (e .rec) c ≡ ok y
     → sent (called ends c e .history) ≡ also (y .sent) (sent (e .history))
 unfolding called recorded sent
 gains c e h = rw (says (e .rec) c h .1, h) refl
@@ -40,11 +40,11 @@ also-keeps : (t : Sent) (fs : List Frame) (s : List ℕ) → List·Memᴰ s (map
 also-keeps nothing fs s m = m
 also-keeps (frame f) fs s m = List·Memᴰ·tail m
 
-pub grows : (c : Act) (e : End Lent) {y : Step} → ends .comes (e .rec) c ≡ ok y
+pub grows : (c : LentAct) (e : End Lent) {y : Step} → ends .comes (e .rec) c ≡ ok y
     → (s : List ℕ) → List·Memᴰ s (map encode (sent (e .history))) → List·Memᴰ s (map encode (sent (called ends c e .history)))
 grows c e {y} h s m = rw (gains c e h) (also-keeps (y .sent) (sent (e .history)) s m)
 
-pub has-sent : (c : Act) (e : End Lent) {y : Step} → ends .comes (e .rec) c ≡ ok y
+pub has-sent : (c : LentAct) (e : End Lent) {y : Step} → ends .comes (e .rec) c ≡ ok y
     → (f : Frame) → y .sent ≡ frame f → List·Memᴰ f (sent (called ends c e .history)) × List·Memᴰ (encode f) (map encode (sent (called ends c e .history)))
 has-sent c e {y} h f t = rw (gains c e h, t) (List·Memᴰ·head refl, List·Memᴰ·head refl)
 

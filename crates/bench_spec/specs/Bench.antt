@@ -12,7 +12,7 @@ use Rattle.frame.specs.Read.{kindOf}
 use Rattle.protocol.specs.Table.{Sent, nothing, frame, Step}
 use Rattle.call_spec.specs.declared.Call.the-variants.{Request, Receive}
 use Rattle.call_spec.specs.Calls.{Rooms, given, wire}
-use Rattle.call_spec.specs.Claim.{Lent, Act, call, restart, comesBy}
+use Rattle.call_spec.specs.Claim.{Lent, LentAct, call, restart, comesBy}
 use Rattle.page.specs.Page.{runs}
 use Rattle.link.specs.Record.{format, pagedFor}
 use Rattle.link.specs.Lent.{lentAfter}
@@ -68,7 +68,7 @@ soundQuestions k w rest =
 
 -- a call at an end, or its restart
 abbrev pub At : Type 0
-At = ℕ × Act
+At = ℕ × LentAct
 
 -- Frame n of the log, delivered to the end that did not send it, if the log holds it (13). room has the lengths of the lent buffers.
 unfoldable pub delivery : Bench → ℕ → Rooms → Outcome At
@@ -132,7 +132,7 @@ unfoldable pub logged : ℕ → Step → Outcome Step
 logged count x = outcome (first ((14, when (sends (x .sent)) (ltb count places) true) ∷ [])) x
 
 -- what a call at this end, or its restart, comes to, with so many places in use
-unfoldable pub callOutcome : Lent → ℕ → Act → Outcome Step
+unfoldable pub callOutcome : Lent → ℕ → LentAct → Outcome Step
 callOutcome r count c = andThen (comesBy format r c) (logged count)
 
 unfoldable pub comes : Bench → Outcome At → Outcome Step

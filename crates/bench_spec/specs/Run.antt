@@ -9,7 +9,7 @@ use Rattle.protocol.specs.World.{Entry, atA, atB, Two, run, AllDue}
 use Rattle.protocol.specs.Claim.{Demand, NeverTwice}
 use Rattle.page.specs.Page.{newPage}
 use Rattle.call_spec.specs.Calls.{Rooms}
-use Rattle.call_spec.specs.Claim.{Lent, lent, Act}
+use Rattle.call_spec.specs.Claim.{Lent, lent, LentAct}
 use Rattle.link.specs.Record.{format, ends}
 use Rattle.bench_spec.specs.Bench.{Bench, At, lineAsks, comes, endOf, benchAfter}
 
@@ -26,17 +26,17 @@ linesAfter w [] = w
 linesAfter w (l ∷ ls) = linesAfter (lineAfter w l) ls
 
 -- a call at an end, as an entry of a list of calls
-unfoldable pub entry : At → Entry Act
+unfoldable pub entry : At → Entry LentAct
 entry x = ifEq (x .0) 0 (atA (x .1)) (atB (x .1))
 
 -- the call that a line makes; a refused line makes none
-unfoldable pub entriesOf : Outcome At → Outcome Step → List (Entry Act)
+unfoldable pub entriesOf : Outcome At → Outcome Step → List (Entry LentAct)
 entriesOf (refused n) o = []
 entriesOf (ok x) (refused n) = []
 entriesOf (ok x) (ok y) = entry x ∷ []
 
 -- the calls that the lines of a run make
-unfoldable pub callsOf : Bench → List LentLine → List (Entry Act)
+unfoldable pub callsOf : Bench → List LentLine → List (Entry LentAct)
 callsOf w [] = []
 callsOf w (l ∷ ls) = let q = lineAsks w (l .0) (l .1) in entriesOf q (comes w q) ++ callsOf (lineAfter w l) ls
 

@@ -16,7 +16,7 @@ use Rattle.bench_checks.specs.Ready.{readyQuestions}
 use Rattle.bench_order.proofs.Plays.{asks-frame}
 use Rattle.bench_line.specs.Internal.{readAsks}
 use Rattle.bench_line.proofs.Asked.{passes, passes-on}
-use Rattle.bench_query.specs.Found.{delivers, questions}
+use Rattle.bench_query.specs.Found.{delivers, queryQuestions}
 use Rattle.bench_query.proofs.Delivery.{full}
 use Rattle.bench_walk.specs.Walk.{deliveryLine}
 
@@ -37,7 +37,7 @@ module _ (n : ℕ) where
   unfolding field octetsOf
   numbered h = sym (width 2 .reads n (omega arith))
 
-  module _ (w : Bench) (h : first (questions w) ≡ 0) (few : n < 65536) where
+  module _ (w : Bench) (h : first (queryQuestions w) ≡ 0) (few : n < 65536) where
     -- it restarts neither end, so 11, 12 and 15 are those of the question
     ready : first (readyQuestions (restartedBy octets) w full) ≡ 0
     unfolding restartedBy first when

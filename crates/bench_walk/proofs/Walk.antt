@@ -15,38 +15,38 @@ use Rattle.octets.proofs.Test.{by-eq}
 use Rattle.protocol.specs.Table.{Step}
 use Rattle.protocol.proofs.Rank.{at-most}
 use Rattle.call_spec.specs.Calls.{recordAfter}
-use Rattle.call_spec.specs.Claim.{Act, call}
+use Rattle.call_spec.specs.Claim.{LentAct, call}
 use Rattle.call_spec.proofs.Holding as held
 use Rattle.endpoint.specs.Record.{recordSize}
 use Rattle.link.specs.Record.{format}
 use Rattle.link.proofs.Demand.{lawful}
-use Rattle.link.proofs.Stays.{holding}
+use Rattle.link.proofs.Stays.{record-holding}
 use Rattle.bench_log.specs.Log.{placeHead, placeSize, places, logSize, senderAt, lengthAt, frameLogged, holds}
 use Rattle.bench_spec.specs.Bench.{Bench, At, lentAt, lineAsks, callOutcome, comes, endOf, benchAfter}
 use Rattle.bench_spec.specs.Run.{lineAfter}
 use Rattle.bench_spec.proofs.Delivery as delivery
 use Rattle.bench_query.specs.declared.Found.{Found}
 use Rattle.bench_query.specs.declared.Found.the-variants.{Frame, Nothing, Refused}
-use Rattle.bench_query.specs.Found.{changes, equal, delivers, questions, firstFrame, Means}
+use Rattle.bench_query.specs.Found.{changes, equal, delivers, queryQuestions, firstFrame, Means}
 use Rattle.bench_query.proofs.Delivery.{full, ready, not-held, to-a, to-b}
 use Rattle.bench_query.proofs.Lowest.{so-equal, means}
-use Rattle.bench_walk.specs.Walk.{deliveryLine, delivered, walked, deliveriesLeft, Lendable, ended, EveryWalkEnds}
+use Rattle.bench_walk.specs.Walk.{deliveryLine, delivered, walked, deliveriesLeft, Lendable, walkEnd, EveryWalkEnds}
 use Rattle.bench_walk.proofs.Line.{asks}
 use Rattle.bench_walk.proofs.Round.{heldIn, received, Kept, Goes, at-a, at-b}
 
 -- 11, 12 and 15 are passed by what is kept, and the other way round where all is octets
-pub kept-so : (w : Bench) → first (questions w) ≡ 0 → Lendable w → Kept w
+pub kept-so : (w : Bench) → first (queryQuestions w) ≡ 0 → Lendable w → Kept w
 kept-so w h l =
     let p = ready w h in
     let a = p .fit-a in
     let b = p .fit-b in
     record {
-      end-a = holding (w .a .rec) (w .a .page) (a .long) (l .octets-a) (a .is-sound) (a .page-long) (a .goes);
-      end-b = holding (w .b .rec) (w .b .page) (b .long) (l .octets-b) (b .is-sound) (b .page-long) (b .goes);
+      end-a = record-holding (w .a .rec) (w .a .page) (a .long) (l .octets-a) (a .is-sound) (a .page-long) (a .goes);
+      end-b = record-holding (w .b .rec) (w .b .page) (b .long) (l .octets-b) (b .is-sound) (b .page-long) (b .goes);
       log = record { long = p .long-log; octets = l .octets-log; few = p .few };
     }
 
-passes : (w : Bench) → Kept w → first (questions w) ≡ 0
+passes : (w : Bench) → Kept w → first (queryQuestions w) ≡ 0
 unfolding first when
 passes w k =
     let a = held.passes-both format lawful (k .end-a) in
@@ -78,7 +78,7 @@ module _ (w : Bench) (k : Kept w) (n : ℕ) (f : firstFrame w ≡ Frame n) where
   unfolding frameLogged
   in-octets = octets-take (lengthAt n (w .log)) _ (octets-drop (n * placeSize + placeHead) (w .log) (k .log .octets))
 
-  abbrev act : Act
+  abbrev act : LentAct
   act = call (received (frameLogged n (w .log)))
 
   -- what the line leaves, and its number
@@ -137,7 +137,7 @@ rounds (suc n) w k h =
     (firstFrame w) refl
 
 pub walk-ends : EveryWalkEnds
-unfolding delivered ended deliveriesLeft
+unfolding delivered walkEnd deliveriesLeft
 walk-ends w l = record {
   accepted = λ n e. round w (kept e) n e .accepted;
   fewer = λ n e. round w (kept e) n e .goes-on .less;
@@ -150,7 +150,7 @@ walk-ends w l = record {
     kept : {n : ℕ} → firstFrame w ≡ Frame n → Kept w
     kept e = kept-so w (subst (Means w) e (means w) .0) l
 
-    by-found : (n : ℕ) → deliveriesLeft w ≤ n → (f : Found) → firstFrame w ≡ f → firstFrame (walked n w) ≡ ended (firstFrame w)
-    by-found n h (Frame m) e = rounds n w (kept e) h ∙ ap ended (sym e)
-    by-found n h Nothing e = stays n w e refl ∙ ap ended (sym e)
-    by-found n h (Refused k) e = stays n w e refl ∙ ap ended (sym e)
+    by-found : (n : ℕ) → deliveriesLeft w ≤ n → (f : Found) → firstFrame w ≡ f → firstFrame (walked n w) ≡ walkEnd (firstFrame w)
+    by-found n h (Frame m) e = rounds n w (kept e) h ∙ ap walkEnd (sym e)
+    by-found n h Nothing e = stays n w e refl ∙ ap walkEnd (sym e)
+    by-found n h (Refused k) e = stays n w e refl ∙ ap walkEnd (sym e)

@@ -15,7 +15,7 @@ use Rattle.bench_spec.specs.Bench.{Bench, deliver, lineAsks, comes}
 use Rattle.bench_spec.specs.Run.{LentLine, lineAfter}
 use Rattle.bench_query.specs.declared.Found.{Found}
 use Rattle.bench_query.specs.declared.Found.the-variants.{Frame, Nothing, Refused}
-use Rattle.bench_query.specs.Found.{questions, firstFrame}
+use Rattle.bench_query.specs.Found.{queryQuestions, firstFrame}
 
 -- line 52 with the number of a frame, and room for what its delivery sends
 unfoldable pub deliveryLine : ℕ → LentLine
@@ -47,18 +47,18 @@ pub record Lendable (w : Bench) : Type 0 where
   pub octets-log : Octets (w .log)
 
 -- what the question answers when the walk has ended: none, or the refusal by which it never began
-unfoldable pub ended : Found → Found
-ended (Frame n) = Nothing
-ended Nothing = Nothing
-ended (Refused k) = Refused k
+unfoldable pub walkEnd : Found → Found
+walkEnd (Frame n) = Nothing
+walkEnd Nothing = Nothing
+walkEnd (Refused k) = Refused k
 
 -- Of a bench: each line of the walk is accepted, and leaves fewer deliveries; so when all that are left are made it has ended,
 -- and however long it goes on. They are at most three for each place left and eighteen more, since an open end has a rank of at most nine.
 pub record WalkEnds (w : Bench) : Type 0 where
   pub accepted : (n : ℕ) → firstFrame w ≡ Frame n → numberOf (comes w (lineAsks w (deliveryLine n .0) (deliveryLine n .1))) ≡ 0
   pub fewer : (n : ℕ) → firstFrame w ≡ Frame n → deliveriesLeft (delivered (Frame n) w) < deliveriesLeft w
-  pub ends : (n : ℕ) → deliveriesLeft w ≤ n → firstFrame (walked n w) ≡ ended (firstFrame w)
-  pub at-most : first (questions w) ≡ 0 → deliveriesLeft w ≤ 3 * (places - w .count) + 18
+  pub ends : (n : ℕ) → deliveriesLeft w ≤ n → firstFrame (walked n w) ≡ walkEnd (firstFrame w)
+  pub at-most : first (queryQuestions w) ≡ 0 → deliveriesLeft w ≤ 3 * (places - w .count) + 18
 
 -- The claim, of every bench of octets.
 abbrev pub EveryWalkEnds : Type 0

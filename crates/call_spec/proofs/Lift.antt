@@ -34,7 +34,7 @@ use Rattle.protocol.proofs.Theorem as protocol-theorem
 use Rattle.call_spec.specs.declared.Call.{Call}
 use Rattle.call_spec.specs.declared.Call.the-variants as which
 use Rattle.call_spec.specs.Calls.{Arguments, reads, said, does, asked, restarting, Format, performed, restartedIn, recordAfter, pageAfter}
-use Rattle.call_spec.specs.Claim.{Lent, lent, Act, call, restart, cut, DueOctets, Due, cutSays, renewed, ends, NeverRefused, Lawful}
+use Rattle.call_spec.specs.Claim.{Lent, lent, LentAct, call, restart, cut, DueOctets, LentDue, cutSays, renewed, ends, NeverRefused, Lawful}
 use Rattle.call_spec.specs.Holding.{Lies, GoesWith, Holding}
 use Rattle.call_spec.proofs.Holding.{stored, keeps, passes-both, written}
 
@@ -100,9 +100,9 @@ as-act (refused n) e = refl
 as-act (ok q) e = refl
 
 -- all along a list
-abbrev pub holding : {format : Format} {a b : History} → Roomy a b → {rec page : List ℕ} → Lies format rec (now a) → GoesWith page (now a)
+abbrev pub list-holding : {format : Format} {a b : History} → Roomy a b → {rec page : List ℕ} → Lies format rec (now a) → GoesWith page (now a)
     → Holding format rec page (now a)
-holding i k g =
+list-holding i k g =
     let m = limited i in
     record { is-sound = m .is-sound; bounded = m .bounded; last = i .reached-both .numbers-a .last; lies = k; paged = g }
 
@@ -119,7 +119,7 @@ module _ (format : Format) (law : Lawful format) where
 
   pub asks : (a b : History) → Roomy a b → (r : Lent) → LiesIn format r (now a) → (c : Arguments) → Asks (ends format) r (call c) (now a)
   asks a b i r k c =
-      let t = comes-to (holding i (k .0) (k .1)) c in
+      let t = comes-to (list-holding i (k .0) (k .1)) c in
       (t .0, t .1 ∙ ap (λ (o : Outcome Step). refusing (t .0) o) (as-act (said c) (now a)))
 
   -- an accepted call is an accepted call of the protocol
@@ -189,7 +189,7 @@ module _ (format : Format) (law : Lawful format) where
       let f : usedFor (e .local) ≡ usedFor (x .local) = omega (arith, ap (λ (z : Endpoint). z .local) p) in
       ((drop (0 + length (format .octets x)) rec, refl), (g .0, g .1 ∙ ap (λ (n : ℕ). pageOf n ++ g .0) f))
 
-  refuses : (r : Lent) (e : Endpoint) → LiesIn format r e → (c : Act) (n : ℕ) → LiesIn format (ends format .leaves r c (refused n)) e
+  refuses : (r : Lent) (e : Endpoint) → LiesIn format r e → (c : LentAct) (n : ℕ) → LiesIn format (ends format .leaves r c (refused n)) e
   unfolding recordAfter pageAfter renewed mapped left
   refuses r e k (call c) n = k
   refuses r e k (restart rec) n = k
@@ -197,9 +197,9 @@ module _ (format : Format) (law : Lawful format) where
 
   module _ {a b : History} (i : Roomy a b) (r : Lent) (k : LiesIn format r (now a)) where
     abbrev held : Holding format (r .rec) (r .page) (now a)
-    held = holding i (k .0) (k .1)
+    held = list-holding i (k .0) (k .1)
 
-    fair : (c : Act) → Due format b c → (q : protocol.Act) → ends format .said r c ≡ ok q → Sized b q
+    fair : (c : LentAct) → LentDue format b c → (q : protocol.Act) → ends format .said r c ≡ ok q → Sized b q
     unfolding sized
     fair (call c) d q e =
         let m = of-mapped protocol.call (said c) q e in
@@ -207,7 +207,7 @@ module _ (format : Format) (law : Lawful format) where
     fair (restart rec) d q e = let z : protocol.restart ≡ q = cc in subst (Sized b) z (refl, tt)
     fair (cut c rec) d q e = let z : cutSays (said c) (performed format (r .rec) (r .page) c) ≡ q = cc in subst (Sized b) z (cut-fair b _ _)
 
-    pub comes : (c : Act) → Asks (ends format) r c (now a)
+    pub comes : (c : LentAct) → Asks (ends format) r c (now a)
     unfolding andThen protocol.does
     comes (call c) = asks a b i r k c
     comes (restart rec) = restart-in (now a) (k .1) (held .last) rec
@@ -224,7 +224,7 @@ module _ (format : Format) (law : Lawful format) where
         let z : ok (quiet (afterRestart e) none) ≡ ok x = passing (t .0) (sym (t .1) ∙ h) .1 in
         cc
 
-    accepts : (g : History) → Roomy g b → (c : Act) (x : Step) → ends format .comes r c ≡ ok x → now g ≡ x .endpoint
+    accepts : (g : History) → Roomy g b → (c : LentAct) (x : Step) → ends format .comes r c ≡ ok x → now g ≡ x .endpoint
         → LiesIn format (ends format .leaves r c (ok x)) (now g)
     unfolding recordAfter pageAfter renewed mapped left
     accepts g j (call c) x h e =
@@ -261,6 +261,6 @@ no-number-twice format law = protocol-theorem.no-number-twice (ends format) (lie
 pub never-refused : (format : Format) → Lawful format → NeverRefused format
 never-refused format law start f calls d =
     let k = kept (ends format) roomy (lies format law) start f calls d in (
-      passes-both format law (holding (k .both) (k .this .0) (k .this .1)),
-      passes-both format law (holding (roomy .turns _ _ (k .both)) (k .other .0) (k .other .1)),
+      passes-both format law (list-holding (k .both) (k .this .0) (k .this .1)),
+      passes-both format law (list-holding (roomy .turns _ _ (k .both)) (k .other .0) (k .other .1)),
     )

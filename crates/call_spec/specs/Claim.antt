@@ -28,10 +28,10 @@ lent rec page = record { rec = rec; page = page }
 
 -- What stands in a list at an end: a call; a restart, with a buffer for the record that may have any length and hold anything; or a call that is cut after
 -- its store, and the restart after it. (A cut before the store is a restart as any other.)
-pub data Act : Type 0 where
-  call : Arguments → Act
-  restart : List ℕ → Act
-  cut : Arguments → List ℕ → Act
+pub data LentAct : Type 0 where
+  call : Arguments → LentAct
+  restart : List ℕ → LentAct
+  cut : Arguments → List ℕ → LentAct
 
 -- Any call may stand anywhere, but the octets of a frame received equal those of a frame that an earlier call at the other end sent.
 abbrev pub DueOctets : History → Call → List ℕ → Type 0
@@ -40,10 +40,10 @@ DueOctets other Receive s = List·Memᴰ s (map encode (sent other))
 
 -- So may any restart: one whose buffer is too short for a record is refused by 11, and leaves the record and the page. After a cut an end has its page
 -- alone, and does nothing before it has restarted; that restart stands with the cut, so it has room for a record.
-abbrev pub Due : Format → History → Act → Type 0
-Due format other (call c) = DueOctets other (c .call) (c .octets)
-Due format other (restart rec) = Unit {0}
-Due format other (cut c rec) = format .size ≤ length rec
+abbrev pub LentDue : Format → History → LentAct → Type 0
+LentDue format other (call c) = DueOctets other (c .call) (c .octets)
+LentDue format other (restart rec) = Unit {0}
+LentDue format other (cut c rec) = format .size ≤ length rec
 
 -- what a cut call says, by its octets and by what it comes to: one that is refused stores nothing, and is a restart
 unfoldable pub cutSays : Outcome protocol.Call → Outcome Step → protocol.Act
@@ -61,17 +61,17 @@ module _ (format : Format) where
   abbrev comesTo : Lent → Arguments → Outcome Step
   comesTo r c = performed format (r .rec) (r .page) c
 
-  abbrev pub saidBy : Lent → Act → Outcome protocol.Act
+  abbrev pub saidBy : Lent → LentAct → Outcome protocol.Act
   saidBy r (call c) = mapped protocol.call (said c)
   saidBy r (restart rec) = ok protocol.restart
   saidBy r (cut c rec) = ok (cutSays (said c) (comesTo r c))
 
-  abbrev pub comesBy : Lent → Act → Outcome Step
+  abbrev pub comesBy : Lent → LentAct → Outcome Step
   comesBy r (call c) = comesTo r c
   comesBy r (restart rec) = restartedIn format rec (r .page)
   comesBy r (cut c rec) = restartedIn format rec (pageAfter (r .page) (comesTo r c))
 
-  abbrev pub leavesBy : Lent → Act → Outcome Step → Lent
+  abbrev pub leavesBy : Lent → LentAct → Outcome Step → Lent
   leavesBy r (call c) o = lent (recordAfter format (r .rec) o) (pageAfter (r .page) o)
   leavesBy r (restart rec) o = renewed format rec (r .page) o r
   leavesBy r (cut c rec) o = renewed format rec (pageAfter (r .page) (comesTo r c)) o r
@@ -81,11 +81,11 @@ module _ (format : Format) where
       record {
         Record = Lent;
         Fresh = λ r. ((rest : List ℕ) × (r .rec ≡ format .octets fresh ++ rest)) × ((more : List ℕ) × (r .page ≡ newPage ++ more));
-        Call = Act;
+        Call = LentAct;
         said = saidBy;
         comes = comesBy;
         leaves = leavesBy;
-        Due = λ this. Due format;
+        Due = λ this. LentDue format;
       }
 
   -- Beside demand 3: wherever a list has come, 12 and 15 are answered yes.
@@ -95,7 +95,7 @@ module _ (format : Format) where
 
   abbrev pub NeverRefused : Type 0
   NeverRefused =
-      (start : Two ends) → BothNew ends start → (calls : List (Entry Act)) → AllDue ends start calls
+      (start : Two ends) → BothNew ends start → (calls : List (Entry LentAct)) → AllDue ends start calls
       → Passes (run ends start calls .a .rec) × Passes (run ends start calls .b .rec)
 
 -- What a format keeps of an endpoint that is sound and has numbers of 32 bits, in a buffer that may be longer.

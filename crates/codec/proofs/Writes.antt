@@ -15,14 +15,14 @@ use Rattle.frame.specs.Layout.{isFrame, encode}
 use Rattle.frame.specs.Read.{countOk}
 use Rattle.frame.specs.Answer.{frameWith, Written}
 use Rattle.frame.specs.declared.Values.{Values}
-use Rattle.codec.specs.Calls.{Filled, countTold, writeFrame}
+use Rattle.codec.specs.Calls.{WritesOctets, countTold, writeFrame}
 
 -- a refusal leaves all, a success what writing the frame leaves
-pub refuses : (o : Outcome (List ℕ)) (out : List ℕ) (c : ℕ) {n : ℕ} → o ≡ refused n → Filled o out out c c n
+pub refuses : (o : Outcome (List ℕ)) (out : List ℕ) (c : ℕ) {n : ℕ} → o ≡ refused n → WritesOctets o out out c c n
 unfolding numberOf left countTold
 refuses o out c e = rw e (record { answer = refl; buffer = refl; count = refl })
 
-pub fills : (o : Outcome (List ℕ)) (f : Frame) {out out′ : List ℕ} (c : ℕ) {n : ℕ} → o ≡ ok (encode f) → Written f out out′ n → Filled o out out′ c n 0
+pub fills : (o : Outcome (List ℕ)) (f : Frame) {out out′ : List ℕ} (c : ℕ) {n : ℕ} → o ≡ ok (encode f) → Written f out out′ n → WritesOctets o out out′ c n 0
 unfolding numberOf left countTold
 fills o f c e w = rw e (record { answer = refl; buffer = w .octets; count = w .count })
 

@@ -21,7 +21,7 @@ countTold (refused n) c = c
 countTold (ok s) c = length s
 
 -- a call that writes octets into a buffer, with their count
-pub record Filled (o : Outcome (List ℕ)) (out out′ : List ℕ) (c c′ number : ℕ) : Type 0 where
+pub record WritesOctets (o : Outcome (List ℕ)) (out out′ : List ℕ) (c c′ number : ℕ) : Type 0 where
   pub answer : number ≡ numberOf o
   pub buffer : out′ ≡ left o out
   pub count : c′ ≡ countTold o c

@@ -1,4 +1,4 @@
--- The block after the fixed part of a kind that has one. No public call's contract needs this.
+-- The block after the fixed part of a kind that has one. No entry point's contract needs this.
 use Prim.Native.Nat.{ℕ}
 use mathlib.Core.List.{List, []}
 use lib.ListN.{drop}

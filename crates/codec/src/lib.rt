@@ -14,13 +14,13 @@ ghost use Rattle.frame.specs.Layout.{isFrame};
 ghost use Rattle.frame.specs.Read.{countOk};
 ghost use Rattle.frame.specs.Answer.{inputRead};
 ghost use lib.ListN.{length, drop};
-ghost use Rattle.codec.specs.Calls.{Filled, writeLine, readKnown, shown, BlockTold, writeFrame};
+ghost use Rattle.codec.specs.Calls.{WritesOctets, writeLine, readKnown, shown, BlockTold, writeFrame};
 ghost use Rattle.codec.specs.Internal.{blockAfter};
 
 // Reads a line into out, which has room for the longest frame; the count of its octets goes to length.
 #[no_mangle]
 pub extern "C" fn codec_read_line(line: &[u8], out: &mut [u8], length: &mut usize) -> u8
-    ensures { λ r. ⌜ Filled (readInto (now (line .entry)) (now (out .entry))) (now (out .entry)) (now (out .exit)) (now (length .entry)) (now (length .exit)) r ⌝ }
+    ensures { λ r. ⌜ WritesOctets (readInto (now (line .entry)) (now (out .entry))) (now (out .entry)) (now (out .exit)) (now (length .entry)) (now (length .exit)) r ⌝ }
 {
     let read = hex::read(line, out);
     match read {
@@ -150,7 +150,7 @@ pub extern "C" fn codec_write(
     out: &mut [u8],
     length: &mut usize,
 ) -> u8
-    ensures { λ r. ⌜ Filled (writeFrame (record { kind = kind; sender = sender; quoted = quoted; number = number }) (now (block .entry)) (now (out .entry))) (now (out .entry)) (now (out .exit)) (now (length .entry)) (now (length .exit)) r ⌝ }
+    ensures { λ r. ⌜ WritesOctets (writeFrame (record { kind = kind; sender = sender; quoted = quoted; number = number }) (now (block .entry)) (now (out .entry))) (now (out .entry)) (now (out .exit)) (now (length .entry)) (now (length .exit)) r ⌝ }
 {
     if out.len() < octets::LONGEST_FRAME {
         return refusal::SHORT_BUFFER;

@@ -1,4 +1,4 @@
--- Parts of question 12, for the code, and the record from its parts. No public call's contract needs this.
+-- Parts of question 12, for the code, and the record from its parts. No entry point's contract needs this.
 use Prim.Native.Nat.{ℕ}
 use mathlib.Core.Bool.{Bool, _&&_}
 use mathlib.Core.List.{List, [], _∷_}

@@ -46,7 +46,7 @@ use Rattle.endpoint.proofs.Packs.{Long, Tidy, Small, small, count, length-tab, 
 use Rattle.endpoint.proofs.Sounds.{by-lt, tidy, tidy-held, lengths-held, facts}
 use Rattle.endpoint_step.specs.declared.StepAnswer.{StepAnswer}
 use Rattle.endpoint_step.specs.Calls.{outcomeOf, stepAnswerOf, Advances}
-use Rattle.endpoint_step.specs.Internal.{joinsQueue, joinsHeld, Plans, PlansAny, numberLeft, Reserved, placesAfter, InEight, Fits, lengthsAfter, blocksAfter, carried, blockFrom, Handy, handedTo, HandsUp}
+use Rattle.endpoint_step.specs.Internal.{joinsQueue, joinsHeld, Plans, PlansAny, numberLeft, Reserved, placesAfter, InEight, PlanFits, lengthsAfter, blocksAfter, carried, blockFrom, Handy, handedTo, HandsUp}
 use Rattle.endpoint_step.proofs.Numbers.{local-after, receive-local}
 use Rattle.endpoint_step.proofs.Ready.{ready, Passes, passes}
 use Rattle.endpoint_step.proofs.HeldPlaces.{zeros-padded, held-lengths-after, held-blocks-after}
@@ -343,7 +343,7 @@ module _ (e : Endpoint) (long : Long e) (page : List ℕ) (c : Arguments) {p : P
     sendable = (first-short e (passed .is-fine) long, (queue-short sendBlockAt (c .octets) (p .queue) _ (w .room), passed .frame-room))
 
     -- it can be carried out
-    pub ready-to : Fits p joins early
+    pub ready-to : PlanFits p joins early
     ready-to = (
       (queue-in-eight (p .queue) joins (e .waiting) (few e (passed .is-fine) long) (rw (count e) at (w .room)), sendable .1 .0),
       (held-in-eight (p .held) early _ (w .place), held-short dataBlockAt (c .octets) (p .held) _ (w .place)),

@@ -61,11 +61,11 @@ comes =
     ∙ calls
 
 accepted : numberOf (perform (ask connect) fresh) ≡ 0
-unfolding numberOf perform requests.request outcome requests.refusal first requests.questions when
+unfolding numberOf perform requests.request outcome requests.refusal first requests.requestQuestions when
 accepted = refl
 
 first-number : endpointAfter fresh (perform (ask connect) fresh) .local ≡ 1
-unfolding endpointAfter perform requests.request outcome requests.refusal first requests.questions when requests.accept
+unfolding endpointAfter perform requests.request outcome requests.refusal first requests.requestQuestions when requests.accept
 first-number = refl
 
 pub not-before : NotBeforeTheStore

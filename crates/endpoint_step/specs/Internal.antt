@@ -1,4 +1,4 @@
--- Plans for a record, and what carrying one out leaves. No public call's contract needs this.
+-- Plans for a record, and what carrying one out leaves. No entry point's contract needs this.
 use Prim.Native.Nat.{ℕ, _+_, _*_, _≤_, _<_}
 use mathlib.Core.Path.{_≡_}
 use mathlib.Core.Bool.{true}
@@ -81,8 +81,8 @@ InEight (Release k) = k ≤ queueSize
 InEight Clear = Unit {0}
 
 -- both kinds of places have room for what joins them
-abbrev pub Fits : Plan → Block → Block → Type 0
-Fits p b x = (InEight (p .queue) × (length b ≤ longestBlock)) × (InEight (p .held) × (length x ≤ longestBlock))
+abbrev pub PlanFits : Plan → Block → Block → Type 0
+PlanFits p b x = (InEight (p .queue) × (length b ≤ longestBlock)) × (InEight (p .held) × (length x ≤ longestBlock))
 
 -- the lengths and the blocks after a plan, where b joins
 abbrev pub lengthsAfter : Places → Block → List ℕ → List ℕ

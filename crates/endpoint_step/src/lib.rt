@@ -23,7 +23,7 @@ ghost use Rattle.step_plan.specs.Internal.{blockBy, blockOut, sentBy, Planned, 
 ghost use Rattle.endpoint.specs.View.{placesSize, placeBlock};
 ghost use Rattle.endpoint.specs.Internal.{recordOf};
 ghost use Rattle.endpoint_step.specs.Calls.{stepAnswerOf, Advances};
-ghost use Rattle.endpoint_step.specs.Internal.{Plans, Reserved, followed, placesAfter, PlaceFor, blockFrom, Handy, HandsUp, Fits, carried};
+ghost use Rattle.endpoint_step.specs.Internal.{Plans, Reserved, followed, placesAfter, PlaceFor, blockFrom, Handy, HandsUp, PlanFits, carried};
 
 // Question 11 of the buffer for a block, which is lent to the calls that make requests.
 pub fn block_room_ok(call: Call, room: usize) -> bool
@@ -228,7 +228,7 @@ fn blocks_after(
 
 // The record after the plan: joined is the block that joins those that wait, early the one that joins those held.
 fn carry_out<'a>(e: Endpoint, p: Plan, joined: &'a [u8], early: &'a [u8]) -> Endpoint
-    requires { ⌜ Fits p (now joined) (now early) ⌝ }
+    requires { ⌜ PlanFits p (now joined) (now early) ⌝ }
     ensures { λ r. ⌜ r ≡ carried p (now (joined .entry)) (now (early .entry)) e ⌝ }
 {
     let queue = p.queue;

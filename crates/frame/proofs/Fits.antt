@@ -16,7 +16,7 @@ use Rattle.octets.proofs.Test.{both, either, accepted, within}
 use Rattle.frame.specs.Frame.{CRAO, REJ, DRACK, DATA, ACK, Frame}
 use Rattle.frame.specs.Fits.{Fits, control-fits, data-fits, ack-fits}
 use Rattle.frame.specs.Layout.{isFrame, hasBlock, layout, numbersSize, headSize, controlNumbers, dataNumbers}
-use Rattle.frame.specs.Read.{kindOf, afterHead, countOf, frameAt, countOk, numbersOk, readable, questions, readFrame}
+use Rattle.frame.specs.Read.{kindOf, afterHead, countOf, frameAt, countOk, numbersOk, readable, readQuestions, readFrame}
 use Rattle.frame.proofs.Shape.{frame-at, numbers-size, data-shape, ack-shape, by-frame}
 use Rattle.frame.proofs.Reading.{Passed, passed, numbers-there}
 
@@ -77,7 +77,7 @@ module _ (s : List ℕ) {f : Frame} (h : readFrame s ≡ ok f) where
   was-read : Passed isFrame (kindOf s) (afterHead s) × (frameAt (kindOf s) (afterHead s) ≡ f)
   unfolding readFrame
   was-read =
-      let a = accepted (first (questions isFrame (kindOf s) (afterHead s))) (frameAt (kindOf s) (afterHead s)) h in
+      let a = accepted (first (readQuestions isFrame (kindOf s) (afterHead s))) (frameAt (kindOf s) (afterHead s)) h in
       (passed isFrame (kindOf s) (afterHead s) (a .0), a .1)
 
   pub read-fits : Octets s → Fits f

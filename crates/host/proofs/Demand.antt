@@ -33,7 +33,7 @@ use Rattle.endpoint_step.specs.Calls.{outcomeOf, stepAnswerOf, Advances}
 use Rattle.link.specs.Record.{format}
 use Rattle.link.specs.Record as link
 use Rattle.link.proofs.Demand.{lawful}
-use Rattle.host.specs.Hosts.{Held, paged, Act, call, restart, cut, Due, pageLeft, ends, AsInOctets, RestartsAsInOctets}
+use Rattle.host.specs.Hosts.{Held, paged, HostAct, call, restart, cut, HostDue, pageLeft, ends, AsInOctets, RestartsAsInOctets}
 
 -- the octets of a sound endpoint are long enough for a record
 long : (e : abstract.Endpoint) (rest : List ℕ) → abstract.sound e ≡ true → Bounded e → recordSize ≤ length (encode (pack e) ++ rest)
@@ -82,7 +82,7 @@ module _ {a b : History} (i : Roomy a b) (r : Held) (k : Packs r (now a)) where
   lying = (([], refl), k .1)
 
   -- what is done to the struct, done to its octets: a restart writes over them
-  abbrev onOctets : Act → calls.Act
+  abbrev onOctets : HostAct → calls.LentAct
   onOctets (call c) = calls.call c
   onOctets restart = calls.restart rec
   onOctets (cut c) = calls.cut c rec
@@ -90,7 +90,7 @@ module _ {a b : History} (i : Roomy a b) (r : Held) (k : Packs r (now a)) where
   enough : recordSize ≤ length rec
   enough = long (now a) [] (limited i .is-sound) (limited i .bounded)
 
-  due : (c : Act) → Due b c → calls.Due format b (onOctets c)
+  due : (c : HostAct) → HostDue b c → calls.LentDue format b (onOctets c)
   due (call c) d = d
   due restart d = tt
   due (cut c) d = enough
@@ -101,39 +101,39 @@ module _ {a b : History} (i : Roomy a b) (r : Held) (k : Packs r (now a)) where
   as-restart : (page : List ℕ) → restarting page ≡ restartedIn format rec page
   as-restart page = sym (alike-restarts rec page enough)
 
-  same-said : (c : Act) → ends .said r c ≡ link.ends .said octets (onOctets c)
+  same-said : (c : HostAct) → ends .said r c ≡ link.ends .said octets (onOctets c)
   same-said (call c) = refl
   same-said restart = refl
   same-said (cut c) = ap (λ (o : Outcome Step). ok (cutSays (said c) o)) (as-octets c)
 
-  same-comes : (c : Act) → ends .comes r c ≡ link.ends .comes octets (onOctets c)
+  same-comes : (c : HostAct) → ends .comes r c ≡ link.ends .comes octets (onOctets c)
   same-comes (call c) = as-octets c
   same-comes restart = as-restart (r .page)
   same-comes (cut c) = ap (λ (o : Outcome Step). restarting (pageAfter (r .page) o)) (as-octets c) ∙ as-restart _
 
-  same-page : (c : Act) (x : Step) → pageLeft r c (ok x) ≡ link.ends .leaves octets (onOctets c) (ok x) .page
+  same-page : (c : HostAct) (x : Step) → pageLeft r c (ok x) ≡ link.ends .leaves octets (onOctets c) (ok x) .page
   unfolding pageLeft renewed
   same-page (call c) x = refl
   same-page restart x = refl
   same-page (cut c) x = ap (pageAfter (r .page)) (as-octets c)
 
   -- so the struct does as they do
-  fair : (c : Act) → Due b c → (q : protocol.Act) → ends .said r c ≡ ok q → Sized b q
+  fair : (c : HostAct) → HostDue b c → (q : protocol.Act) → ends .said r c ≡ ok q → Sized b q
   fair c d q e = lies format lawful .fair a b i octets lying (onOctets c) (due c d) q (sym (same-said c) ∙ e)
 
-  asks : (c : Act) → Asks ends r c (now a)
+  asks : (c : HostAct) → Asks ends r c (now a)
   asks c =
       let t = comes format lawful i octets lying (onOctets c) in
       (t .0, same-comes c ∙ t .1 ∙ ap (λ (s : Outcome protocol.Act). asking (t .0) s (now a)) (sym (same-said c)))
 
-  accepts : (g : History) → Roomy g b → (c : Act) (x : Step) → ends .comes r c ≡ ok x → now g ≡ x .endpoint → Packs (ends .leaves r c (ok x)) (now g)
+  accepts : (g : History) → Roomy g b → (c : HostAct) (x : Step) → ends .comes r c ≡ ok x → now g ≡ x .endpoint → Packs (ends .leaves r c (ok x)) (now g)
   unfolding stepAnswerOf
   accepts g j c x h e =
       let p = lies format lawful .accepts a b g i j octets lying (onOctets c) x (sym (same-comes c) ∙ h) e .1 in
       (ap pack (sym e), (p .0, same-page c x ∙ p .1))
 
 -- a refusal leaves both
-refuses : (r : Held) (e : abstract.Endpoint) → Packs r e → (c : Act) (n : ℕ) → Packs (ends .leaves r c (refused n)) e
+refuses : (r : Held) (e : abstract.Endpoint) → Packs r e → (c : HostAct) (n : ℕ) → Packs (ends .leaves r c (refused n)) e
 unfolding stepAnswerOf pageLeft pageAfter
 refuses r e k (call c) n = k
 refuses r e k restart n = k

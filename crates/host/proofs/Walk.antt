@@ -27,5 +27,5 @@ of-answer r = LL.tuple-val D.the-type D′.the-laws (D.the-type .to r)
 pub parts : (r : StepAnswer) (u : Val) → Is D.the-row r (u ∷ []) → Is D.the-row r (of-answer r ∷ [])
 parts r u is = LL.owes D.the-type D′.the-laws r (LL.owed D.the-type D′.the-laws r _ is)
 
-pub ended : (r : StepAnswer) (u : Val) → Is D.the-row r (u ∷ []) → Is T.the-row (r .endpoint) (of-end (r .endpoint) ∷ [])
-ended r u is = LL.owed D.the-type D′.the-laws r _ is .1 .0
+pub endpoint-owned : (r : StepAnswer) (u : Val) → Is D.the-row r (u ∷ []) → Is T.the-row (r .endpoint) (of-end (r .endpoint) ∷ [])
+endpoint-owned r u is = LL.owed D.the-type D′.the-laws r _ is .1 .0

@@ -29,33 +29,33 @@ abbrev pub paged : Endpoint → List ℕ → Held
 paged e page = record { endpoint = e; page = page }
 
 -- What stands in a list at an end: a call; a restart, which is lent no record; or a call that is cut after its store, and the restart after it.
-pub data Act : Type 0 where
-  call : Arguments → Act
-  restart : Act
-  cut : Arguments → Act
+pub data HostAct : Type 0 where
+  call : Arguments → HostAct
+  restart : HostAct
+  cut : Arguments → HostAct
 
 -- A host restarts its ends whenever it likes.
-abbrev pub Due : History → Act → Type 0
-Due other (call c) = DueOctets other (c .call) (c .octets)
-Due other restart = Unit {0}
-Due other (cut c) = Unit {0}
+abbrev pub HostDue : History → HostAct → Type 0
+HostDue other (call c) = DueOctets other (c .call) (c .octets)
+HostDue other restart = Unit {0}
+HostDue other (cut c) = Unit {0}
 
 abbrev comesTo : Held → Arguments → Outcome Step
 comesTo r c = outcomeOf (r .endpoint) (r .page) c
 
-abbrev pub saidBy : Held → Act → Outcome protocol.Act
+abbrev pub saidBy : Held → HostAct → Outcome protocol.Act
 saidBy r (call c) = mapped protocol.call (said c)
 saidBy r restart = ok protocol.restart
 saidBy r (cut c) = ok (cutSays (said c) (comesTo r c))
 
-abbrev pub comesBy : Held → Act → Outcome Step
+abbrev pub comesBy : Held → HostAct → Outcome Step
 comesBy r (call c) = comesTo r c
 comesBy r restart = restarting (r .page)
 comesBy r (cut c) = restarting (pageAfter (r .page) (comesTo r c))
 
 -- The page after it: a restart stores nothing, and one that follows a cut finds the page as the call has left it. (Were it refused, all would be as
 -- before the call.)
-unfoldable pub pageLeft : Held → Act → Outcome Step → List ℕ
+unfoldable pub pageLeft : Held → HostAct → Outcome Step → List ℕ
 pageLeft r (call c) o = pageAfter (r .page) o
 pageLeft r restart o = r .page
 pageLeft r (cut c) (refused n) = r .page
@@ -66,11 +66,11 @@ ends =
     record {
       Record = Held;
       Fresh = λ r. (r .endpoint ≡ pack fresh) × ((more : List ℕ) × (r .page ≡ newPage ++ more));
-      Call = Act;
+      Call = HostAct;
       said = saidBy;
       comes = comesBy;
       leaves = λ r c o. paged (stepAnswerOf (r .endpoint) o .endpoint) (pageLeft r c o);
-      Due = λ this. Due;
+      Due = λ this. HostDue;
     }
 
 -- What is claimed beside demand 3: a call on the struct of a sound endpoint comes to what the call on its octets comes to, with the same page; and so does

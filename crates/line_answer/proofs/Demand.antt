@@ -18,7 +18,7 @@ use Rattle.protocol.proofs.Theorem.{Roomy, roomy}
 use Rattle.protocol.proofs.Theorem as protocol
 use Rattle.call_spec.specs.Claim.{Lent, call}
 use Rattle.call_spec.proofs.Holding.{keeps}
-use Rattle.call_spec.proofs.Lift.{LiesIn, holding, asks, lies}
+use Rattle.call_spec.proofs.Lift.{LiesIn, list-holding, asks, lies}
 use Rattle.link.specs.Record.{format, recordQuestions}
 use Rattle.link.specs.Record as link
 use Rattle.link.specs.Lent.{stands, lentAfter}
@@ -47,7 +47,7 @@ calls = lies format lawful
 module _ (a b : History) (i : Roomy a b) (r : Lent) (k : LiesIn format r (now a)) where
   -- an empty line says no call, and the end stands as it stood
   standing : LiesIn format (lentAfter r (lineOutcome (r .rec) (r .page) [])) (now a)
-  standing = subst (λ (x : Lent). LiesIn format x (now a)) (sym (stays-put (now a, holding i (k .0) (k .1)))) k
+  standing = subst (λ (x : Lent). LiesIn format x (now a)) (sym (stays-put (now a, list-holding i (k .0) (k .1)))) k
 
   idle : Idle ends (LiesIn format) r [] (now a)
   unfolding saidIn refusing
@@ -65,7 +65,7 @@ module _ (a b : History) (i : Roomy a b) (r : Lent) (k : LiesIn format r (now a)
   accepts : (g : History) → Roomy g b → (line : List ℕ) (x : Step) → ends .comes r line ≡ ok x → now g ≡ x .endpoint → LiesIn format (lentAfter r (ok x)) (now g)
   unfolding lineOutcome readyOutcome
   accepts g j [] x h e =
-      let y = holding i (k .0) (k .1) in
+      let y = list-holding i (k .0) (k .1) in
       let z : ok (stands (r .rec)) ≡ ok x = sym (asks-standing (r .rec) (r .page) [] (is-ready y) refl) ∙ h in
       let w : x .endpoint ≡ now a = let f : stands (r .rec) ≡ x = cc in sym (ap (λ (s : Step). s .endpoint) f) ∙ keeps format lawful y in
       rw (e ∙ w) (rw h at standing)

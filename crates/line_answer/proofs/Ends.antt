@@ -14,7 +14,7 @@ use Rattle.call_spec.specs.Answers.{sentIn, blockOf}
 use Rattle.link.specs.declared.Answer.{Answer}
 use Rattle.link.specs.Lent.{answerOf, Called}
 use Rattle.link.proofs.Answers.{sent-taken}
-use Rattle.answer_text.specs.Text.{textOf, Begins}
+use Rattle.answer_text.specs.Text.{textOf, StartsWith}
 use Rattle.line_answer.specs.Text.{text}
 use Rattle.line_answer.specs.Internal.{Gives}
 
@@ -26,7 +26,7 @@ abbrev pub blockRoom : List ℕ
 blockRoom = replicate longestBlock 0
 
 pub gives : {c : Call} (o : Outcome Step) (rec page s out : List ℕ) {rec′ page′ frame up out′ : List ℕ} {a : Answer} {r : ℕ} {b : Block}
-    → Called c o rec s room blockRoom rec′ frame up a → page′ ≡ pageAfter page o → b ≡ blockOf o → Begins (textOf (a .status) b (take (a .sent) frame)) out out′ r
+    → Called c o rec s room blockRoom rec′ frame up a → page′ ≡ pageAfter page o → b ≡ blockOf o → StartsWith (textOf (a .status) b (take (a .sent) frame)) out out′ r
     → Gives o rec page out rec′ page′ out′ r
 unfolding text answerOf
 gives o rec page s out l g h w =
@@ -35,11 +35,11 @@ gives o rec page s out l g h w =
 
 -- the text of a refusal, which leaves the record and the page
 pub tells-refusal : (rec out : List ℕ) (n : ℕ) {out′ : List ℕ} {a : Answer} {r : ℕ} → a ≡ answerOf rec (refused n)
-    → Begins (textOf (a .status) [] []) out out′ r → Begins (text rec (refused n)) out out′ r
+    → StartsWith (textOf (a .status) [] []) out out′ r → StartsWith (text rec (refused n)) out out′ r
 unfolding text answerOf blockOf sentIn wire
 tells-refusal rec out n h w = rw (ap (λ (x : Answer). x .status) h) at w
 
-pub refuses : {o : Outcome Step} {n : ℕ} → o ≡ refused n → (rec page out : List ℕ) {out′ : List ℕ} {r : ℕ} → Begins (text rec (refused n)) out out′ r
+pub refuses : {o : Outcome Step} {n : ℕ} → o ≡ refused n → (rec page out : List ℕ) {out′ : List ℕ} {r : ℕ} → StartsWith (text rec (refused n)) out out′ r
     → Gives o rec page out rec page out′ r
 unfolding recordAfter pageAfter mapped left
 refuses e rec page out w = rw e (record { begins = w; end = refl; paged = refl })

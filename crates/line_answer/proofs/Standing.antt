@@ -11,9 +11,9 @@ use Rattle.call_spec.specs.Answers.{noticeOf, sentIn, blockIn, blockOf}
 use Rattle.endpoint.specs.View.{pack, view}
 use Rattle.link.specs.Record.{format, recordQuestions}
 use Rattle.link.specs.Lent.{toldOf, statusOf, stands}
-use Rattle.link.proofs.Stays.{holding}
+use Rattle.link.proofs.Stays.{record-holding}
 use Rattle.link.proofs.Standing.{stands-still}
-use Rattle.answer_text.specs.Text.{asLine, counted, answerOctets, answerLine, frameLine, textOf, outputOf, Begins}
+use Rattle.answer_text.specs.Text.{asLine, counted, answerOctets, answerLine, frameLine, textOf, outputOf, StartsWith}
 use Rattle.answer_text.proofs.Text.{length-told}
 use Rattle.line_answer.specs.Line.{readyOutcome, lineOutcome}
 use Rattle.line_answer.specs.Text.{text, standing, recordLeft, pageLeft, EmptyAnswered, StandingSays, Undisturbed, PageUndisturbed}
@@ -35,7 +35,7 @@ standing-says rec = standing-is rec ∙ ap asLine (append-nil _)
 
 module _ (rec page : List ℕ) where
   still : Octets rec → first (recordQuestions rec page) ≡ 0 → recordAfter format rec (ok (stands rec)) ≡ rec
-  still o h = let a = asked-of rec page h in stands-still (holding rec page (a .long) o (a .is-sound) (a .page-long) (a .goes))
+  still o h = let a = asked-of rec page h in stands-still (record-holding rec page (a .long) o (a .is-sound) (a .page-long) (a .goes))
 
   -- the record and the page stay as they are, whether the end may be asked or not
   leaves : Octets rec → (n : ℕ) → n ≡ first (recordQuestions rec page) → recordAfter format rec (refusing n (readyOutcome rec page [])) ≡ rec
@@ -49,7 +49,7 @@ module _ (rec page : List ℕ) where
   leaves-page (suc n) h = refl
 
   module _ (out : List ℕ) {out′ : List ℕ} (o : Octets rec) (h : first (recordQuestions rec page) ≡ 0) where
-    pub stands-there : {r : ℕ} → Begins (standing rec) out out′ r → Gives (ok (stands rec)) rec page out rec page out′ r
+    pub stands-there : {r : ℕ} → StartsWith (standing rec) out out′ r → Gives (ok (stands rec)) rec page out rec page out′ r
     stands-there w = record { begins = w; end = sym (still o h); paged = sym (page-still rec page (asked-of rec page h .goes)) }
 
 pub undisturbed : Undisturbed

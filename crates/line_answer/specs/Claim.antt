@@ -8,7 +8,7 @@ use Rattle.hex.specs.Line.{unhex, lineQuestions}
 use Rattle.protocol.specs.History as protocol
 use Rattle.protocol.specs.World.{Ends, End, called}
 use Rattle.call_spec.specs.Calls.{said}
-use Rattle.call_spec.specs.Claim.{Lent, call, Due}
+use Rattle.call_spec.specs.Claim.{Lent, call, LentDue}
 use Rattle.link.specs.Record.{format}
 use Rattle.link.specs.Record as link
 use Rattle.link.specs.Lent.{lentAfter}
@@ -29,7 +29,7 @@ ends =
       said = λ r. saidIn;
       comes = λ r. lineOutcome (r .rec) (r .page);
       leaves = λ r line. lentAfter r;
-      Due = λ this other line. first (lineQuestions line) ≡ 0 → Due format other (call (lineCall (unhex line)));
+      Due = λ this other line. first (lineQuestions line) ≡ 0 → LentDue format other (call (lineCall (unhex line)));
     }
 
 -- The claim beside demand 3: how an end stands leaves no trace in the history.

@@ -12,7 +12,7 @@ ghost use Rattle.octets.specs.Test.{first, refused};
 ghost use Rattle.call_spec.specs.Calls.{performed};
 ghost use Rattle.endpoint.specs.Record.{recordSize};
 ghost use Rattle.link.specs.Record.{format, recordQuestions};
-ghost use Rattle.answer_text.specs.Text.{answerRoom, Begins};
+ghost use Rattle.answer_text.specs.Text.{answerRoom, StartsWith};
 ghost use Rattle.line_answer.specs.Line.{callIn, lineCall};
 ghost use Rattle.line_answer.specs.Text.{text, standing, LineAnswered};
 ghost use Rattle.line_answer.specs.Internal.{Gives};
@@ -48,7 +48,7 @@ fn ask(rec: &mut [u8], page: &mut [u8], s: &[u8], out: &mut [u8]) -> usize
 
 fn refuse(rec: &[u8], number: u8, out: &mut [u8]) -> usize
     requires { ⌜ answerRoom ≤ length (now out) ⌝ }
-    ensures { λ r. ⌜ Begins (text (now (rec .entry)) (refused number)) (now (out .entry)) (now (out .exit)) r ⌝ }
+    ensures { λ r. ⌜ StartsWith (text (now (rec .entry)) (refused number)) (now (out .entry)) (now (out .exit)) r ⌝ }
 {
     let a = link::refuse(rec, number);
     let told = a.status;
@@ -58,7 +58,7 @@ fn refuse(rec: &[u8], number: u8, out: &mut [u8]) -> usize
 // Writes the answer to an empty line to the start of out: how the end with the record rec stands, in 23 characters.
 pub fn stand(rec: &[u8], out: &mut [u8]) -> usize
     requires { ⌜ (recordSize ≤ length (now rec)) × (length (standing (now rec)) ≤ length (now out)) ⌝ }
-    ensures { λ r. ⌜ Begins (standing (now (rec .entry))) (now (out .entry)) (now (out .exit)) r ⌝ }
+    ensures { λ r. ⌜ StartsWith (standing (now (rec .entry))) (now (out .entry)) (now (out .exit)) r ⌝ }
 {
     let told = link::stands(rec);
     answer_text::write_answer(told, &rec[..0], out)

@@ -5,7 +5,7 @@ use mathlib.Core.List.{List, [], _∷_, _++_, append-assoc, map}
 use native.Mathlib.Omega.{arith}
 use lib.ListN.{length}
 use Rattle.hex.specs.Line.{normal}
-use Rattle.line_split.specs.Split.{ended, begun, last, linesOf, cut}
+use Rattle.line_split.specs.Split.{ended, unfinished, last, linesOf, cut}
 use Rattle.line_split.proofs.Split.{ended-append, begun-append, ended-cut, begun-cut, cut-cut}
 use Rattle.line_split.proofs.Case.{lines-normal}
 use Rattle.line_io.specs.Answering.{Answering, Cuts, stateAfter, answers, inputText}
@@ -32,7 +32,7 @@ last-alike (x ∷ k) (y ∷ l) e = ap (λ (t : List ℕ). t ∷ []) e
 -- What is made of some of the input: the state, what is kept of the line that it begins, and the text that answers the lines that it ends.
 pub record Fed (a : Answering) (s : a .State) (kept used : List ℕ) (s′ : a .State) (kept′ text : List ℕ) : Type 0 where
   pub state : s′ ≡ stateAfter a s (ended kept used)
-  pub part : kept′ ≡ cut (begun kept used)
+  pub part : kept′ ≡ cut (unfinished kept used)
   pub told : text ≡ answers a s (ended kept used)
 
 -- Where a line counts as what f makes of it, so do many.
@@ -66,13 +66,13 @@ module _ {a : Answering} (c : Cuts a) where
   pub fed-more : {s t u : a .State} {kept kept′ kept″ x y p q : List ℕ} → Fed a s kept x t kept′ p → Fed a t kept′ y u kept″ q
       → Fed a s kept (x ++ y) u kept″ (p ++ q)
   fed-more {s = s} {kept = kept} {x = x} {y = y} f g =
-      let e : cut (cut (begun kept x)) ≡ cut (begun kept x) = cut-cut (begun kept x) in
+      let e : cut (cut (unfinished kept x)) ≡ cut (unfinished kept x) = cut-cut (unfinished kept x) in
       let t = stateAfter a s (ended kept x) in
-      let i = ended-cut (cut (begun kept x)) (begun kept x) y e in
+      let i = ended-cut (cut (unfinished kept x)) (unfinished kept x) y e in
       record {
-        state = g .state ∙ rw (f .state, f .part, ended-append kept x y, after-append a s (ended kept x) (ended (begun kept x) y)) (after-alike t _ _ i);
-        part = g .part ∙ rw (f .part, begun-append kept x y) (begun-cut (cut (begun kept x)) (begun kept x) y e);
-        told = rw (f .told, g .told, f .state, f .part, ended-append kept x y, answers-append a s (ended kept x) (ended (begun kept x) y))
+        state = g .state ∙ rw (f .state, f .part, ended-append kept x y, after-append a s (ended kept x) (ended (unfinished kept x) y)) (after-alike t _ _ i);
+        part = g .part ∙ rw (f .part, begun-append kept x y) (begun-cut (cut (unfinished kept x)) (unfinished kept x) y e);
+        told = rw (f .told, g .told, f .state, f .part, ended-append kept x y, answers-append a s (ended kept x) (ended (unfinished kept x) y))
             (ap (λ (z : List ℕ). answers a s (ended kept x) ++ z) (answers-alike t _ _ i));
       }
 
@@ -80,8 +80,8 @@ module _ {a : Answering} (c : Cuts a) where
   pub fed-whole : {s t : a .State} {kept x text : List ℕ} → Fed a s [] x t kept text → text ++ answers a t (last kept) ≡ inputText a s x
   unfolding inputText linesOf
   fed-whole {s = s} {x = x} f =
-      rw (f .told, f .state, f .part, answers-append a s (ended [] x) (last (begun [] x)))
-      (ap (λ (z : List ℕ). answers a s (ended [] x) ++ z) (answers-alike _ _ _ (last-alike (cut (begun [] x)) (begun [] x) (cut-cut (begun [] x)))))
+      rw (f .told, f .state, f .part, answers-append a s (ended [] x) (last (unfinished [] x)))
+      (ap (λ (z : List ℕ). answers a s (ended [] x) ++ z) (answers-alike _ _ _ (last-alike (cut (unfinished [] x)) (unfinished [] x) (cut-cut (unfinished [] x)))))
 
 -- where each line counts as its normal form, so does the input
 pub input-normal : (a : Answering) → ((s : a .State) (l : List ℕ) → a .next s (normal l) ≡ a .next s l)

@@ -7,7 +7,7 @@ use native.Mathlib.Omega.{arith}
 use lib.ListN.{length, take, drop}
 use lib.Seq.{length-take-le, take-add, drop-drop}
 use Rattle.octets.proofs.Test.{by-eq, eq-yes, eq-no, lt-yes, lt-no}
-use Rattle.line_split.specs.Split.{ended, begun, cut}
+use Rattle.line_split.specs.Split.{ended, unfinished, cut}
 use Rattle.line_io.specs.declared.Place.{Place}
 use Rattle.line_io.specs.Answering.{Answering, Cuts, stateAfter, answers, inputText}
 use Rattle.line_io.specs.Place.{bufferSize, PlaceFits, Starts, between}
@@ -241,7 +241,7 @@ module _ {a : Answering} {room : ℕ} where
 module _ {a : Answering} (c : Cuts a) where
   so-far : {room : ℕ} {s₀ s : a .State} {buf line out : List ℕ} {p : Place} {pieces texts : List (List ℕ)} → Run a room s₀ s buf line out p pieces texts
       → SoFar a s₀ s buf line out p pieces texts
-  unfolding concat Over ended begun stateAfter answers cut
+  unfolding concat Over ended unfinished stateAfter answers cut
   so-far (starts {buf = buf} {p = p} g) =
       lasts (record {
         used = [];

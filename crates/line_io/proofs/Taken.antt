@@ -9,7 +9,7 @@ use lib.Seq.{length-take-le, take-take}
 use Rattle.octets.specs.Test.{ifEq}
 use Rattle.octets.proofs.Test.{eq-yes, eq-no}
 use Rattle.line_split.specs.Lines.{lineLength, Kept}
-use Rattle.line_split.specs.Split.{ended, begun, longestKept, cut}
+use Rattle.line_split.specs.Split.{ended, unfinished, longestKept, cut}
 use Rattle.line_split.proofs.Split.{ended-none, begun-none, ended-one, begun-one, kept-cut, cut-cut}
 use Rattle.line_io.specs.declared.Place.{Place}
 use Rattle.line_io.specs.Place.{between, readyLine, Taken}
@@ -57,7 +57,7 @@ module _ (buf line : List ℕ) (p : Place) (n : ℕ) (on : p .at < p .end) (read
     ends-one : ended (take (p .kept) line) (between (p .at) (p .at + n + 1) buf) ≡ (take (p .kept) line ++ between (p .at) (p .at + n) buf) ∷ []
     ends-one = rw (used-is, piece-is) (ended-one (take (p .kept) line) (between (p .at) (p .end) buf) short)
 
-    begins-none : begun (take (p .kept) line) (between (p .at) (p .at + n + 1) buf) ≡ []
+    begins-none : unfinished (take (p .kept) line) (between (p .at) (p .at + n + 1) buf) ≡ []
     begins-none = rw used-is (begun-one (take (p .kept) line) (between (p .at) (p .end) buf) short)
 
     -- after a line, at is past its line feed

@@ -5,7 +5,7 @@ use mathlib.Core.Logic.{_≢_}
 use mathlib.Core.List.{List, [], _∷_, map}
 use lib.ListN.{length, take, drop}
 use Rattle.octets.specs.Test.{ifEq}
-use Rattle.line_split.specs.Split.{ended, begun, longestKept, cut}
+use Rattle.line_split.specs.Split.{ended, unfinished, longestKept, cut}
 use Rattle.line_io.specs.declared.Place.{Place}
 
 -- the octets of a buffer for input or output
@@ -107,9 +107,9 @@ pub record Taken (buf line : List ℕ) (p : Place) (line′ : List ℕ) (q : Pla
   pub begins : q .from ≤ q .to
   pub stops : q .to ≤ q .end
   pub none : q .lines ≡ 0 → (ended (take (p .kept) line) (between (p .at) (q .at) buf) ≡ [])
-      × (take (q .kept) line′ ≡ cut (begun (take (p .kept) line) (between (p .at) (q .at) buf)))
+      × (take (q .kept) line′ ≡ cut (unfinished (take (p .kept) line) (between (p .at) (q .at) buf)))
   pub one : q .lines ≢ 0 → (map cut (ended (take (p .kept) line) (between (p .at) (q .at) buf)) ≡ cut (readyLine buf line′ q) ∷ [])
-      × (begun (take (p .kept) line) (between (p .at) (q .at) buf) ≡ [])
+      × (unfinished (take (p .kept) line) (between (p .at) (q .at) buf) ≡ [])
 
 -- Where the input at hand is used up: a write and then a read.
 pub record Refilled (line : List ℕ) (p : Place) (buf′ line′ : List ℕ) (q : Place) : Type 0 where
@@ -119,7 +119,7 @@ pub record Refilled (line : List ℕ) (p : Place) (buf′ line′ : List ℕ) (q
   pub held : line′ ≡ line
 
 -- what answering needs of a place where a line is ready: the line is in range, and room characters of output are free
-pub record Ready (room : ℕ) (q : Place) : Type 0 where
+pub record LineReady (room : ℕ) (q : Place) : Type 0 where
   pub kept : q .kept ≤ longestKept
   pub begins : q .from ≤ q .to
   pub stops : q .to ≤ bufferSize
@@ -133,4 +133,4 @@ pub record Next (room : ℕ) (buf line : List ℕ) (p : Place) (buf′ line′ :
   pub taken : p .at ≢ p .end → p .filled + room ≤ bufferSize → (Taken buf line (oneLess p) line′ q) × (buf′ ≡ buf)
   pub fits : PlaceFits q
   pub less : q .steps < p .steps
-  pub ready : room ≤ bufferSize → q .lines ≢ 0 → Ready room q
+  pub ready : room ≤ bufferSize → q .lines ≢ 0 → LineReady room q

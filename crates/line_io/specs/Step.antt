@@ -5,7 +5,7 @@ use mathlib.Core.Path.{_≡_}
 use mathlib.Core.Logic.{_≢_}
 use mathlib.Core.List.{List, _++_}
 use lib.ListN.{length, take}
-use Rattle.line_split.specs.Split.{ended, begun, last, cut}
+use Rattle.line_split.specs.Split.{ended, unfinished, last, cut}
 use Rattle.line_io.specs.declared.Place.{Place}
 use Rattle.line_io.specs.Answering.{Answering, stateAfter, answers}
 use Rattle.line_io.specs.Place.{bufferSize, PlaceFits, between}
@@ -24,7 +24,7 @@ pub record Went (a : Answering) (s : a .State) (buf line out : List ℕ) (p : Pl
   pub end : q .end ≡ p .end
   pub steps : q .steps ≡ p .steps - 1
   pub state : s′ ≡ stateAfter a s (ended (take (p .kept) line) (between (p .at) (q .at) buf))
-  pub part : take (q .kept) line′ ≡ cut (begun (take (p .kept) line) (between (p .at) (q .at) buf))
+  pub part : take (q .kept) line′ ≡ cut (unfinished (take (p .kept) line) (between (p .at) (q .at) buf))
   pub told : take (q .filled) out′ ≡ take (p .filled) out ++ answers a s (ended (take (p .kept) line) (between (p .at) (q .at) buf))
 
 -- Nothing is answered, what is held stays, and nothing waits any more.

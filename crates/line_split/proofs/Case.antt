@@ -8,7 +8,7 @@ use Rattle.octets.proofs.Test.{split, by-eq}
 use Rattle.hex.specs.Line.{isCapital, small, normal}
 use Rattle.hex.proofs.Digits.{capital-range}
 use Rattle.line_split.specs.Lines.{lineFeed}
-use Rattle.line_split.specs.Split.{ended, begun, last, linesOf}
+use Rattle.line_split.specs.Split.{ended, unfinished, last, linesOf}
 use Rattle.line_split.proofs.Split.{ended-feed, ended-other, begun-feed, begun-other}
 
 -- a line feed is no capital and becomes no other character, and no other becomes a line feed
@@ -29,8 +29,8 @@ ended-normal part (c ∷ s) =
     (λ e. rw (ended-other (normal part) (small c) (normal s) (other c e), ended-other part c s e, sym (map-append small part (c ∷ [])))
     (ended-normal (part ++ (c ∷ [])) s))
 
-begun-normal : (part s : List ℕ) → begun (normal part) (normal s) ≡ normal (begun part s)
-unfolding begun
+begun-normal : (part s : List ℕ) → unfinished (normal part) (normal s) ≡ normal (unfinished part s)
+unfolding unfinished
 begun-normal part [] = refl
 begun-normal part (c ∷ s) =
     by-eq c lineFeed
@@ -46,5 +46,5 @@ last-normal (c ∷ s) = refl
 pub lines-normal : (s : List ℕ) → linesOf (normal s) ≡ map normal (linesOf s)
 unfolding linesOf
 lines-normal s =
-    rw (map-append normal (ended [] s) (last (begun [] s)))
-    (ap₂ _++_ (ended-normal [] s) (ap last (begun-normal [] s) ∙ last-normal (begun [] s)))
+    rw (map-append normal (ended [] s) (last (unfinished [] s)))
+    (ap₂ _++_ (ended-normal [] s) (ap last (begun-normal [] s) ∙ last-normal (unfinished [] s)))

@@ -10,7 +10,7 @@ use Rattle.octets.specs.Octets.{put}
 use Rattle.octets.specs.Test.{when, ifEq}
 use Rattle.octets.proofs.Test.{by-eq, eq-yes, eq-no}
 use Rattle.line_split.specs.Lines.{lineFeed, lineLength, Kept}
-use Rattle.line_split.specs.Split.{ended, begun, last, linesOf, longestKept, cut}
+use Rattle.line_split.specs.Split.{ended, unfinished, last, linesOf, longestKept, cut}
 
 -- one character more: a line feed, and any other
 module _ (part : List ℕ) (c : ℕ) (s : List ℕ) where
@@ -22,12 +22,12 @@ module _ (part : List ℕ) (c : ℕ) (s : List ℕ) where
   unfolding ended
   ended-other e = eq-no c lineFeed _ _ e
 
-  pub begun-feed : c ≡ lineFeed → begun part (c ∷ s) ≡ begun [] s
-  unfolding begun
+  pub begun-feed : c ≡ lineFeed → unfinished part (c ∷ s) ≡ unfinished [] s
+  unfolding unfinished
   begun-feed e = eq-yes c lineFeed _ _ e
 
-  pub begun-other : c ≢ lineFeed → begun part (c ∷ s) ≡ begun (part ++ (c ∷ [])) s
-  unfolding begun
+  pub begun-other : c ≢ lineFeed → unfinished part (c ∷ s) ≡ unfinished (part ++ (c ∷ [])) s
+  unfolding unfinished
   begun-other e = eq-no c lineFeed _ _ e
 
   length-feed : c ≡ lineFeed → lineLength (c ∷ s) ≡ 0
@@ -39,16 +39,16 @@ module _ (part : List ℕ) (c : ℕ) (s : List ℕ) where
   length-other e = eq-no c lineFeed _ _ e
 
 -- two pieces of a text
-pub ended-append : (part s t : List ℕ) → ended part (s ++ t) ≡ ended part s ++ ended (begun part s) t
-unfolding ended begun
+pub ended-append : (part s t : List ℕ) → ended part (s ++ t) ≡ ended part s ++ ended (unfinished part s) t
+unfolding ended unfinished
 ended-append part [] t = refl
 ended-append part (c ∷ s) t =
     by-eq c lineFeed
     (λ e. rw (ended-feed part c (s ++ t) e, ended-feed part c s e, begun-feed part c s e) (ap (λ (x : List (List ℕ)). part ∷ x) (ended-append [] s t)))
     (λ e. rw (ended-other part c (s ++ t) e, ended-other part c s e, begun-other part c s e) (ended-append (part ++ (c ∷ [])) s t))
 
-pub begun-append : (part s t : List ℕ) → begun part (s ++ t) ≡ begun (begun part s) t
-unfolding begun
+pub begun-append : (part s t : List ℕ) → unfinished part (s ++ t) ≡ unfinished (unfinished part s) t
+unfolding unfinished
 begun-append part [] t = refl
 begun-append part (c ∷ s) t =
     by-eq c lineFeed
@@ -67,8 +67,8 @@ ended-none part (c ∷ s) h =
     (λ e. absurd (omega (arith, length-feed part c s e)))
     (λ e. ended-other part c s e ∙ ended-none (part ++ (c ∷ [])) s (omega (arith, length-other part c s e)))
 
-pub begun-none : (part s : List ℕ) → lineLength s ≡ length s → begun part s ≡ part ++ s
-unfolding begun
+pub begun-none : (part s : List ℕ) → lineLength s ≡ length s → unfinished part s ≡ part ++ s
+unfolding unfinished
 begun-none part [] h = sym (append-nil part)
 begun-none part (c ∷ s) h =
     by-eq c lineFeed
@@ -86,8 +86,8 @@ ended-one part (c ∷ s) h =
     (ended-other part c (take (suc (lineLength s)) s) e ∙ ended-one (part ++ (c ∷ [])) s (omega (arith, length-other part c s e))
     ∙ ap (λ (x : List ℕ). x ∷ []) (snoc part c (take (lineLength s) s))))
 
-pub begun-one : (part s : List ℕ) → lineLength s < length s → begun part (take (suc (lineLength s)) s) ≡ []
-unfolding begun
+pub begun-one : (part s : List ℕ) → lineLength s < length s → unfinished part (take (suc (lineLength s)) s) ≡ []
+unfolding unfinished
 begun-one part [] h = absurd (omega arith)
 begun-one part (c ∷ s) h =
     by-eq c lineFeed
@@ -108,8 +108,8 @@ pub cut-cut : (a : List ℕ) → cut (cut a) ≡ cut a
 unfolding cut
 cut-cut a = take-take longestKept longestKept a (omega arith)
 
-pub begun-cut : (a b s : List ℕ) → cut a ≡ cut b → cut (begun a s) ≡ cut (begun b s)
-unfolding begun
+pub begun-cut : (a b s : List ℕ) → cut a ≡ cut b → cut (unfinished a s) ≡ cut (unfinished b s)
+unfolding unfinished
 begun-cut a b [] e = e
 begun-cut a b (c ∷ s) e =
     by-eq c lineFeed
@@ -139,13 +139,13 @@ kept-cut line piece n l h k =
 
 -- no text, no line; a line feed more or less at the end says nothing; an empty line counts (97 is a letter)
 none-in-none : linesOf [] ≡ []
-unfolding linesOf ended begun last
+unfolding linesOf ended unfinished last
 none-in-none = refl
 
 without-feed : linesOf (97 ∷ 10 ∷ 10 ∷ 97 ∷ 97 ∷ []) ≡ (97 ∷ []) ∷ [] ∷ (97 ∷ 97 ∷ []) ∷ []
-unfolding linesOf ended begun last ifEq when
+unfolding linesOf ended unfinished last ifEq when
 without-feed = refl
 
 with-feed : linesOf (97 ∷ 10 ∷ 10 ∷ 97 ∷ 97 ∷ 10 ∷ []) ≡ (97 ∷ []) ∷ [] ∷ (97 ∷ 97 ∷ []) ∷ []
-unfolding linesOf ended begun last ifEq when
+unfolding linesOf ended unfinished last ifEq when
 with-feed = refl

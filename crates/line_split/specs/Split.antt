@@ -12,9 +12,9 @@ ended part [] = []
 ended part (c ∷ s) = ifEq c lineFeed (part ∷ ended [] s) (ended (part ++ (c ∷ [])) s)
 
 -- and what stands after them
-unfoldable pub begun : List ℕ → List ℕ → List ℕ
-begun part [] = part
-begun part (c ∷ s) = ifEq c lineFeed (begun [] s) (begun (part ++ (c ∷ [])) s)
+unfoldable pub unfinished : List ℕ → List ℕ → List ℕ
+unfinished part [] = part
+unfinished part (c ∷ s) = ifEq c lineFeed (unfinished [] s) (unfinished (part ++ (c ∷ [])) s)
 
 -- which is a line if it has a character
 unfoldable pub last : List ℕ → List (List ℕ)
@@ -23,7 +23,7 @@ last (c ∷ s) = (c ∷ s) ∷ []
 
 -- all of them
 unfoldable pub linesOf : List ℕ → List (List ℕ)
-linesOf s = ended [] s ++ last (begun [] s)
+linesOf s = ended [] s ++ last (unfinished [] s)
 
 -- What is kept of a line: one character more than a line may have, which is two for each octet of the longest frame. They say all that counts of a longer
 -- one: it is refused.

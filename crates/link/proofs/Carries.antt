@@ -17,7 +17,7 @@ use Rattle.endpoint.specs.declared.Endpoint.{Endpoint}
 use Rattle.endpoint.specs.Record.{encode, decode, lengthsAt, blocksAt, heldLengthsAt, heldBlocksAt, recordSize}
 use Rattle.endpoint.specs.Internal.{recordOf, numbersIn}
 use Rattle.endpoint.proofs.Record.{numbers-long, encode-puts}
-use Rattle.endpoint_step.specs.Internal.{InEight, Fits, lengthsAfter, blocksAfter, placesAfter, carried}
+use Rattle.endpoint_step.specs.Internal.{InEight, PlanFits, lengthsAfter, blocksAfter, placesAfter, carried}
 use Rattle.endpoint_step.proofs.Places.{length-after, for-lengths, for-blocks}
 
 -- a part that is lent and comes back is a write
@@ -74,7 +74,7 @@ module _ (rec : List ℕ) (p : Plan) (b y : Block) (long : recordSize ≤ length
     (el : l ≡ lengthsAfter (p .queue) b (take queueSize (drop lengthsAt x)))
     (ec : c ≡ blocksAfter (p .queue) b (take placesSize (drop blocksAt (x1 x l c hl))))
     (ehl : hl ≡ lengthsAfter (p .held) y (take heldSize (drop heldLengthsAt (x2 x l c hl))))
-    (ehc : hc ≡ blocksAfter (p .held) y (take placesSize (drop heldBlocksAt (x3 x l c hl)))) (fits : Fits p b y) where
+    (ehc : hc ≡ blocksAfter (p .held) y (take placesSize (drop heldBlocksAt (x3 x l c hl)))) (fits : PlanFits p b y) where
   length-x : length x ≡ length rec
   length-x = ap length ex ∙ length-put rec (numbersIn (p .numbers)) 0 (omega (arith, numbers-long (p .numbers)))
 

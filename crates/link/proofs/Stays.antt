@@ -53,9 +53,9 @@ bounded rec o l =
     }
 
 -- so a sound record in octets holds an endpoint, that one has the same octets, and the page is the one that goes with it
-pub holding : (rec page : List ℕ) → recordSize ≤ length rec → Octets rec → format .sound rec ≡ true → pageSize ≤ length page → pagedFor rec page ≡ true
+pub record-holding : (rec page : List ℕ) → recordSize ≤ length rec → Octets rec → format .sound rec ≡ true → pageSize ≤ length page → pagedFor rec page ≡ true
     → Holding format rec page (view (decode rec))
-holding rec page l o s pl pg =
+record-holding rec page l o s pl pg =
     let e = decode rec in
     let z = decode-long rec l in
     record {
@@ -116,7 +116,7 @@ stays-sound rec page o c i x h =
     let r = passing (first ((11, _) ∷ [])) h in
     let l = leb-true recordSize (length rec) (all-yes 11 _ _ (r .0) tt .0) in
     let q = ready.passes (format .sound rec) page (format .holds rec) c (ap numberOf (r .1)) in
-    passes-both format lawful (goes-on rec page _ (holding rec page l o (q .is-fine) (q .page-long) (q .goes)) c i (ok x) h)
+    passes-both format lawful (goes-on rec page _ (record-holding rec page l o (q .is-fine) (q .page-long) (q .goes)) c i (ok x) h)
 
 -- 11, 12 and 15 are passed
 pub is-ready : {rec page : List ℕ} {e : abstract.Endpoint} → Holding format rec page e → first (recordQuestions rec page) ≡ 0

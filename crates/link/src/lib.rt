@@ -23,7 +23,7 @@ ghost use Rattle.call_spec.specs.declared.Call.the-variants.{Receive};
 ghost use Rattle.call_spec.specs.Calls.{given, rooms};
 ghost use Rattle.call_spec.specs.Answers.{blockOf};
 ghost use Rattle.endpoint.specs.Record.{recordSize, encode, decode};
-ghost use Rattle.endpoint_step.specs.Internal.{Plans, PlansAny, Reserved, Fits, carried};
+ghost use Rattle.endpoint_step.specs.Internal.{Plans, PlansAny, Reserved, PlanFits, carried};
 ghost use Rattle.link.specs.Record.{format, pagedFor, recordQuestions};
 ghost use Rattle.link.specs.Lent.{statusOf, stands, answerOf, Called, lentCall, lentOutcome, CalledLent, Restarted, answerIn};
 
@@ -207,7 +207,7 @@ pub fn reserve(p: Plan, page: &mut [u8])
 // Changes the record where it lies: its numbers, and of the lengths and blocks what the plan says; joined is the block that joins those
 // that wait, early the one that joins those held. Where every place is written afresh, they are one run of octets.
 fn store<'a>(p: Plan, joined: &'a [u8], early: &'a [u8], rec: &mut [u8])
-    requires { ⌜ (recordSize ≤ length (now rec)) × Fits p (now joined) (now early) ⌝ }
+    requires { ⌜ (recordSize ≤ length (now rec)) × PlanFits p (now joined) (now early) ⌝ }
     ensures { λ _. ⌜ now (rec .exit) ≡ put (now (rec .entry)) 0 (encode (carried p (now (joined .entry)) (now (early .entry)) (decode (now (rec .entry))))) ⌝ }
 {
     let n = p.numbers;

@@ -15,10 +15,10 @@ use Rattle.frame.specs.Frame.{Block, Frame, control, dataFrame, Request, connec
 use Rattle.protocol.specs.Endpoint.{Endpoint, waiting}
 use Rattle.protocol.specs.Table.{none, Sent, nothing, frame, Step, quiet}
 use Rattle.octets.specs.Sizes.{lastNumber, lastIncarnation, pageSize, numbersEach, queueSize}
-use Rattle.protocol.specs.Requests.{questions, refusal, queueing, oldest, resent, hungUp, collected, accept, request}
+use Rattle.protocol.specs.Requests.{requestQuestions, refusal, queueing, oldest, resent, hungUp, collected, accept, request}
 use Rattle.page.specs.Page.{usedFor}
 use Rattle.protocol.specs.Restart.{restarted}
-use Rattle.protocol.specs.History.{Call, ask, deliver, perform, endpointLeft, Act, call, restart, cut, does, Event, History, now, also, sent, recorded, after, Due}
+use Rattle.protocol.specs.History.{Call, ask, deliver, perform, endpointLeft, Act, call, restart, cut, does, Event, History, now, also, sent, recorded, after, ActDue}
 use Rattle.protocol.specs.Claim.{blockSent, blockAccepted, Restarts, Begins}
 use Rattle.protocol.proofs.Facts.{alone, stays, hangs-up, drops, was-held, keeps, clears, takes, queues, Sane, Laden}
 use Rattle.protocol.proofs.Facts.{move-local, Says, silence, crao, crpo, dr, datum, ack, Fires, fires, heard}
@@ -62,16 +62,16 @@ Allowed collect e = e .state ≡ 4
 
 pub requested : (P : Outcome Step → Type 0) (q : Request) (e : Endpoint) → ((n : ℕ) → P (refused n)) → (Allowed q e → P (ok (accept q e)))
     → P (request q e)
-unfolding request refusal questions
-requested P connect e n y = asked P (questions connect e) tt n (λ z. y (omega (arith, eqb-true, ltb-true)))
-requested P listen e n y = asked P (questions listen e) tt n (λ z. y (omega (arith, eqb-true, ltb-true)))
-requested P endListening e n y = asked P (questions endListening e) tt n (λ z. y (omega (arith, eqb-true, ltb-true)))
+unfolding request refusal requestQuestions
+requested P connect e n y = asked P (requestQuestions connect e) tt n (λ z. y (omega (arith, eqb-true, ltb-true)))
+requested P listen e n y = asked P (requestQuestions listen e) tt n (λ z. y (omega (arith, eqb-true, ltb-true)))
+requested P endListening e n y = asked P (requestQuestions endListening e) tt n (λ z. y (omega (arith, eqb-true, ltb-true)))
 requested P close e n y =
-    asked P (questions close e) tt n
+    asked P (requestQuestions close e) tt n
     (λ z. y (⊎-elim (λ t. inl (eqb-true _ _ t)) (λ t. inr (eqb-true _ _ t)) (either (eqb (e .state) 2) (eqb (e .state) 4) (z .0))))
-requested P (send b) e n y = asked P (questions (send b) e) tt n (λ z. y (omega (arith, eqb-true, ltb-true)))
-requested P timer e n y = asked P (questions timer e) tt n (λ z. y tt)
-requested P collect e n y = asked P (questions collect e) tt n (λ z. y (omega (arith, eqb-true, ltb-true)))
+requested P (send b) e n y = asked P (requestQuestions (send b) e) tt n (λ z. y (omega (arith, eqb-true, ltb-true)))
+requested P timer e n y = asked P (requestQuestions timer e) tt n (λ z. y tt)
+requested P collect e n y = asked P (requestQuestions collect e) tt n (λ z. y (omega (arith, eqb-true, ltb-true)))
 
 -- The requests that begin no incarnation are as if some frame f were heard.
 module _ {e : Endpoint} (f : Frame) (s : Sane e) (l : Laden e) where
@@ -201,12 +201,12 @@ module _ {a b : History} (s : Sane (now a)) (l : Laden (now a)) (w : now a .loca
   allowed collect y = goes no-frame (λ t. t) (asks-on _ s l collect tt y)
   allowed (send c) y = goes no-frame (λ t. t) (asks-on _ s l (send c) tt y)
 
-  called : (c : Call) → Due b (call c) → Deed a b (call c) (recorded (ok (call c)) (perform c (now a)) a)
+  called : (c : Call) → ActDue b (call c) → Deed a b (call c) (recorded (ok (call c)) (perform c (now a)) a)
   unfolding recorded perform
   called (ask q) d = requested (λ (o : Outcome Step). Deed a b (call (ask q)) (recorded (ok (call (ask q))) o a)) q (now a) (λ n. refuses) (λ y. allowed q y)
   called (deliver f) d = goes (from d) (λ t. t) (heard (now a) f)
 
-  pub deed : (c : Act) → Due b c → Deed a b c (after c a)
+  pub deed : (c : Act) → ActDue b c → Deed a b c (after c a)
   unfolding after recorded does
   deed (call c) d = called c d
   deed restart d = restarts (usedFor (now a .local)) tt (omega arith) (omega arith)

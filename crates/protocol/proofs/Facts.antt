@@ -30,7 +30,7 @@ pub data Excuse (e : Endpoint) (f : Frame) : Type 0 where
   newer : e .remote < f .sender → Excuse e f
   rejects : f .kind ≡ REJ → f .quoted ≡ e .local → e .remote ≤ f .sender → Excuse e f
   hung-up : f .kind ≡ DR → e .remote ≤ f .sender → Excuse e f
-  ended : f .kind ≡ DRACK → f .quoted ≡ e .local → e .remote ≤ f .sender → e .state ≡ 5 → Excuse e f
+  drack-heard : f .kind ≡ DRACK → f .quoted ≡ e .local → e .remote ≤ f .sender → e .state ≡ 5 → Excuse e f
   alone : e .remote ≡ 0 → Excuse e f
 
 -- How the endpoint e moves on hearing f, within its incarnation.
@@ -157,7 +157,7 @@ lt-found {e} {f} = if-lt (Found e f)
 
 ruleset opening = (refuse-crao, refuse-crpo, refuse-crack, refuse-data, refuse-ack, accept-dr, accept-other, answer, reset, open-crao, open-crpo, call, open-active, open-passive)
 
-ruleset ending = (reject, reject-dr, listen-rej, listen-reset, partner, rejection, finish-dr, finish, newer, rejects, ended)
+ruleset ending = (reject, reject-dr, listen-rej, listen-reset, partner, rejection, finish-dr, finish, newer, rejects, drack-heard)
 
 ruleset talking = (confirm, hand-up, hold, acknowledge, release)
 

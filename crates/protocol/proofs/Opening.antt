@@ -16,7 +16,7 @@ use Rattle.protocol.proofs.Facts.{Laden, none-lengths, load, Move, stay
 use Rattle.protocol.proofs.Facts.{Says, silence, crao, crpo, crack, rej, reset-said, dr, drack, drack-to-other, datum, ack, Fires, fires, Carry, stepTo}
 use Rattle.protocol.proofs.Calls.{Of, Heard, no-frame, from, with-new, event, Deed, refuses, connects, listens, goes, restarts}
 use Rattle.protocol.proofs.Invariant.{Party, EndHolds, Holds, back, agreed, ends-i, ends-j, holds-i, holds-j, said}
-use Rattle.protocol.proofs.Invariant.{Begins, begins-i, begins-j, begun-i, begun-j}
+use Rattle.protocol.proofs.Invariant.{BeginsBy, begins-i, begins-j, begun-i, begun-j}
 use Rattle.protocol.proofs.Invariant.{lostNow, is-lost, restarts-i, restarts-j, restarted-i, restarted-j}
 
 -- the end restarted in its incarnation s, while it named l
@@ -231,7 +231,7 @@ module _ {a b : History} (h : Joint a b) where
   hears-calls (from m) = h .calls-b _ m
 
   -- a new incarnation
-  begins-on : (c : Act) {st by : ℕ} → Begins st by → now a .state ≡ 0 → (by ≡ 1 → c ≡ call (ask connect)) → {n : Notice} {o : Sent}
+  begins-on : (c : Act) {st by : ℕ} → BeginsBy st by → now a .state ≡ 0 → (by ≡ 1 → c ≡ call (ask connect)) → {n : Notice} {o : Sent}
       → Says (begun st (now a)) (control 0 0 0) o → Next a b (event c a (stepTo (begun st (now a)) n o) ∷ a)
   unfolding now sent
   begins-on c {by = by} t z k {o = o} w =

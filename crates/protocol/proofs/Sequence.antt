@@ -19,7 +19,7 @@ use Rattle.protocol.specs.declared.Rule.{Rule}
 use Rattle.protocol.specs.declared.Rule.the-variants.{HandUp, Hold, Acknowledge}
 use Rattle.protocol.specs.Endpoint.{Endpoint, noneHeld, sized}
 use Rattle.protocol.specs.Table.{dataRow, openRows, whenEstablished, rule, Step, heldAt, delivering, apply, step}
-use Rattle.protocol.specs.Requests.{questions, refusal, collected, accept, request}
+use Rattle.protocol.specs.Requests.{requestQuestions, refusal, collected, accept, request}
 use Rattle.protocol.specs.History.{Call, ask, deliver, perform, endpointLeft, call, does, History, now, recorded, after}
 use Rattle.protocol.specs.Sequence.{upOf, comesUp, arrival, AllEight, overtaking, EightComeUp, afterAll, EightHandedUp}
 use Rattle.protocol.specs.Claim.{blockUp, handedUpIn}
@@ -55,7 +55,7 @@ data-rule x n b p =
 
 -- a collect at an open end
 collect-is : (x : Endpoint) → x .state ≡ 4 → perform (ask collect) x ≡ ok (collected x (getD (x .held) 0 []))
-unfolding perform request refusal questions first outcome accept when
+unfolding perform request refusal requestQuestions first outcome accept when
 collect-is x p = rw (eq-eqb (x .state) 4 p) refl
 
 module _ (e : Endpoint) (bs : List Block) (l8 : length bs ≡ 8) (sz : sized bs ≡ true) where
@@ -279,13 +279,13 @@ module _ (e : Endpoint) (bs : List Block) (l8 : length bs ≡ 8) (sz : sized bs 
 
   comes-up : e .state ≡ 4 → e .held ≡ noneHeld → (order : List ℕ) → AllEight order
       → comesUp (map (arrival e bs) order ++ replicate 7 (ask collect)) e ≡ bs
-  comes-up p n order o = a .up ∙ all-collected 7 (a .then-up) (a .then-is) (a .at) (λ i z. a .got i (o .each i z)) (omega (arith, begun))
+  comes-up p n order o = a .up ∙ all-collected 7 (a .then-up) (a .then-is) (a .at) (λ i z. a .got i (o .each i z)) (omega (arith, one-up))
     where
       a : After 0 e order (replicate 7 (ask collect))
       a = all-arrive (starts p n) order (o .only) (replicate 7 (ask collect))
 
-      begun : 1 ≤ a .then-up
-      begun =
+      one-up : 1 ≤ a .then-up
+      one-up =
           by-eq (a .then-up) 0
           (λ z.
           let g = subst (λ (k : ℕ). Got k (a .then-is) 0) z (a .got 0 (o .each 0 (omega arith))) in

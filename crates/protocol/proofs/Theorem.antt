@@ -1,5 +1,5 @@
 -- Demand 3 holds of every list of calls, no number is used twice, and so do the limits.
-use Rattle.protocol.specs.History.{Act, History, after, Due}
+use Rattle.protocol.specs.History.{Act, History, after, ActDue}
 use Rattle.protocol.specs.Endpoint.{Endpoint}
 use Rattle.protocol.specs.World.{Ends, ends}
 use Rattle.protocol.specs.Claim.{NoEndAlone, NoNumberTwice}
@@ -20,10 +20,10 @@ pub record Reached (a b : History) : Type 0 where
   pub numbers-b : Numbers b
 
 -- what an act does at the first of them
-deed-at : {a b : History} → Reached a b → (c : Act) → Due b c → Deed a b c (after c a)
+deed-at : {a b : History} → Reached a b → (c : Act) → ActDue b c → Deed a b c (after c a)
 deed-at h c d = deed (h .joint .ends-a .sane) (h .joint .laden-a) (h .numbers-a .last) c d
 
-pub reach : Invariant Reached Due
+pub reach : Invariant Reached ActDue
 reach =
     record {
       starts = record { joint = fresh-ends; flow = no-flow; numbers-a = no-numbers; numbers-b = no-numbers };
@@ -42,7 +42,7 @@ reach =
 
 -- no end opens without its partner
 pub demand-3 : NoEndAlone ends
-demand-3 = no-end-alone ends reach (itself Reached Due)
+demand-3 = no-end-alone ends reach (itself Reached ActDue)
 
 -- Every endpoint that the list reaches is sound, and what it holds and has sent fits.
 pub record Roomy (a b : History) : Type 0 where

@@ -30,8 +30,8 @@ abbrev early : Block → List Block
 early b = [] ∷ b ∷ [] ∷ [] ∷ [] ∷ [] ∷ [] ∷ [] ∷ []
 
 -- an open endpoint that has accepted n blocks, none of them acknowledged, and handed up none
-abbrev holding : ℕ → List Block → Endpoint
-holding n q = record { state = established; local = 1; remote = 2; accepted = n; delivered = 0; queue = q; held = noneHeld }
+abbrev openHolding : ℕ → List Block → Endpoint
+openHolding n q = record { state = established; local = 1; remote = 2; accepted = n; delivered = 0; queue = q; held = noneHeld }
 
 abbrev block : Block
 block = 7 ∷ []
@@ -47,11 +47,11 @@ edges =
     ∷ edge (at closing 5 3) (deliver (control CRAO 3 5)) (ok (quiet (at closing 5 3) none))
     ∷ edge (at passiveOpening 2 6) (deliver (control RESET 7 2)) (ok (quiet (at listening 2 0) none))
     ∷ edge (at passiveOpening 2 6) (deliver (control RESET 5 2)) (ok (quiet (at passiveOpening 2 6) none))
-    ∷ edge (holding 0 []) (deliver (dataFrame 2 1 1 block)) (ok (says (having 0 (early block)) none (ackFrame 1 2 0)))
+    ∷ edge (openHolding 0 []) (deliver (dataFrame 2 1 1 block)) (ok (says (having 0 (early block)) none (ackFrame 1 2 0)))
     ∷ edge (at closed 65535 0) (ask connect) (ok (says (at activeOpening 65536 0) none (control CRAO 65536 0)))
     ∷ edge (at closed 65536 0) (ask connect) (refused 9)
-    ∷ edge (holding 7 seven) (ask (send block)) (ok (says (holding 8 (block ∷ seven)) none (dataFrame 1 2 7 block)))
-    ∷ edge (holding 8 (block ∷ seven)) (ask (send block)) (refused 10)
+    ∷ edge (openHolding 7 seven) (ask (send block)) (ok (says (openHolding 8 (block ∷ seven)) none (dataFrame 1 2 7 block)))
+    ∷ edge (openHolding 8 (block ∷ seven)) (ask (send block)) (refused 10)
     ∷ []
 
 -- N2's own, in the same form.
@@ -116,7 +116,7 @@ rejections =
     ∷ edge (having 1 (early block)) (deliver (control REJ 2 2)) (ok (quiet (having 1 (early block)) none))
     ∷ edge (at closed 65535 0) (ask listen) (ok (quiet (at listening 65536 0) none))
     ∷ edge (at closed 65536 0) (ask listen) (refused 9)
-    ∷ edge (holding 4294967295 []) (ask (send block)) (refused 9)
+    ∷ edge (openHolding 4294967295 []) (ask (send block)) (refused 9)
     ∷ []
 
 -- what the table says, and what the calls answer

@@ -30,18 +30,18 @@ abbrev pub placeLeft : Endpoint → Question
 placeLeft e = (10, ltb (waiting e) queueSize)
 
 -- the questions of each request, in document 01's order
-unfoldable pub questions : Request → Endpoint → List Question
-questions connect e = stateIs closed e ∷ incarnationLeft e ∷ []
-questions listen e = stateIs closed e ∷ incarnationLeft e ∷ []
-questions endListening e = stateIs listening e ∷ []
-questions close e = stateIsEither activeOpening established e ∷ []
-questions (send b) e = stateIs established e ∷ blockNumberLeft e ∷ placeLeft e ∷ []
-questions timer e = []
-questions collect e = stateIs established e ∷ []
+unfoldable pub requestQuestions : Request → Endpoint → List Question
+requestQuestions connect e = stateIs closed e ∷ incarnationLeft e ∷ []
+requestQuestions listen e = stateIs closed e ∷ incarnationLeft e ∷ []
+requestQuestions endListening e = stateIs listening e ∷ []
+requestQuestions close e = stateIsEither activeOpening established e ∷ []
+requestQuestions (send b) e = stateIs established e ∷ blockNumberLeft e ∷ placeLeft e ∷ []
+requestQuestions timer e = []
+requestQuestions collect e = stateIs established e ∷ []
 
 -- the number of the refusal, 0 where there is none
 unfoldable pub refusal : Request → Endpoint → ℕ
-refusal q e = first (questions q e)
+refusal q e = first (requestQuestions q e)
 
 -- the next incarnation, in state st, with no partner known
 abbrev pub begun : ℕ → Endpoint → Endpoint

@@ -4,7 +4,7 @@ use mathlib.Core.List.{List, [], _∷_}
 use Rattle.octets.specs.Test.{Outcome, ok}
 use Rattle.protocol.specs.Endpoint.{Endpoint, fresh}
 use Rattle.protocol.specs.Table.{Step}
-use Rattle.protocol.specs.History.{endpointLeft, Act, does, History, recorded, Due}
+use Rattle.protocol.specs.History.{endpointLeft, Act, does, History, recorded, ActDue}
 
 -- What an end is.
 pub record Ends : Type 1 where
@@ -83,4 +83,4 @@ endsWhere Fair =
     }
 
 abbrev pub ends : Ends
-ends = endsWhere Due
+ends = endsWhere ActDue

@@ -1,5 +1,5 @@
--- A plan: what a call does to the numbers of a record, what becomes of its waiting blocks and of those held, and what is sent. No public
--- call's contract needs this.
+-- A plan: what a call does to the numbers of a record, what becomes of its waiting blocks and of those held, and what is sent. No entry
+-- point's contract needs this.
 use Prim.Native.Nat.{ℕ, _≤_, _<_, _+_, _-_}
 use mathlib.Core.Path.{_≡_}
 use mathlib.Core.Logic.{_≢_}

@@ -14,7 +14,7 @@ use Rattle.octets.proofs.Test.{eq-yes, eq-no, picks, no, yes, done, all-yes, re
 use Rattle.frame.specs.Frame.{Block, Frame, DR, Request, control, dataFrame, ackFrame, endListening, close, timer, collect, send}
 use Rattle.protocol.specs.Endpoint.{closed, listening, activeOpening, established, closing, Endpoint, waiting}
 use Rattle.protocol.specs.Table.{none, closeFinished, handedUp, Sent, nothing, frame, quiet, says, turned, delivering}
-use Rattle.protocol.specs.Requests.{placeLeft, questions, refusal, hungUp, collected, accept, request, oldest, resent}
+use Rattle.protocol.specs.Requests.{placeLeft, requestQuestions, refusal, hungUp, collected, accept, request, oldest, resent}
 use Rattle.step_plan.specs.Internal.{Oldest}
 
 -- where a number is left
@@ -36,19 +36,19 @@ module _ (a : Endpoint) where
   allowed r e = rw e refl
 
   pub end-listening-8 : a .state ≢ listening → request endListening a ≡ refused 8
-  unfolding request refusal questions
+  unfolding request refusal requestQuestions
   end-listening-8 h = no (accept endListening a) 7 (eqb (a .state) listening) _ (ne-eqb (a .state) listening h)
 
   pub end-listening-0 : a .state ≡ listening → request endListening a ≡ ok (accept endListening a)
-  unfolding request refusal questions
+  unfolding request refusal requestQuestions
   end-listening-0 h = yes (accept endListening a) 8 (eqb (a .state) listening) _ (eq-eqb (a .state) listening h) ∙ done (accept endListening a)
 
   pub close-8 : not (closable a) ≡ true → request close a ≡ refused 8
-  unfolding request refusal questions
+  unfolding request refusal requestQuestions
   close-8 h = no (accept close a) 7 (closable a) _ (not-true (closable a) h)
 
   close-0 : not (closable a) ≡ false → request close a ≡ ok (hungUp a)
-  unfolding request refusal questions accept
+  unfolding request refusal requestQuestions accept
   close-0 h = yes (accept close a) 8 (closable a) _ (not-false (closable a) h) ∙ done (accept close a)
 
   module _ (h : not (closable a) ≡ false) where
@@ -61,11 +61,11 @@ module _ (a : Endpoint) where
     close-heard n = close-0 h ∙ ap ok (eq-no _ _ _ _ n)
 
   pub collect-8 : a .state ≢ established → request collect a ≡ refused 8
-  unfolding request refusal questions
+  unfolding request refusal requestQuestions
   collect-8 h = no (accept collect a) 7 (eqb (a .state) established) _ (ne-eqb (a .state) established h)
 
   collect-0 : a .state ≡ established → request collect a ≡ ok (accept collect a)
-  unfolding request refusal questions
+  unfolding request refusal requestQuestions
   collect-0 h = yes (accept collect a) 8 (eqb (a .state) established) _ (eq-eqb (a .state) established h) ∙ done (accept collect a)
 
   collected-none : (b : Block) → length b ≡ 0 → collected a b ≡ quiet a none
@@ -88,7 +88,7 @@ module _ (a : Endpoint) where
   collect-some h n = collect-0 h ∙ ap ok (collected-some (getD (a .held) 0 []) n)
 
   pub timer-0 : request timer a ≡ ok (accept timer a)
-  unfolding request refusal questions
+  unfolding request refusal requestQuestions
   timer-0 = done (accept timer a)
 
   pub timer-says : (f : Frame) → resent a ≡ frame f → request timer a ≡ ok (says a none f)
@@ -108,12 +108,12 @@ module _ (a : Endpoint) where
 
   module _ (b : Block) where
     pub send-refused : {n : ℕ} → n ≡ first ((8, eqb (a .state) established) ∷ (9, ltb (a .accepted) lastNumber) ∷ []) → n ≢ 0 → request (send b) a ≡ refused n
-    unfolding request refusal questions
+    unfolding request refusal requestQuestions
     send-refused e h = no-before (accept (send b) a) ((8, eqb (a .state) established) ∷ (9, ltb (a .accepted) lastNumber) ∷ []) _ e h
 
     module _ (h : first ((8, eqb (a .state) established) ∷ (9, ltb (a .accepted) lastNumber) ∷ []) ≡ 0) where
       tenth : request (send b) a ≡ outcome (first (placeLeft a ∷ [])) (accept (send b) a)
-      unfolding request refusal questions
+      unfolding request refusal requestQuestions
       tenth = ap (λ (n : ℕ). outcome n (accept (send b) a)) (all-before ((8, eqb (a .state) established) ∷ (9, ltb (a .accepted) lastNumber) ∷ []) _ (tt, (tt, tt)) h)
 
       pub send-10 : queueSize ≤ waiting a → request (send b) a ≡ refused 10

@@ -7,7 +7,7 @@ use lib.Seq.{length-take-le}
 use native.Mathlib.Nat.{min-le-right}
 use denote.Ref.{now}
 use Rattle.octets.proofs.Test.{by-eq, eq-yes, eq-no}
-use Rattle.bench_call.specs.Answer.{blockAt}
+use Rattle.bench_call.specs.Answer.{benchBlockAt}
 use native.Mathlib.Omega.{arith}
 use borrow.Author.Needs.{needs}
 use Rattle.bench_answer.proofs.block_of.Statement.{statement}
@@ -17,18 +17,18 @@ use Rattle.bench_answer.proofs.block_of.Tie as tie
 there : (n : ℕ) (l : List ℕ) → length (take n l) ≡ n → n ≤ length l
 there n l h = omega (arith, length-take n l, min-le-right n (length l))
 
-none : (at : ℕ) (log up : List ℕ) → [] ≡ blockAt at 0 log up
-unfolding blockAt
+none : (at : ℕ) (log up : List ℕ) → [] ≡ benchBlockAt at 0 log up
+unfolding benchBlockAt
 none at log up = by-eq at 0 (λ z. sym (eq-yes at 0 _ _ z)) (λ z. sym (eq-no at 0 _ _ z))
 
 -- where it stands
-collected : (c : tie.Start) → c .args .at ≡ 0 → blockAt (c .args .at) (c .args .n) (now (c .args .log)) (now (c .args .up)) ≡ take (c .args .n) (now (c .args .up))
-unfolding blockAt
+collected : (c : tie.Start) → c .args .at ≡ 0 → benchBlockAt (c .args .at) (c .args .n) (now (c .args .log)) (now (c .args .up)) ≡ take (c .args .n) (now (c .args .up))
+unfolding benchBlockAt
 collected c z = eq-yes _ 0 _ _ z
 
 delivered : (c : tie.Start) → c .args .at ≢ 0
-    → blockAt (c .args .at) (c .args .n) (now (c .args .log)) (now (c .args .up)) ≡ take (c .args .n) (drop (c .args .at) (now (c .args .log)))
-unfolding blockAt
+    → benchBlockAt (c .args .at) (c .args .n) (now (c .args .log)) (now (c .args .up)) ≡ take (c .args .n) (drop (c .args .at) (now (c .args .log)))
+unfolding benchBlockAt
 delivered c z = eq-no _ 0 _ _ z
 
 reaches : (c : tie.Else2) → let a = c .before .before .args in a .at + a .n ≤ length (now (a .log))

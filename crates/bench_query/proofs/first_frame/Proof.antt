@@ -7,7 +7,7 @@ use Rattle.bench_log.specs.Log.{places}
 use Rattle.octets.specs.Test.{when, first}
 use Rattle.call_spec.specs.Claim.{lent}
 use Rattle.bench_spec.specs.Bench.{Bench, benchOf}
-use Rattle.bench_query.specs.Found.{wouldChange, lowest, questions}
+use Rattle.bench_query.specs.Found.{wouldChange, lowest, queryQuestions}
 use Rattle.bench_query.proofs.Delivery.{ready}
 use Rattle.bench_query.proofs.Lowest.{all-left, here, further, none-left, refuses, names}
 use Rattle.bench_query.proofs.first_frame.Statement.{statement}
@@ -25,11 +25,11 @@ abbrev bench : tie.Start Inv-loop μ-loop → Bench
 bench c = benchOf (lent (now (c .args .a)) (now (c .args .a-page))) (lent (now (c .args .b)) (now (c .args .b-page))) (now (c .args .log)) (c .args .count)
 
 -- all is asked of the records, the pages, the log and the count
-asks : (c : tie.After-ready Inv-loop μ-loop) → c .ready .result ≡ first (questions (bench (c .before .before .before .before .before .before)))
+asks : (c : tie.After-ready Inv-loop μ-loop) → c .ready .result ≡ first (queryQuestions (bench (c .before .before .before .before .before .before)))
 unfolding first when
 asks c = c .ready .ensures
 
-passed : (c : tie.Else1 Inv-loop μ-loop) → first (questions (bench (c .before .before .before .before .before .before .before))) ≡ 0
+passed : (c : tie.Else1 Inv-loop μ-loop) → first (queryQuestions (bench (c .before .before .before .before .before .before .before))) ≡ 0
 passed c = sym (asks (c .before)) ∙ c .if1 .left
 
 ready-requires : tie.Need-ready-requires Inv-loop μ-loop

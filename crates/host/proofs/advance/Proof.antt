@@ -58,7 +58,7 @@ use Rattle.endpoint_step.proofs.step as step
 use Rattle.endpoint_step.proofs.step.Symbol as step-def
 use Rattle.endpoint_step.proofs.step.Symbol.{name as #endpoint_step·step}
 use Rattle.endpoint_step.proofs.step.Met as step-thm
-use Rattle.host.proofs.Walk.{of-call, of-end, of-answer, parts, ended}
+use Rattle.host.proofs.Walk.{of-call, of-end, of-answer, parts, endpoint-owned}
 use Rattle.host.proofs.advance.Key.{name as #host·advance}
 use Rattle.host.proofs.advance as advance
 use Rattle.host.proofs.advance.Statement as stated
@@ -162,9 +162,9 @@ module _ {M : Type 1} (𝓤 : URA M) (H : Heap 𝓤) (A : Atoms 𝓤) (W : Given
         peeks ! D.the-row (Is D.the-row) (shows 𝓤 H A D.the-row) r (u ∷ []) (λ is′.
         land ! (from ! (stop !)) (init ! 23 refl (LL.lawful D.the-type D′.the-laws 𝓤 H A W .typed r _ is′ .0)) $
         rewrite ! 23 (λ (w : Val). ‵ (fat fullShare D′.mir l₇ 0 w)) (ap only (LL.tells D.the-type D′.the-laws r (u ∷ []) is′)) refl $ rewrite ! 0 (λ (us : List Val). ‵ (D.the-row .own r us)) (LL.tells D.the-type D′.the-laws r (u ∷ []) is′) refl $
-        assigns ! (of-opd ! (load ! (from ! (fld ! refl (stop !))) (look-in ! 23 (sub ! 1 refl (whole !))))) (from ! (hop ! (look ! 33 refl) (stop !))) (store-raw ! 5 refl (LL.lawful T.the-type T′.the-laws 𝓤 H A W .typed (r .endpoint) _ (ended r u is′) .0)) $
+        assigns ! (of-opd ! (load ! (from ! (fld ! refl (stop !))) (look-in ! 23 (sub ! 1 refl (whole !))))) (from ! (hop ! (look ! 33 refl) (stop !))) (store-raw ! 5 refl (LL.lawful T.the-type T′.the-laws 𝓤 H A W .typed (r .endpoint) _ (endpoint-owned r u is′) .0)) $
         assigns ! (of-opd ! (load ! (from ! (stop !)) (look ! 23 refl))) (from ! (stop !)) (init ! 37 refl (LL.lawful D.the-type D′.the-laws 𝓤 H A W .typed r _ (parts r u is′) .0)) $
-        owned ! T.the-row (Is T.the-row) (LL.makes T.the-type T′.the-plain 𝓤 H A) (r .endpoint) _ (ended r u is′) $
+        owned ! T.the-row (Is T.the-row) (LL.makes T.the-type T′.the-plain 𝓤 H A) (r .endpoint) _ (endpoint-owned r u is′) $
         move ! (6 ∷ 0 ∷ 7 ∷ 8 ∷ 9 ∷ []) $ closes ! tt T.the-row (r .endpoint) (of-end (r .endpoint) ∷ []) b o $
         -- [obs; the borrow; its token; what r owns; the slices' tokens; the last octets of page, of out, of up; _14; …; …; _0; …]
         returns ! (look ! 36 refl) $ forget ! 8 refl $ forget ! 10 refl $ forget ! 12 refl $ forget ! 14 refl $ forget ! 16 refl $ forget ! 18 refl $ forget ! 20 refl $ forget ! 22 refl $ forget ! 24 refl $ forget ! 26 refl $ forget ! 28 refl $ forget ! 30 refl $ forget ! 32 refl $ forget ! 34 refl $ forget ! 36 refl $

@@ -55,7 +55,7 @@ use Rattle.endpoint_step.specs.declared.StepAnswer.{StepAnswer}
 use Rattle.endpoint_step.specs.Calls.{Advances}
 use Rattle.endpoint_step.proofs.StepAnswer as D
 use Rattle.endpoint_step.proofs.StepAnswer.Laws as D′
-use Rattle.host.proofs.Walk.{of-call, of-end, of-answer, parts, ended}
+use Rattle.host.proofs.Walk.{of-call, of-end, of-answer, parts, endpoint-owned}
 use Rattle.host.proofs.advance as advance
 use Rattle.host.proofs.advance.Symbol as advance-def
 use Rattle.host.proofs.advance.Symbol.{name as #host·advance}
@@ -175,7 +175,7 @@ module _ {M : Type 1} (𝓤 : URA M) (H : Heap 𝓤) (A : Atoms 𝓤) (W : Given
         peeks ! D.the-row (Is D.the-row) (shows 𝓤 H A D.the-row) r (u ∷ []) (λ is′.
         land ! (from ! (stop !)) (init ! 20 refl (LL.lawful D.the-type D′.the-laws 𝓤 H A W .typed r _ is′ .0)) $
         rewrite ! 20 (λ (w : Val). ‵ (fat fullShare D′.mir l₈ 0 w)) (ap only (LL.tells D.the-type D′.the-laws r (u ∷ []) is′)) refl $ rewrite ! 0 (λ (us : List Val). ‵ (D.the-row .own r us)) (LL.tells D.the-type D′.the-laws r (u ∷ []) is′) refl $
-        assigns ! (of-opd ! (load ! (from ! (stop !)) (look ! 1 refl))) (from ! (fld ! refl (stop !))) (store-in ! 20 (sub ! 1 refl (whole !)) (LL.lawful T.the-type T′.the-laws 𝓤 H A W .typed (r .endpoint) _ (ended r u is′) .0)) $
+        assigns ! (of-opd ! (load ! (from ! (stop !)) (look ! 1 refl))) (from ! (fld ! refl (stop !))) (store-in ! 20 (sub ! 1 refl (whole !)) (LL.lawful T.the-type T′.the-laws 𝓤 H A W .typed (r .endpoint) _ (endpoint-owned r u is′) .0)) $
         assigns ! (of-opd ! (load ! (from ! (stop !)) (look ! 20 refl))) (from ! (stop !)) (init ! 35 refl (LL.lawful D.the-type D′.the-laws 𝓤 H A W .typed r _ (parts r u is′) .0)) $
         returns ! (look ! 35 refl) $ forget ! 1 refl $ forget ! 6 refl $ forget ! 8 refl $ forget ! 10 refl $ forget ! 12 refl $ forget ! 14 refl $ forget ! 16 refl $ forget ! 18 refl $ forget ! 20 refl $ forget ! 23 refl $ forget ! 25 refl $ forget ! 27 refl $ forget ! 29 refl $ forget ! 31 refl $ forget ! 33 refl $ forget ! 35 refl $
         move ! (35 ∷ 36 ∷ []) $ free1 ! $ move ! (33 ∷ 34 ∷ []) $ free1 ! $ move ! (31 ∷ 32 ∷ []) $ free1 ! $ move ! (29 ∷ 30 ∷ []) $ free1 ! $ move ! (27 ∷ 28 ∷ []) $ free1 ! $

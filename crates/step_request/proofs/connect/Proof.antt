@@ -6,7 +6,7 @@ use Rattle.frame.specs.declared.Header.the-variants.{Crao}
 use Rattle.frame.specs.Answer.{frameOf}
 use Rattle.step_plan.specs.declared.Reply.the-variants.{Frame}
 use Rattle.protocol.specs.Endpoint.{activeOpening}
-use Rattle.protocol.specs.Requests.{questions, refusal, accept}
+use Rattle.protocol.specs.Requests.{requestQuestions, refusal, accept}
 use Rattle.step_rules.specs.Internal.{holding}
 use Rattle.step_plan.specs.Internal.{sentBy}
 use Rattle.step_plan.proofs.Comes.{refuses, begins}
@@ -20,7 +20,7 @@ room : (c : tie.Else1) → c .before .before .before .args .n .local < lastIncar
 room c = left _ (c .before .before .before .args .n .local) lastIncarnation (sym (c .before .refusal-of .ensures) ∙ c .if1 .left)
 
 pub connect-spec : {M : Type 1} → statement M
-unfolding refusal questions accept sentBy frameOf
+unfolding refusal requestQuestions accept sentBy frameOf
 connect-spec =
     tie.close
     (tie.spec (λ c κs. search needs) (λ c κs. search needs)

@@ -3,7 +3,7 @@ use mathlib.Core.Path.{sym, _∙_}
 use Rattle.octets.specs.Sizes.{lastIncarnation}
 use Rattle.frame.specs.Frame.{listen}
 use Rattle.protocol.specs.Endpoint.{listening}
-use Rattle.protocol.specs.Requests.{questions, refusal, accept}
+use Rattle.protocol.specs.Requests.{requestQuestions, refusal, accept}
 use Rattle.step_rules.specs.Internal.{holding}
 use Rattle.step_plan.specs.declared.Reply.the-variants.{Nothing}
 use Rattle.step_plan.specs.Internal.{sentBy}
@@ -17,7 +17,7 @@ room : (c : tie.Else1) → c .before .before .before .args .n .local < lastIncar
 room c = left _ (c .before .before .before .args .n .local) lastIncarnation (sym (c .before .refusal-of .ensures) ∙ c .if1 .left)
 
 pub listen-spec : {M : Type 1} → statement M
-unfolding refusal questions accept sentBy
+unfolding refusal requestQuestions accept sentBy
 listen-spec =
     tie.close
     (tie.spec (λ c κs. search needs) (λ c κs. search needs)
