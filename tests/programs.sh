@@ -31,6 +31,7 @@ done
 for asked in line:41:8001000000000100000000 bench:5041:508001000000000100000000; do
     IFS=: read -r name line answer <<<"$asked"
     program=bin/$name
+    bin/build "$name" || exit 1 # which tells on standard error how far it is
     ends 0 "echo $line | $program" "$answer"
     ends 0 "$program </dev/null"
     ends 0 "coproc $program; echo $line >&\${COPROC[1]}; read -r -t 30 got <&\${COPROC[0]}; echo \$got" "$answer" # before the input ends
