@@ -155,7 +155,7 @@ module _ (rec : List ℕ) (long : recordSize ≤ length rec) (fine : sound (deco
     unfolding endpointAfter recordAfter mapped left put
     kept oc os (refused n) e h = refl
     kept oc os (ok x) e h =
-        let l = leaves end (decode-long rec long) page call os (ready-is ∙ e) in
+        let l = leaves end (decode-long rec long) page call os _ (ready-is ∙ e) in
         sym (lawful .keeps (x .endpoint) _ (l .is-sound) (l .bounded (bounded rec oc long))) ∙ ap (format .holds) h
 
     abbrev made : Outcome Step

@@ -13,6 +13,7 @@ use Rattle.protocol.specs.Endpoint as abstract
 use Rattle.protocol.specs.Endpoint.{lengthsOf}
 use Rattle.protocol.proofs.Sound.{length-at, lengths-length}
 use Rattle.endpoint.specs.declared.Endpoint.{Endpoint}
+pub use Rattle.endpoint.specs.View.{Long}
 use Rattle.endpoint.specs.View.{placesSize, placesOf, pack, tab, placeBlock, view}
 use Rattle.endpoint.proofs.Pad.{put-padded, padded-padded, drop-padded, padded-is}
 
@@ -118,13 +119,6 @@ view-pack a s t h =
     let eq = blocks-are (a .queue) s in
     let eh = rw h at (blocks-are (a .held) t) in
     λ i. record { state = a .state; local = a .local; remote = a .remote; accepted = a .accepted; delivered = a .delivered; queue = eq i; held = eh i }
-
--- the arrays of a struct have their lengths
-pub record Long (e : Endpoint) : Type 0 where
-  pub lengths : length (e .lengths) ≡ queueSize
-  pub blocks : length (e .blocks) ≡ placesSize
-  pub held-lengths : length (e .«held_lengths») ≡ heldSize
-  pub held-blocks : length (e .«held_blocks») ≡ placesSize
 
 -- what soundness says of the lengths and the blocks of eight places, of which w are used
 pub record Tidy (w : ℕ) (l b : List ℕ) : Type 0 where

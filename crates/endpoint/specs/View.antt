@@ -1,5 +1,6 @@
 -- The struct and the endpoint of the step table that it stands for.
 use Prim.Native.Nat.{ℕ, zero, suc, _*_}
+use mathlib.Core.Path.{_≡_}
 use mathlib.Core.List.{List, [], _∷_, _++_}
 use lib.ListN.{length, take, drop, getD}
 use Rattle.octets.specs.Octets.{padded}
@@ -12,6 +13,13 @@ use Rattle.endpoint.specs.declared.Endpoint.{Endpoint}
 -- the octets of eight places: 512
 abbrev pub placesSize : ℕ
 placesSize = queueSize * longestBlock
+
+-- the arrays of a struct have their lengths
+pub record Long (e : Endpoint) : Type 0 where
+  pub lengths : length (e .lengths) ≡ queueSize
+  pub blocks : length (e .blocks) ≡ placesSize
+  pub held-lengths : length (e .«held_lengths») ≡ heldSize
+  pub held-blocks : length (e .«held_blocks») ≡ placesSize
 
 -- the blocks one after the other, each in a place of 64
 unfoldable pub placesOf : List Block → List ℕ

@@ -13,19 +13,19 @@ use Rattle.protocol.specs.Table.{Step}
 use Rattle.protocol.specs.History.{ask, deliver, perform}
 use Rattle.protocol.specs.History as protocol
 use Rattle.protocol.specs.Endpoint as abstract
-use Rattle.protocol.specs.Limits.{Bounded, Readable, LeavesSound, LeavesBounded}
+use Rattle.protocol.specs.Limits.{Readable, LeavesSound, LeavesBounded}
 use Rattle.protocol.proofs.Limits.{call-sound, call-bounded}
 use Rattle.endpoint.specs.declared.Endpoint.{Endpoint}
-use Rattle.endpoint.specs.View.{pack, view}
+use Rattle.endpoint.specs.View.{view}
 use Rattle.endpoint.specs.Sound.{sound}
 use Rattle.call_spec.specs.declared.Call.{Call}
 use Rattle.call_spec.specs.declared.Call.the-variants as call
 use Rattle.call_spec.specs.Calls.{Arguments, InOctets, reads, does, ownQuestions, asked}
 use Rattle.call_spec.proofs.Lift.{read-sized}
-use Rattle.endpoint.proofs.Packs.{Long}
 use Rattle.endpoint.proofs.Sounds.{view-sound}
 use Rattle.endpoint.proofs.Held.{held, pack-sound}
 use Rattle.endpoint_step.specs.Calls.{outcomeOf}
+use Rattle.endpoint_step.specs.Claim.{StructStaysSound}
 use Rattle.endpoint_step.proofs.Ready.{all-passed}
 
 -- the parts of an accepted call
@@ -57,17 +57,10 @@ accepts fine page a c o h =
     let q = performs (c .call) (c .octets) a o (r .1) in
     record { is-sound = all-passed fine (a .local) page c (r .0) .is-fine; call = q .0; readable = q .1; performs = q .2 }
 
--- What an accepted call leaves: a sound endpoint, whose struct is sound and holds it, and where the numbers had 32 bits they have.
-pub record Leaves (a : abstract.Endpoint) (x : Step) : Type 0 where
-  pub is-sound : abstract.sound (x .endpoint) ≡ true
-  pub record-sound : sound (pack (x .endpoint)) ≡ true
-  pub holds : view (pack (x .endpoint)) ≡ x .endpoint
-  pub bounded : Bounded a → Bounded (x .endpoint)
-
-pub leaves : (e : Endpoint) → Long e → (page : List ℕ) (c : Arguments) → InOctets (c .call) (c .octets) → {x : Step}
-    → outcomeOf e page c ≡ ok x → Leaves (view e) x
+-- what it leaves
+pub leaves : StructStaysSound
 unfolding outcomeOf
-leaves e long page c o h =
+leaves e long page c o x h =
     let a = accepts (sound e) page (view e) c o h in
     let v = view-sound e (a .is-sound) long in
     let s = subst LeavesSound (a .performs) (call-sound (a .call) (view e) v (a .readable)) in
