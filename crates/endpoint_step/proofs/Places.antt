@@ -1,6 +1,7 @@
 -- Places of octets after a plan: what moves to the front, and that there is room.
 use Prim.Native.Nat.{ℕ, suc, _+_, _-_, _*_, _≤_, _<_}
 use mathlib.Core.Path.{_≡_, refl, sym, ap, _∙_}
+use mathlib.Core.Bool.{true, false}
 use mathlib.Core.List.{List, [], _∷_, _++_, append-nil}
 use native.Mathlib.Nat.{suc-mul, add-mul, add-comm, mul-le-mul-right}
 use native.Mathlib.Omega.{arith}
@@ -110,3 +111,7 @@ module _ (b : Block) (short : length b ≤ longestBlock) where
   for-blocks (Join i) r d e = omega (arith, r)
   for-blocks (Release k) r d e = omega (arith, r)
   for-blocks Clear r d e = tt
+
+-- a test that answers no has not answered yes
+pub no-yes : false ≡ true → ⊥
+no-yes e = let z : _≡_ {A = ℕ} 0 1 = cc in omega arith

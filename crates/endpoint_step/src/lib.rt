@@ -18,7 +18,7 @@ ghost use Rattle.page.specs.Page.{reserving};
 ghost use Rattle.call_spec.specs.declared.Call.the-variants.{Request};
 ghost use Rattle.frame.specs.Layout.{sendBlockAt, dataBlockAt};
 ghost use Rattle.call_spec.specs.Calls.{given, rooms, does, blockRoomOk, restarting};
-ghost use Rattle.step_plan.specs.declared.Places.the-variants.{Clear};
+ghost use Rattle.step_plan.specs.declared.Places.the-variants.{Keep, Clear};
 ghost use Rattle.step_plan.specs.Internal.{blockBy, blockOut, sentBy, Planned, Sends};
 ghost use Rattle.endpoint.specs.View.{placesSize, placeBlock};
 ghost use Rattle.endpoint.specs.Internal.{recordOf};
@@ -138,10 +138,25 @@ pub fn clear(d: &mut [u8])
     }
 }
 
-// Is every place written afresh, of the blocks that wait and of those held?
-pub fn clears(queue: Places, held: Places) -> bool
+// Does every place stay, of the blocks that wait and of those held?
+pub fn keeps(queue: Places, held: Places) -> bool
+    ensures { λ r. ⌜ (r ≡ true → (queue ≡ Keep) × (held ≡ Keep)) ⌝ }
+{
+    if let Places::Keep = queue {
+        if let Places::Keep = held {
+            return true;
+        }
+    }
+    false
+}
+
+// Is every place written afresh, in a plan that leaves this state? An open end's never are: asked first, that spares its calls the rest.
+pub fn clears(state: u8, queue: Places, held: Places) -> bool
     ensures { λ r. ⌜ (r ≡ true → (queue ≡ Clear) × (held ≡ Clear)) ⌝ }
 {
+    if state == step_rules::ESTABLISHED {
+        return false;
+    }
     if let Places::Clear = queue {
         if let Places::Clear = held {
             return true;

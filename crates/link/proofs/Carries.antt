@@ -3,7 +3,7 @@ use Prim.Native.Nat.{ℕ, _+_, _-_, _≤_}
 use mathlib.Core.Path.{_≡_, refl, sym, ap, _∙_}
 use mathlib.Core.List.{List, [], _∷_, _++_, append-assoc}
 use native.Mathlib.Omega.{arith}
-use lib.ListN.{length, take, drop, replicate, length-append, length-drop, length-replicate, replicate-append-replicate}
+use lib.ListN.{length, take, drop, replicate, length-append, length-drop, length-replicate, take-append-drop}
 use lib.Seq.{drop-at, drop-drop, length-take-le}
 use Rattle.octets.specs.Sizes.{longestBlock, queueSize, heldSize}
 use Rattle.endpoint.specs.View.{placesSize}
@@ -12,7 +12,7 @@ use Rattle.octets.proofs.Octets.{length-put, then-put}
 use Rattle.frame.specs.Frame.{Block}
 use Rattle.step_plan.specs.declared.Plan.{Plan}
 use Rattle.step_plan.specs.declared.Places.{Places}
-use Rattle.step_plan.specs.declared.Places.the-variants.{Clear}
+use Rattle.step_plan.specs.declared.Places.the-variants.{Keep, Clear}
 use Rattle.endpoint.specs.declared.Endpoint.{Endpoint}
 use Rattle.endpoint.specs.Record.{encode, decode, lengthsAt, blocksAt, heldLengthsAt, heldBlocksAt, recordSize}
 use Rattle.endpoint.specs.Internal.{recordOf, numbersIn}
@@ -137,6 +137,27 @@ module _ (rec : List ℕ) (p : Plan) (b y : Block) (long : recordSize ≤ length
       encode-puts (p .numbers) l c hl hc rec (record { lengths = l8; blocks = c512; held-lengths = hl8; held-blocks = hc512 }) long ex
       (lent x l lengthsAt queueSize l8) (lent (x1 x l c hl) c blocksAt placesSize c512) (lent (x2 x l c hl) hl heldLengthsAt heldSize hl8) (lent (x3 x l c hl) hc heldBlocksAt placesSize hc512)
       ∙ ap (λ (e : Endpoint). put rec 0 (encode e)) new
+
+-- Where every place stays, it is as though each array had been lent and had come back as it was.
+lent-same : (x : List ℕ) (at n : ℕ) → x ≡ back x at n (take n (drop at x))
+lent-same x at n = sym (rw (take-append-drop n (drop at x)) (take-append-drop at x))
+
+kept-same : {k : Places} (w : ℕ) (s d : List ℕ) → k ≡ Keep → d ≡ placesAfter k w s d
+unfolding placesAfter
+kept-same w s d e = rw e refl
+
+pub kept : (rec : List ℕ) (p : Plan) (b y : Block) → recordSize ≤ length rec → p .queue ≡ Keep → p .held ≡ Keep → Fits p b y
+    → {x : List ℕ} → x ≡ put rec 0 (numbersIn (p .numbers)) → x ≡ put rec 0 (encode (carried p b y (decode rec)))
+kept rec p b y long q h fits {x} ex =
+    let l : List ℕ = take queueSize (drop lengthsAt x) in
+    let y1 : List ℕ = back x lengthsAt queueSize l in
+    let c : List ℕ = take placesSize (drop blocksAt y1) in
+    let y2 : List ℕ = back y1 blocksAt placesSize c in
+    let hl : List ℕ = take heldSize (drop heldLengthsAt y2) in
+    let y3 : List ℕ = back y2 heldLengthsAt heldSize hl in
+    let hc : List ℕ = take placesSize (drop heldBlocksAt y3) in
+    lent-same x lengthsAt queueSize ∙ lent-same y1 blocksAt placesSize ∙ lent-same y2 heldLengthsAt heldSize ∙ lent-same y3 heldBlocksAt placesSize
+    ∙ carried-out rec p b y long {x = x} {l = l} {c = c} {hl = hl} {hc = hc} ex (kept-same 1 (length b ∷ []) l q) (kept-same longestBlock b c q) (kept-same 1 (length y ∷ []) hl h) (kept-same longestBlock y hc h) fits
 
 -- Where every place is written afresh, the arrays are one run of zeros.
 abbrev runSize : ℕ

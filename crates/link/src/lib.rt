@@ -205,7 +205,7 @@ pub fn reserve(p: Plan, page: &mut [u8])
 }
 
 // Changes the record where it lies: its numbers, and of the lengths and blocks what the plan says; joined is the block that joins those
-// that wait, early the one that joins those held. Where every place is written afresh, they are one run of octets.
+// that wait, early the one that joins those held. Places that all stay are passed over, and those that are all written afresh are one run of octets.
 fn store<'a>(p: Plan, joined: &'a [u8], early: &'a [u8], rec: &mut [u8])
     requires { ⌜ (recordSize ≤ length (now rec)) × PlanFits p (now joined) (now early) ⌝ }
     ensures { λ _. ⌜ now (rec .exit) ≡ put (now (rec .entry)) 0 (encode (carried p (now (joined .entry)) (now (early .entry)) (decode (now (rec .entry))))) ⌝ }
@@ -214,7 +214,10 @@ fn store<'a>(p: Plan, joined: &'a [u8], early: &'a [u8], rec: &mut [u8])
     endpoint::store_numbers(n, rec);
     let queue = p.queue;
     let held = p.held;
-    if endpoint_step::clears(queue, held) {
+    if endpoint_step::keeps(queue, held) {
+        return;
+    }
+    if endpoint_step::clears(n.state, queue, held) {
         endpoint_step::clear(&mut rec[LENGTHS_AT..RECORD_SIZE]);
         return;
     }
