@@ -59,6 +59,10 @@ module _ (b : Block) (k : Places) (f : InEight k × (length b ≤ longestBlock))
       let d = length-take-le placesSize (drop at x) (rw length-drop (omega arith)) in
       ap length e ∙ length-after k longestBlock b (take placesSize (drop at x)) (for-blocks b (f .1) k (f .0) _ d) ∙ d
 
+-- a record has as many octets once its numbers are stored
+as-many : (rec : List ℕ) (p : Plan) → recordSize ≤ length rec → {x : List ℕ} → x ≡ put rec 0 (numbersIn (p .numbers)) → length x ≡ length rec
+as-many rec p long ex = ap length ex ∙ length-put rec (numbersIn (p .numbers)) 0 (omega (arith, numbers-long (p .numbers)))
+
 -- the record while its four arrays are lent, one after the other
 module _ (x l c hl : List ℕ) where
   abbrev x1 : List ℕ
@@ -76,7 +80,7 @@ module _ (rec : List ℕ) (p : Plan) (b y : Block) (long : recordSize ≤ length
     (ehl : hl ≡ lengthsAfter (p .held) y (take heldSize (drop heldLengthsAt (x2 x l c hl))))
     (ehc : hc ≡ blocksAfter (p .held) y (take placesSize (drop heldBlocksAt (x3 x l c hl)))) (fits : PlanFits p b y) where
   length-x : length x ≡ length rec
-  length-x = ap length ex ∙ length-put rec (numbersIn (p .numbers)) 0 (omega (arith, numbers-long (p .numbers)))
+  length-x = as-many rec p long ex
 
   same-x : drop lengthsAt x ≡ drop lengthsAt rec
   same-x = ap (drop lengthsAt) ex ∙ after-put rec (numbersIn (p .numbers)) 0 lengthsAt (omega (arith, numbers-long (p .numbers))) (omega arith)
@@ -180,7 +184,7 @@ module _ (rec : List ℕ) (p : Plan) (b y : Block) (long : recordSize ≤ length
       → back x lengthsAt runSize z ≡ put rec 0 (encode (carried p b y (decode rec)))
   cleared {x} {z} ex ez =
       let n = p .numbers in
-      let l : length x ≡ length rec = ap length ex ∙ length-put rec (numbersIn n) 0 (omega (arith, numbers-long n)) in
+      let l : length x ≡ length rec = as-many rec p long ex in
       let e : z ≡ replicate runSize 0 = ez ∙ zeros x lengthsAt runSize (omega arith) in
       then-put rec (numbersIn n) z lengthsAt (numbers-long n) (omega arith) ex (lent x z lengthsAt runSize (ap length e ∙ length-replicate {A = ℕ} runSize 0))
       ∙ ap (put rec 0) (ap (λ (s : List ℕ). numbersIn n ++ s) e ∙ sym all-zeros)
