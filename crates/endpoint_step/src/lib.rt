@@ -138,7 +138,7 @@ pub fn clear(d: &mut [u8])
     }
 }
 
-// Does every place stay, of the blocks that wait and of those held?
+// Does every place stay, of the blocks that wait and of those held? A yes spares the caller to look at each; a no is always right.
 pub fn keeps(queue: Places, held: Places) -> bool
     ensures { λ r. ⌜ (r ≡ true → (queue ≡ Keep) × (held ≡ Keep)) ⌝ }
 {
@@ -150,7 +150,8 @@ pub fn keeps(queue: Places, held: Places) -> bool
     false
 }
 
-// Is every place written afresh, in a plan that leaves this state? An open end's never are: asked first, that spares its calls the rest.
+// Is every place written afresh, in a plan that leaves this state? A no is always right. No place of an end that stays open is: asked first,
+// that spares its calls the rest.
 pub fn clears(state: u8, queue: Places, held: Places) -> bool
     ensures { λ r. ⌜ (r ≡ true → (queue ≡ Clear) × (held ≡ Clear)) ⌝ }
 {

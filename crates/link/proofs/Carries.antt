@@ -150,7 +150,7 @@ kept-same : {k : Places} (w : ℕ) (s d : List ℕ) → k ≡ Keep → d ≡ pla
 unfolding placesAfter
 kept-same w s d e = rw e refl
 
-pub kept : (rec : List ℕ) (p : Plan) (b y : Block) → recordSize ≤ length rec → p .queue ≡ Keep → p .held ≡ Keep → Fits p b y
+pub kept : (rec : List ℕ) (p : Plan) (b y : Block) → recordSize ≤ length rec → p .queue ≡ Keep → p .held ≡ Keep → PlanFits p b y
     → {x : List ℕ} → x ≡ put rec 0 (numbersIn (p .numbers)) → x ≡ put rec 0 (encode (carried p b y (decode rec)))
 kept rec p b y long q h fits {x} ex =
     let l : List ℕ = take queueSize (drop lengthsAt x) in

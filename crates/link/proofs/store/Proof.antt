@@ -35,18 +35,18 @@ change-places-requires-4 : tie.Need-change-places-requires-4
 change-places-requires-4 c κs = let s : tie.Start = search in for-blocks (now (s .args .early)) (s .pre .1 .1 .1) (s .args .p .held) (s .pre .1 .1 .0) _ (search needs)
 
 -- the last return is too far from the start for one search
-begun : (c : tie.After-change-places) → tie.Start × tie.After-store-numbers
-begun c = (search, search)
+starts : (c : tie.After-change-places) → tie.Start × tie.After-store-numbers
+starts c = (search, search)
 
 returns-3 : tie.Need-returns-3
-unfolding begun
+unfolding starts
 returns-3 c =
     let f : tie.After-change-places4 = search in
     let e : tie.After-change-places3 = search in
     let b : tie.After-change-places2 = search in
     let a : tie.After-change-places = search in
-    let s = begun a .0 in
-    let n = begun a .1 in
+    let s = starts a .0 in
+    let n = starts a .1 in
     carried-out (now (s .args .rec)) (s .args .p) (now (s .args .joined)) (now (s .args .early)) (s .pre .0) (n .store-numbers .ensures)
     (a .change-places .ensures) (b .change-places2 .ensures) (e .change-places3 .ensures) (f .change-places4 .ensures) (s .pre .1)
 
