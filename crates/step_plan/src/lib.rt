@@ -28,7 +28,7 @@ pub const CLOSE_FINISHED: u8 = 4;
 pub const HANDED_UP: u8 = 5;
 
 // What becomes of places for blocks: they stay; all are written afresh; a block joins at this place; so many of the first leave, and the others
-// move down. (In this order a call takes the machine 3 to 9 instructions fewer.)
+// move down. (In this order a call takes the machine fewer instructions.)
 pub enum Places {
     Keep,
     Clear,
