@@ -12,7 +12,7 @@ use Rattle.octets.specs.Octets.{field}
 use Rattle.octets.proofs.Test.{if-eq, both, accepted, all-yes, passing}
 use Rattle.hex.specs.Line.{unhex}
 use Rattle.frame.specs.Read.{kindOf}
-use Rattle.protocol.specs.World.{Entry, Two, DueAt}
+use Rattle.protocol.specs.World.{DueAt}
 use Rattle.call_spec.specs.declared.Call.the-variants.{Request, Receive}
 use Rattle.call_spec.specs.Calls.{Rooms, given}
 use Rattle.call_spec.specs.Claim.{Lent, LentAct, call, restart, cut}
@@ -20,7 +20,7 @@ use Rattle.link.specs.Record.{ends}
 use Rattle.bench_log.specs.Log.{logSize}
 use Rattle.bench_log.proofs.Log.{held}
 use Rattle.bench_spec.specs.Bench.{Bench, lentAt, At, delivery, restartAsk, octetsAsk, lineAsks, requestOfA, requestOfB, deliver, restartKind, endNamed}
-use Rattle.bench_spec.specs.Run.{entry}
+use Rattle.bench_spec.specs.Run.{RunEnds, RunEntry, entry}
 use Rattle.bench_spec.proofs.Logged.{SentBy, Logged}
 
 -- a line restarts an end with the record that it finds
@@ -30,25 +30,25 @@ FromLine r (restart rec) = rec ≡ r .rec
 FromLine r (cut c rec) = ⊥
 
 -- a call at A or B that is due
-abbrev pub Fair : Two ends → At → Type 0
-Fair e x = (x .0 ≤ 1) × DueAt ends (entry x) e
+abbrev pub Fair : RunEnds → At → Type 0
+Fair e x = (x .0 ≤ 1) × DueAt ends ends (entry x) e
 
 -- a request, at an end
-asks-fair : (e : Two ends) (i : ℕ) (s : List ℕ) (room : Rooms) → i ≤ 1 → Fair e (i, call (given Request s room))
+asks-fair : (e : RunEnds) (i : ℕ) (s : List ℕ) (room : Rooms) → i ≤ 1 → Fair e (i, call (given Request s room))
 unfolding entry
-asks-fair e i s room h = (h, if-eq (λ (x : Entry LentAct). DueAt ends x e) i 0 (λ _. tt) (λ _. tt))
+asks-fair e i s room h = (h, if-eq (λ (x : RunEntry). DueAt ends ends x e) i 0 (λ _. tt) (λ _. tt))
 
 -- a delivery to an end, of a frame that the other has sent
-gives-fair : (e : Two ends) (j : ℕ) (s : List ℕ) (room : Rooms) {i n : ℕ} → SentBy e i n s → j ≤ 1 → (j ≡ 0 → i ≡ 1) → (j ≢ 0 → i ≡ 0) → Fair e (j, call (given Receive s room))
+gives-fair : (e : RunEnds) (j : ℕ) (s : List ℕ) (room : Rooms) {i n : ℕ} → SentBy e i n s → j ≤ 1 → (j ≡ 0 → i ≡ 1) → (j ≢ 0 → i ≡ 0) → Fair e (j, call (given Receive s room))
 unfolding entry
-gives-fair e j s room x l h g = (l, if-eq (λ (y : Entry LentAct). DueAt ends y e) j 0 (λ k. x .by-b (h k)) (λ k. x .by-a (g k)))
+gives-fair e j s room x l h g = (l, if-eq (λ (y : RunEntry). DueAt ends ends y e) j 0 (λ k. x .by-b (h k)) (λ k. x .by-a (g k)))
 
 -- a restart of an end
-restart-fair : (e : Two ends) (i : ℕ) (rec : List ℕ) → i ≤ 1 → Fair e (i, restart rec)
+restart-fair : (e : RunEnds) (i : ℕ) (rec : List ℕ) → i ≤ 1 → Fair e (i, restart rec)
 unfolding entry
-restart-fair e i rec h = (h, if-eq (λ (x : Entry LentAct). DueAt ends x e) i 0 (λ _. tt) (λ _. tt))
+restart-fair e i rec h = (h, if-eq (λ (x : RunEntry). DueAt ends ends x e) i 0 (λ _. tt) (λ _. tt))
 
-module _ (w : Bench) (e : Two ends) (h : Logged e (w .count) (w .log)) where
+module _ (w : Bench) (e : RunEnds) (h : Logged e (w .count) (w .log)) where
   abbrev Good : At → Type 0
   Good x = Fair e x × FromLine (lentAt (x .0) w) (x .1)
 

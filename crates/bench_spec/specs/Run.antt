@@ -25,18 +25,25 @@ unfoldable pub linesAfter : Bench → List LentLine → Bench
 linesAfter w [] = w
 linesAfter w (l ∷ ls) = linesAfter (lineAfter w l) ls
 
--- a call at an end, as an entry of a list of calls
-unfoldable pub entry : At → Entry LentAct
+-- the two ends of a run, and an entry of its list of calls
+abbrev pub RunEnds : Type 0
+RunEnds = Two ends ends
+
+abbrev pub RunEntry : Type 0
+RunEntry = Entry LentAct LentAct
+
+-- a call at an end, as such an entry
+unfoldable pub entry : At → RunEntry
 entry x = ifEq (x .0) 0 (atA (x .1)) (atB (x .1))
 
 -- the call that a line makes; a refused line makes none
-unfoldable pub entriesOf : Outcome At → Outcome Step → List (Entry LentAct)
+unfoldable pub entriesOf : Outcome At → Outcome Step → List RunEntry
 entriesOf (refused n) o = []
 entriesOf (ok x) (refused n) = []
 entriesOf (ok x) (ok y) = entry x ∷ []
 
 -- the calls that the lines of a run make
-unfoldable pub callsOf : Bench → List LentLine → List (Entry LentAct)
+unfoldable pub callsOf : Bench → List LentLine → List RunEntry
 callsOf w [] = []
 callsOf w (l ∷ ls) = let q = lineAsks w (l .0) (l .1) in entriesOf q (comes w q) ++ callsOf (lineAfter w l) ls
 
@@ -45,7 +52,7 @@ abbrev pub newLent : Lent → Lent
 newLent p = lent (format .octets fresh ++ p .rec) (newPage ++ p .page)
 
 -- two of them
-abbrev pub newEnds : Lent → Lent → Two ends
+abbrev pub newEnds : Lent → Lent → RunEnds
 newEnds p q = record { a = record { rec = newLent p; history = [] }; b = record { rec = newLent q; history = [] } }
 
 -- They and an empty log, whatever stands in the log's places.
@@ -54,9 +61,9 @@ newBench p q log = record { a = newLent p; b = newLent q; log = log; count = 0 }
 
 -- A run is such a list of calls, it leaves the records and pages that the list leaves, demand 3 holds of it, and no number is used twice.
 pub record Holds (p q : Lent) (log : List ℕ) (lines : List LentLine) : Type 0 where
-  pub due : AllDue ends (newEnds p q) (callsOf (newBench p q log) lines)
-  pub end-a : linesAfter (newBench p q log) lines .a ≡ run ends (newEnds p q) (callsOf (newBench p q log) lines) .a .rec
-  pub end-b : linesAfter (newBench p q log) lines .b ≡ run ends (newEnds p q) (callsOf (newBench p q log) lines) .b .rec
-  pub demand : Demand ends (newEnds p q) (callsOf (newBench p q log) lines)
-  pub once-a : NeverTwice (run ends (newEnds p q) (callsOf (newBench p q log) lines) .a .history)
-  pub once-b : NeverTwice (run ends (newEnds p q) (callsOf (newBench p q log) lines) .b .history)
+  pub due : AllDue ends ends (newEnds p q) (callsOf (newBench p q log) lines)
+  pub end-a : linesAfter (newBench p q log) lines .a ≡ run ends ends (newEnds p q) (callsOf (newBench p q log) lines) .a .rec
+  pub end-b : linesAfter (newBench p q log) lines .b ≡ run ends ends (newEnds p q) (callsOf (newBench p q log) lines) .b .rec
+  pub demand : Demand ends ends (newEnds p q) (callsOf (newBench p q log) lines)
+  pub once-a : NeverTwice (run ends ends (newEnds p q) (callsOf (newBench p q log) lines) .a .history)
+  pub once-b : NeverTwice (run ends ends (newEnds p q) (callsOf (newBench p q log) lines) .b .history)

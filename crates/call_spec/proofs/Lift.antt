@@ -246,21 +246,21 @@ lies format law =
       fair = λ a b i r k. fair format law i r k;
       comes = λ a b i r k c. inl (comes format law i r k c);
       refuses = refuses format law;
-      accepts = λ a b g i j r k. accepts format law i r k g j;
+      accepts = λ a b g i j r k c q s. accepts format law i r k g j c;
     }
 
 -- no end opens without its partner
-pub demand-3 : (format : Format) → Lawful format → NoEndAlone (ends format)
-demand-3 format law = no-end-alone (ends format) roomy (lies format law)
+pub demand-3 : (format : Format) → Lawful format → NoEndAlone (ends format) (ends format)
+demand-3 format law = no-end-alone (ends format) (ends format) roomy (lies format law) (lies format law)
 
 -- no number is used twice
-pub no-number-twice : (format : Format) → Lawful format → NoNumberTwice (ends format)
-no-number-twice format law = protocol-theorem.no-number-twice (ends format) (lies format law)
+pub no-number-twice : (format : Format) → Lawful format → NoNumberTwice (ends format) (ends format)
+no-number-twice format law = protocol-theorem.no-number-twice (ends format) (ends format) (lies format law) (lies format law)
 
 -- 12 and 15 refuse nothing
 pub never-refused : (format : Format) → Lawful format → NeverRefused format
 never-refused format law start f calls d =
-    let k = kept (ends format) roomy (lies format law) start f calls d in (
+    let k = kept (ends format) (ends format) roomy (lies format law) (lies format law) start f calls d in (
       passes-both format law (list-holding (k .both) (k .this .0) (k .this .1)),
       passes-both format law (list-holding (roomy .turns _ _ (k .both)) (k .other .0) (k .other .1)),
     )

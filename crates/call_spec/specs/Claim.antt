@@ -95,8 +95,8 @@ module _ (format : Format) where
 
   abbrev pub NeverRefused : Type 0
   NeverRefused =
-      (start : Two ends) → BothNew ends start → (calls : List (Entry LentAct)) → AllDue ends start calls
-      → Passes (run ends start calls .a .rec) × Passes (run ends start calls .b .rec)
+      (start : Two ends ends) → BothNew ends ends start → (calls : List (Entry LentAct LentAct)) → AllDue ends ends start calls
+      → Passes (run ends ends start calls .a .rec) × Passes (run ends ends start calls .b .rec)
 
 -- What a format keeps of an endpoint that is sound and has numbers of 32 bits, in a buffer that may be longer.
 pub record Lawful (format : Format) : Type 0 where

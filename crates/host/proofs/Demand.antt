@@ -126,10 +126,11 @@ module _ {a b : History} (i : Roomy a b) (r : Held) (k : Packs r (now a)) where
       let t = comes format lawful i octets lying (onOctets c) in
       (t .0, same-comes c ∙ t .1 ∙ ap (λ (s : Outcome protocol.Act). asking (t .0) s (now a)) (sym (same-said c)))
 
-  accepts : (g : History) → Roomy g b → (c : HostAct) (x : Step) → ends .comes r c ≡ ok x → now g ≡ x .endpoint → Packs (ends .leaves r c (ok x)) (now g)
+  accepts : (g : History) → Roomy g b → (c : HostAct) (q : protocol.Act) → ends .said r c ≡ ok q
+      → (x : Step) → ends .comes r c ≡ ok x → now g ≡ x .endpoint → Packs (ends .leaves r c (ok x)) (now g)
   unfolding stepAnswerOf
-  accepts g j c x h e =
-      let p = lies format lawful .accepts a b g i j octets lying (onOctets c) x (sym (same-comes c) ∙ h) e .1 in
+  accepts g j c q s x h e =
+      let p = lies format lawful .accepts a b g i j octets lying (onOctets c) q (sym (same-said c) ∙ s) x (sym (same-comes c) ∙ h) e .1 in
       (ap pack (sym e), (p .0, same-page c x ∙ p .1))
 
 -- a refusal leaves both
@@ -150,9 +151,9 @@ packs =
     }
 
 -- no host's end opens without its partner
-pub no-host-alone : NoEndAlone ends
-no-host-alone = no-end-alone ends roomy packs
+pub no-host-alone : NoEndAlone ends ends
+no-host-alone = no-end-alone ends ends roomy packs packs
 
 -- nor uses a number twice
-pub no-number-twice : NoNumberTwice ends
-no-number-twice = protocol-theorem.no-number-twice ends packs
+pub no-number-twice : NoNumberTwice ends ends
+no-number-twice = protocol-theorem.no-number-twice ends ends packs packs

@@ -1,8 +1,9 @@
 -- No end that is asked by lines opens without its partner, and none uses a number twice.
 use Prim.Native.Nat.{ℕ, zero, suc}
-use mathlib.Core.Path.{_≡_, refl, sym, ap, subst, _∙_}
+use mathlib.Core.Path.{_≡_, refl, sym, subst}
 use mathlib.Core.Logic.{_⊎_, inl, inr}
 use mathlib.Core.List.{List, [], _∷_}
+use native.Mathlib.Omega.{arith}
 use Rattle.octets.specs.Test.{first, Outcome, ok, refusing, andThen}
 use Rattle.octets.proofs.Test.{passing}
 use Rattle.hex.specs.Line.{unhex, lineQuestions}
@@ -17,16 +18,13 @@ use Rattle.protocol.proofs.World.{asking, Asks, Idle, Simulates, no-end-alone}
 use Rattle.protocol.proofs.Theorem.{Roomy, roomy}
 use Rattle.protocol.proofs.Theorem as protocol
 use Rattle.call_spec.specs.Claim.{Lent, call}
-use Rattle.call_spec.proofs.Holding.{keeps}
 use Rattle.call_spec.proofs.Lift.{LiesIn, list-holding, asks, lies}
 use Rattle.link.specs.Record.{format, recordQuestions}
 use Rattle.link.specs.Record as link
-use Rattle.link.specs.Lent.{stands, lentAfter}
-use Rattle.link.proofs.Stays.{is-ready}
+use Rattle.link.specs.Lent.{lentAfter}
 use Rattle.link.proofs.Demand.{lawful}
 use Rattle.line_answer.specs.Line.{lineCall, readyOutcome, lineOutcome}
 use Rattle.line_answer.specs.Claim.{saidIn, ends, NoTrace}
-use Rattle.line_answer.proofs.Lines.{asks-standing}
 use Rattle.line_answer.proofs.Runs.{stays-put}
 
 -- how an end stands leaves no trace in the history
@@ -61,17 +59,14 @@ module _ (a b : History) (i : Roomy a b) (r : Lent) (k : LiesIn format r (now a)
       let s = asks format lawful a b i r k x in
       inl (rw (s .1) (through (first (recordQuestions (r .rec) (r .page))) (first (lineQuestions (c ∷ line))) (s .0) (link.ends .said r (call x)) (now a)))
 
-  -- an accepted line leaves what its call leaves
-  accepts : (g : History) → Roomy g b → (line : List ℕ) (x : Step) → ends .comes r line ≡ ok x → now g ≡ x .endpoint → LiesIn format (lentAfter r (ok x)) (now g)
-  unfolding lineOutcome readyOutcome
-  accepts g j [] x h e =
-      let y = list-holding i (k .0) (k .1) in
-      let z : ok (stands (r .rec)) ≡ ok x = sym (asks-standing (r .rec) (r .page) [] (is-ready y) refl) ∙ h in
-      let w : x .endpoint ≡ now a = let f : stands (r .rec) ≡ x = cc in sym (ap (λ (s : Step). s .endpoint) f) ∙ keeps format lawful y in
-      rw (e ∙ w) (rw h at standing)
-  accepts g j (c ∷ line) x h e =
+  -- an accepted line that says a call leaves what the call leaves
+  accepts : (g : History) → Roomy g b → (line : List ℕ) (q : Act) → saidIn line ≡ ok q
+      → (x : Step) → ends .comes r line ≡ ok x → now g ≡ x .endpoint → LiesIn format (lentAfter r (ok x)) (now g)
+  unfolding lineOutcome readyOutcome saidIn
+  accepts g j [] q s x h e = absurd (let z : _≡_ {A = ℕ} 0 1 = cc (idle .none) in omega arith)
+  accepts g j (c ∷ line) q s x h e =
       let p = passing (first (lineQuestions (c ∷ line))) (passing (first (recordQuestions (r .rec) (r .page))) h .1) in
-      calls .accepts a b g i j r k (call (lineCall (unhex (c ∷ line)))) x (p .1) e
+      calls .accepts a b g i j r k (call (lineCall (unhex (c ∷ line)))) q (passing (first (lineQuestions (c ∷ line))) s .1) x (p .1) e
 
 lines : Simulates ends Roomy Sized (LiesIn format)
 unfolding saidIn
@@ -85,9 +80,9 @@ lines =
     }
 
 -- whatever lines come at two fresh ends, in whatever order
-pub no-line-alone : NoEndAlone ends
-no-line-alone = no-end-alone ends roomy lines
+pub no-line-alone : NoEndAlone ends ends
+no-line-alone = no-end-alone ends ends roomy lines lines
 
 -- no number is used twice
-pub no-number-twice : NoNumberTwice ends
-no-number-twice = protocol.no-number-twice ends lines
+pub no-number-twice : NoNumberTwice ends ends
+no-number-twice = protocol.no-number-twice ends ends lines lines

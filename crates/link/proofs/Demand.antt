@@ -63,11 +63,11 @@ lawful =
     }
 
 -- no end opens without its partner: any octets, any frame buffers, refused calls, restarts and cuts included
-pub no-end-alone : NoEndAlone ends
+pub no-end-alone : NoEndAlone ends ends
 no-end-alone = demand-3 format lawful
 
 -- no number is used twice, and 12 and 15 refuse nothing
-pub no-number-twice : NoNumberTwice ends
+pub no-number-twice : NoNumberTwice ends ends
 no-number-twice = lift.no-number-twice format lawful
 
 pub never-refused : NeverRefused format

@@ -41,7 +41,7 @@ unfolding handedUpIn called recorded does perform now sent step rule apply whenL
     request refusal requestQuestions accept first outcome ifEq ifLt when
 they-hear = record { by-a = refl; by-b = refl }
 
-pub so-they-talk : Demand ends start talk
+pub so-they-talk : Demand ends ends start talk
 so-they-talk = demand-3 start ((refl, refl), (refl, refl)) talk (they-talk .due)
 
 pub hung-up : HungUp
@@ -56,7 +56,7 @@ hung-up = record {
   before-an-answer-anew = record { due = (tt, (tt, (last, (tt, (tt, (last, (tt, (last, (last, (tt, (last, (last, tt)))))))))))); right = refl };
 }
 
-pub so-it-opens-late : Demand ends start (entries opensLate)
+pub so-it-opens-late : Demand ends ends start (entries opensLate)
 so-it-opens-late = demand-3 start ((refl, refl), (refl, refl)) (entries opensLate) (hung-up .before-the-other-opens .due)
 
 pub lost-power : LostPower
@@ -70,5 +70,5 @@ lost-power = record {
   inside-a-call = record { due = (tt, (tt, (tt, (tt, (tt, tt))))); right = refl };
 }
 
-pub so-it-opens-too-late : Demand ends start (entries opensTooLate)
+pub so-it-opens-too-late : Demand ends ends start (entries opensTooLate)
 so-it-opens-too-late = demand-3 start ((refl, refl), (refl, refl)) (entries opensTooLate) (lost-power .as-the-other-opens .due)

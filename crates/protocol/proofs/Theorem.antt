@@ -41,8 +41,8 @@ reach =
     }
 
 -- no end opens without its partner
-pub demand-3 : NoEndAlone ends
-demand-3 = no-end-alone ends reach (itself Reached ActDue)
+pub demand-3 : NoEndAlone ends ends
+demand-3 = no-end-alone ends ends reach (itself Reached ActDue) (itself Reached ActDue)
 
 -- Every endpoint that the list reaches is sound, and what it holds and has sent fits.
 pub record Roomy (a b : History) : Type 0 where
@@ -80,13 +80,14 @@ limited h = record {
 }
 
 -- no number is used twice at ends whose calls do as the protocol's
-pub no-number-twice : (E : Ends) {Holds : E .Record → Endpoint → Type 0} → Simulates E Roomy Sized Holds → NoNumberTwice E
-no-number-twice E s start f calls d =
-    let h = reached E roomy s start f calls d in
+pub no-number-twice : (A B : Ends) {H : A .Record → Endpoint → Type 0} {K : B .Record → Endpoint → Type 0}
+    → Simulates A Roomy Sized H → Simulates B Roomy Sized K → NoNumberTwice A B
+no-number-twice A B s t start f calls d =
+    let h = reached A B roomy s t start f calls d in
     (h .reached-both .numbers-a .once, h .reached-both .numbers-b .once)
 
 -- the limits, where each block to send has 1 to 64 octets
 pub limits : WithinLimits
 limits start f calls d =
-    let h = reached reading roomy (itself Roomy Sized) start f calls d in
+    let h = reached reading reading roomy (itself Roomy Sized) (itself Roomy Sized) start f calls d in
     (limited h, limited (roomy .turns _ _ h))

@@ -48,14 +48,14 @@ abbrev pub Met : History → History → Type 0
 Met this other = Promised this other (now other) ⊎ RestartedWhile other (Promised this other)
 
 -- (a) of one call, which turns the ends w into w′
-pub record Meets (E : Ends) (w w′ : Two E) : Type 0 where
+pub record Meets (A B : Ends) (w w′ : Two A B) : Type 0 where
   pub at-a : Opens (now (w .a .history)) (now (w′ .a .history)) → Met (w′ .a .history) (w′ .b .history)
   pub at-b : Opens (now (w .b .history)) (now (w′ .b .history)) → Met (w′ .b .history) (w′ .a .history)
 
 -- (a) of each call of the list
-abbrev pub EachMeets : (E : Ends) → Two E → List (Entry (E .Call)) → Type 0
-EachMeets E w [] = Unit {0}
-EachMeets E w (c ∷ cs) = Meets E w (made E c w) × EachMeets E (made E c w) cs
+abbrev pub EachMeets : (A B : Ends) → Two A B → List (Entry (A .Call) (B .Call)) → Type 0
+EachMeets A B w [] = Unit {0}
+EachMeets A B w (c ∷ cs) = Meets A B w (made A B c w) × EachMeets A B (made A B c w) cs
 
 -- the block of a call answered with notice 5
 abbrev pub blockUp : Notice → List Block
@@ -114,14 +114,14 @@ pub record InOrder (this other : History) : Type 0 where
   pub never : (l : ℕ) → ((d : ℕ) → OpenedWith this l d → ⊥) → handedUpIn l this ≡ []
 
 -- Demand 3, of a list of calls.
-pub record Demand (E : Ends) (start : Two E) (calls : List (Entry (E .Call))) : Type 0 where
-  pub meets : EachMeets E start calls
-  pub to-a : InOrder (run E start calls .a .history) (run E start calls .b .history)
-  pub to-b : InOrder (run E start calls .b .history) (run E start calls .a .history)
+pub record Demand (A B : Ends) (start : Two A B) (calls : List (Entry (A .Call) (B .Call))) : Type 0 where
+  pub meets : EachMeets A B start calls
+  pub to-a : InOrder (run A B start calls .a .history) (run A B start calls .b .history)
+  pub to-b : InOrder (run A B start calls .b .history) (run A B start calls .a .history)
 
 -- It is a single claim about every list at two fresh ends: no end opens without its partner.
-abbrev pub NoEndAlone : Ends → Type 0
-NoEndAlone E = (start : Two E) → BothNew E start → (calls : List (Entry (E .Call))) → AllDue E start calls → Demand E start calls
+abbrev pub NoEndAlone : Ends → Ends → Type 0
+NoEndAlone A B = (start : Two A B) → BothNew A B start → (calls : List (Entry (A .Call) (B .Call))) → AllDue A B start calls → Demand A B start calls
 
 -- the act begins an incarnation
 abbrev pub Begins : Act → Type 0
@@ -143,10 +143,10 @@ NeverTwice (x ∷ earlier) =
     (Begins (x .act) → (y : Event) → List·Memᴰ y earlier → y .answer .endpoint .local < x .answer .endpoint .local) × NeverTwice earlier
 
 -- of both ends, after every list
-abbrev pub NoNumberTwice : Ends → Type 0
-NoNumberTwice E =
-    (start : Two E) → BothNew E start → (calls : List (Entry (E .Call))) → AllDue E start calls
-    → NeverTwice (run E start calls .a .history) × NeverTwice (run E start calls .b .history)
+abbrev pub NoNumberTwice : Ends → Ends → Type 0
+NoNumberTwice A B =
+    (start : Two A B) → BothNew A B start → (calls : List (Entry (A .Call) (B .Call))) → AllDue A B start calls
+    → NeverTwice (run A B start calls .a .history) × NeverTwice (run A B start calls .b .history)
 
 -- Demand 3 says nothing of an end that is never told. So it is claimed too that a call to a closed end is turned away: the
 -- caller's timer call sends a frame, the partner answers it, and that answer, delivered, closes the caller with notice 2.
@@ -177,5 +177,5 @@ pub record Told (a b : Endpoint) : Type 0 where
 -- after every list
 abbrev pub AlwaysTold : Type 0
 AlwaysTold =
-    (start : Two ends) → BothNew ends start → (calls : List (Entry Act)) → AllDue ends start calls
-    → Told (now (run ends start calls .a .history)) (now (run ends start calls .b .history))
+    (start : Two ends ends) → BothNew ends ends start → (calls : List (Entry Act Act)) → AllDue ends ends start calls
+    → Told (now (run ends ends start calls .a .history)) (now (run ends ends start calls .b .history))

@@ -25,49 +25,52 @@ pub record End (Record : Type 0) : Type 0 where
   pub rec : Record
   pub history : History
 
--- end A and end B
-pub record Both (S : Type 0) : Type 0 where
+-- end A and end B, which may be of two kinds, each with its own records and calls
+pub record Both (S T : Type 0) : Type 0 where
   pub a : S
-  pub b : S
+  pub b : T
 
 -- an entry of the list: an end and a call at it
-pub data Entry (Call : Type 0) : Type 0 where
-  atA atB : Call → Entry Call
+pub data Entry (C D : Type 0) : Type 0 where
+  atA : C → Entry C D
+  atB : D → Entry C D
 
 module _ (E : Ends) where
-  abbrev pub Two : Type 0
-  Two = Both (End (E .Record))
-
   -- one call more
   unfoldable pub called : E .Call → End (E .Record) → End (E .Record)
   called c x =
       let o = E .comes (x .rec) c in
       record { rec = E .leaves (x .rec) c o; history = recorded (E .said (x .rec) c) o (x .history) }
 
-  abbrev pub made : Entry (E .Call) → Two → Two
-  made (atA c) w = record { a = called c (w .a); b = w .b }
-  made (atB c) w = record { a = w .a; b = called c (w .b) }
+  -- it is fresh, and has sent nothing
+  abbrev pub New : End (E .Record) → Type 0
+  New x = E .Fresh (x .rec) × (x .history ≡ [])
+
+module _ (A B : Ends) where
+  abbrev pub Two : Type 0
+  Two = Both (End (A .Record)) (End (B .Record))
+
+  abbrev pub made : Entry (A .Call) (B .Call) → Two → Two
+  made (atA c) w = record { a = called A c (w .a); b = w .b }
+  made (atB c) w = record { a = w .a; b = called B c (w .b) }
 
   -- both ends after a list of calls
-  abbrev pub run : Two → List (Entry (E .Call)) → Two
+  abbrev pub run : Two → List (Entry (A .Call) (B .Call)) → Two
   run w [] = w
   run w (c ∷ cs) = run (made c w) cs
 
   -- every delivery of the list is due where it stands
-  abbrev pub DueAt : Entry (E .Call) → Two → Type 0
-  DueAt (atA c) w = E .Due (w .a .history) (w .b .history) c
-  DueAt (atB c) w = E .Due (w .b .history) (w .a .history) c
+  abbrev pub DueAt : Entry (A .Call) (B .Call) → Two → Type 0
+  DueAt (atA c) w = A .Due (w .a .history) (w .b .history) c
+  DueAt (atB c) w = B .Due (w .b .history) (w .a .history) c
 
-  abbrev pub AllDue : Two → List (Entry (E .Call)) → Type 0
+  abbrev pub AllDue : Two → List (Entry (A .Call) (B .Call)) → Type 0
   AllDue w [] = Unit {0}
   AllDue w (c ∷ cs) = DueAt c w × AllDue (made c w) cs
 
   -- both start fresh, with nothing sent
-  abbrev pub New : End (E .Record) → Type 0
-  New x = E .Fresh (x .rec) × (x .history ≡ [])
-
   abbrev pub BothNew : Two → Type 0
-  BothNew w = New (w .a) × New (w .b)
+  BothNew w = New A (w .a) × New B (w .b)
 
 -- The ends of the protocol: the record is the endpoint itself.
 abbrev pub endsWhere : (History → Act → Type 0) → Ends
