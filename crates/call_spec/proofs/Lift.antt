@@ -56,10 +56,10 @@ read-sized s endListening h = refl
 read-sized s close h = refl
 read-sized s timer h = refl
 read-sized s collect h = refl
-read-sized s (send b) h = let z = send-sized s h in joined (in-range 1 64 (length b) (z .1 .0) (z .1 .1)) refl
+read-sized s (send b) h = let z = send-sized s h in joined (in-range 1 64 (length b) (z .0) (z .1)) refl
 
 -- a value that was made of another
-of-mapped : {A B : Type 0} (f : A → B) (o : Outcome A) (y : B) → mapped f o ≡ ok y → (x : A) × (o ≡ ok x) × (y ≡ f x)
+pub of-mapped : {A B : Type 0} (f : A → B) (o : Outcome A) (y : B) → mapped f o ≡ ok y → (x : A) × (o ≡ ok x) × (y ≡ f x)
 unfolding mapped
 of-mapped f (refused n) y h = absurd (let z : _≡_ {A = ℕ} 0 1 = cc in omega arith)
 of-mapped f (ok x) y h = (x, refl, (cc))

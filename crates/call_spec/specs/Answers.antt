@@ -1,11 +1,10 @@
 -- What an outcome answers: its notice, the frame sent, the endpoint left, the block handed up.
 use Prim.Native.Nat.{ℕ}
 use mathlib.Core.List.{List, []}
-use lib.ListN.{take, drop}
+use lib.ListN.{take}
 use Rattle.octets.specs.Test.{Outcome, refused, ok, mapped}
 use Rattle.octets.specs.Octets.{left}
 use Rattle.frame.specs.Frame.{Block}
-use Rattle.frame.specs.Layout.{dataBlockAt}
 use Rattle.protocol.specs.Endpoint.{Endpoint}
 use Rattle.call_spec.specs.declared.Call.{Call}
 use Rattle.call_spec.specs.declared.Call.the-variants.{Request, Receive}
@@ -37,11 +36,11 @@ unfoldable pub blockOf : Outcome Step → Block
 blockOf (refused n) = []
 blockOf (ok x) = blockIn (x .notice)
 
--- Where the block handed up stands, of n octets. Received, it is "a part of the caller's own received frame" s: from octet 14 on, where
--- the block of a DATA stands. Collected, it is the start of the lent buffer up.
-unfoldable pub blockPart : Call → List ℕ → List ℕ → ℕ → Block
-blockPart Request s up n = take n up
-blockPart Receive s up n = take n (drop dataBlockAt s)
+-- Where the block handed up stands, of n octets. Received, it is "a part of the caller's own received frame", the block b of that frame. Collected, it
+-- is the start of the lent buffer up.
+unfoldable pub blockPart : Call → Block → List ℕ → ℕ → Block
+blockPart Request b up n = take n up
+blockPart Receive b up n = take n b
 
 -- what a call leaves in the buffer for a block: a request writes the block handed up at its start
 unfoldable pub blockBufferAfter : Call → List ℕ → Outcome Step → List ℕ

@@ -1,7 +1,2 @@
-pub mod Numbers
-pub mod Ready
-pub mod HeldPlaces
-pub mod Carries
-pub mod Order
+pub mod Answers
 pub mod Laws
-pub mod Places

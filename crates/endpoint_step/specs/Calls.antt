@@ -4,17 +4,14 @@ use mathlib.Core.Path.{_≡_}
 use mathlib.Core.List.{List}
 use lib.ListN.{length}
 use Rattle.octets.specs.Test.{Outcome, refused, ok}
-use Rattle.call_spec.specs.Calls.{Arguments, asked, wire, bufferAfter, pageAfter}
+use Rattle.frame.specs.Read.{cutBlock}
+use Rattle.call_spec.specs.Calls.{Arguments, wire, bufferAfter, pageAfter}
 use Rattle.protocol.specs.Table.{noticeNumber, Step}
 use Rattle.call_spec.specs.Answers.{blockIn, blockOf, blockPart, blockBufferAfter}
 use Rattle.endpoint.specs.declared.Endpoint.{Endpoint}
 use Rattle.endpoint_step.specs.declared.StepAnswer.{StepAnswer}
-use Rattle.endpoint.specs.View.{pack, view}
-use Rattle.endpoint.specs.Sound.{sound}
-
--- what a call of the endpoint e with this page comes to
-unfoldable pub outcomeOf : Endpoint → List ℕ → Arguments → Outcome Step
-outcomeOf e page c = asked (sound e) page (view e) c
+use Rattle.endpoint.specs.View.{pack}
+use Rattle.endpoint_plan.specs.Calls.{outcomeOf}
 
 -- what it answers: a refusal leaves the record, with no notice, no frame and no block
 unfoldable pub stepAnswerOf : Endpoint → Outcome Step → StepAnswer
@@ -34,4 +31,4 @@ pub record Advances (e : Endpoint) (page : List ℕ) (c : Arguments) (out up pag
   pub page-octets : page′ ≡ pageAfter page (outcomeOf e page c)
   pub octets : out′ ≡ bufferAfter out (outcomeOf e page c)
   pub block-octets : up′ ≡ blockBufferAfter (c .call) up (outcomeOf e page c)
-  pub block : blockPart (c .call) (c .octets) up′ (r .block) ≡ blockOf (outcomeOf e page c)
+  pub block : blockPart (c .call) (cutBlock (c .octets)) up′ (r .block) ≡ blockOf (outcomeOf e page c)

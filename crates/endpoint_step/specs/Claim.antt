@@ -11,7 +11,7 @@ use Rattle.endpoint.specs.declared.Endpoint.{Endpoint}
 use Rattle.endpoint.specs.View.{Long, pack, view}
 use Rattle.endpoint.specs.Sound.{sound}
 use Rattle.call_spec.specs.Calls.{Arguments, InOctets}
-use Rattle.endpoint_step.specs.Calls.{outcomeOf}
+use Rattle.endpoint_plan.specs.Calls.{outcomeOf}
 
 -- What an accepted call leaves: a sound endpoint, whose struct is sound and holds it, and where the numbers had 32 bits they have.
 pub record LeavesStruct (a : abstract.Endpoint) (x : Step) : Type 0 where

@@ -1,4 +1,4 @@
-// Reading octets as a frame or a request: questions 3 to 7.
+// Reading octets as a frame or a request, questions 3 to 7, and cutting off its block.
 use frame::ACK;
 use frame::ACK_NUMBERS;
 use frame::CLOSE;
@@ -11,15 +11,14 @@ use frame::DATA;
 use frame::DATA_NUMBERS;
 use frame::DRACK;
 use frame::END_LISTENING;
-use frame::FrameRead;
 use frame::HEAD_SIZE;
-use frame::InputRead;
+use frame::Header;
 use frame::LISTEN;
+use frame::Message;
 use frame::NUMBER;
 use frame::QUOTED;
 use frame::REJ;
 use frame::RequestKind;
-use frame::RequestRead;
 use frame::SEND;
 use frame::SEND_NUMBERS;
 use frame::SENDER;
@@ -32,9 +31,10 @@ ghost use Prim.Native.Nat.{ℕ, _+_, _-_, _≤_};
 ghost use lib.Dec.{leb, eqb};
 ghost use lib.ListN.{length, drop, getD};
 ghost use Rattle.octets.specs.Test.{when, first, refused, ok, mapped};
-ghost use Rattle.frame.specs.Read.{kindOf, numberAt, frameAt, requestAt, countOk, numbersOk, readable, sizeQuestions, readFrameAs, readFrame, readRequestAs, readRequest, frame, request, readInput};
-ghost use Rattle.frame.specs.Layout.{isFrame, isRequest, numbersSize, dataNumbers, sendNumbers};
-ghost use Rattle.frame.specs.Answer.{classOf, requestOf, frameTold, requestTold, frameRead, requestRead, inputRead};
+ghost use Rattle.frame.specs.Frame.{Frame};
+ghost use Rattle.frame.specs.Read.{kindOf, numberAt, blockAt, cutBlock, frameAt, requestAt, countOk, numbersOk, readable, sizeQuestions, readFrameAs, readFrame, readRequestAs, readRequest, frame, request};
+ghost use Rattle.frame.specs.Layout.{isFrame, isRequest, numbersSize, dataNumbers};
+ghost use Rattle.frame.specs.Answer.{classOf, requestOf, meant};
 
 // The largest number of a DATA.
 const LAST_DATA: u32 = octets::LAST_NUMBER - 1;
@@ -129,27 +129,32 @@ fn number_of(kind: u8, rest: &[u8]) -> u32
 }
 
 // The frame whose questions 3 to 6 are passed.
-fn frame_of(kind: u8, rest: &[u8]) -> FrameRead
+fn frame_of(kind: u8, rest: &[u8]) -> Message
     requires { ⌜ (isFrame kind ≡ true) × (numbersSize kind ≤ length (now rest)) ⌝ }
-    ensures { λ r. ⌜ frameTold r (drop dataNumbers (now (rest .entry))) ≡ when (readable (frameAt kind (now (rest .entry)))) (ok (frameAt kind (now (rest .entry)))) (refused 7) ⌝ }
+    ensures { λ r. ⌜ (let f : Frame = frameAt kind (now (rest .entry)) in meant r (blockAt kind (now (rest .entry))) ≡ mapped frame (when (readable f) (ok f) (refused 7))) ⌝ }
 {
     let sender = octets::load32(rest, SENDER);
     let quoted = octets::load32(rest, QUOTED);
     let number = number_of(kind, rest);
     if !numbers_ok(kind, sender, quoted, number) {
-        return FrameRead::Refused(refusal::BAD_NUMBER);
+        return Message::Refused(refusal::BAD_NUMBER);
     }
-    FrameRead::Frame(frame::header_of(kind, sender, quoted, number))
+    Message::Frame(Header {
+        kind,
+        sender,
+        quoted,
+        number,
+    })
 }
 
 // A frame whose kind is known. DATA comes most: where the kind is at hand, the tests of the others fall away.
-fn known_frame(kind: u8, rest: &[u8]) -> FrameRead
+fn known_frame(kind: u8, rest: &[u8]) -> Message
     requires { ⌜ isFrame kind ≡ true ⌝ }
-    ensures { λ r. ⌜ frameTold r (drop dataNumbers (now (rest .entry))) ≡ readFrameAs kind (now (rest .entry)) ⌝ }
+    ensures { λ r. ⌜ meant r (blockAt kind (now (rest .entry))) ≡ mapped frame (readFrameAs kind (now (rest .entry))) ⌝ }
 {
     let refusal = size_refusal(kind, rest);
     if refusal != 0 {
-        return FrameRead::Refused(refusal);
+        return Message::Refused(refusal);
     }
     if kind == DATA {
         return frame_of(DATA, rest);
@@ -159,7 +164,7 @@ fn known_frame(kind: u8, rest: &[u8]) -> FrameRead
 
 fn request_of(kind: u8) -> RequestKind
     requires { ⌜ isRequest kind ≡ true ⌝ }
-    ensures { λ q. ⌜ ((r : List ℕ) → requestOf q (drop sendNumbers r) ≡ requestAt kind r) ⌝ }
+    ensures { λ q. ⌜ ((r : List ℕ) → requestOf q (blockAt kind r) ≡ requestAt kind r) ⌝ }
 {
     match kind {
         CONNECT => RequestKind::Connect,
@@ -173,69 +178,68 @@ fn request_of(kind: u8) -> RequestKind
 }
 
 // A request whose kind is known.
-fn known_request(kind: u8, rest: &[u8]) -> RequestRead
+fn known_request(kind: u8, rest: &[u8]) -> Message
     requires { ⌜ isRequest kind ≡ true ⌝ }
-    ensures { λ r. ⌜ requestTold r (drop sendNumbers (now (rest .entry))) ≡ readRequestAs kind (now (rest .entry)) ⌝ }
+    ensures { λ r. ⌜ meant r (blockAt kind (now (rest .entry))) ≡ mapped request (readRequestAs kind (now (rest .entry))) ⌝ }
 {
     let refusal = size_refusal(kind, rest);
     if refusal != 0 {
-        return RequestRead::Refused(refusal);
+        return Message::Refused(refusal);
     }
-    RequestRead::Request(request_of(kind))
+    Message::Request(request_of(kind))
 }
 
 // Reads any octets as a frame.
-pub fn read_frame(s: &[u8]) -> FrameRead
-    ensures { λ r. ⌜ frameRead r (now (s .entry)) ≡ readFrame (now (s .entry)) ⌝ }
+pub fn read_frame(s: &[u8]) -> Message
+    ensures { λ r. ⌜ meant r (cutBlock (now (s .entry))) ≡ mapped frame (readFrame (now (s .entry))) ⌝ }
 {
     let class = class_of(s);
     match class {
         Class::Frame => known_frame(s[0], &s[HEAD_SIZE..]),
-        Class::Request => FrameRead::Refused(refusal::UNKNOWN_KIND),
-        Class::Unknown => FrameRead::Refused(refusal::UNKNOWN_KIND),
+        Class::Request => Message::Refused(refusal::UNKNOWN_KIND),
+        Class::Unknown => Message::Refused(refusal::UNKNOWN_KIND),
     }
 }
 
 // Reads any octets as a request.
-pub fn read_request(s: &[u8]) -> RequestRead
-    ensures { λ r. ⌜ requestRead r (now (s .entry)) ≡ readRequest (now (s .entry)) ⌝ }
+pub fn read_request(s: &[u8]) -> Message
+    ensures { λ r. ⌜ meant r (cutBlock (now (s .entry))) ≡ mapped request (readRequest (now (s .entry))) ⌝ }
 {
     let class = class_of(s);
     match class {
-        Class::Frame => RequestRead::Refused(refusal::UNKNOWN_KIND),
+        Class::Frame => Message::Refused(refusal::UNKNOWN_KIND),
         Class::Request => known_request(s[0], &s[HEAD_SIZE..]),
-        Class::Unknown => RequestRead::Refused(refusal::UNKNOWN_KIND),
+        Class::Unknown => Message::Refused(refusal::UNKNOWN_KIND),
     }
 }
 
-// What a call that knows requests too makes of a frame.
-pub fn frame_input(f: FrameRead) -> InputRead
-    ensures { λ r. ⌜ ((s : List ℕ) → inputRead r s ≡ mapped frame (frameRead f s)) ⌝ }
+// The octets of s after the first n.
+fn after(s: &[u8], n: usize) -> &[u8]
+    ensures { λ r. ⌜ now r ≡ drop n (now (s .entry)) ⌝ }
 {
-    match f {
-        FrameRead::Frame(h) => InputRead::Frame(h),
-        FrameRead::Refused(n) => InputRead::Refused(n),
+    if s.len() < n {
+        return &s[..0];
+    }
+    &s[n..]
+}
+
+// The block of a kind, in the octets after its head; empty where the kind has none.
+fn block_after(kind: u8, rest: &[u8]) -> &[u8]
+    ensures { λ r. ⌜ now r ≡ blockAt kind (now (rest .entry)) ⌝ }
+{
+    match kind {
+        DATA => after(rest, DATA_NUMBERS),
+        SEND => after(rest, SEND_NUMBERS),
+        _ => &rest[..0],
     }
 }
 
-// What a call that knows frames too makes of a request.
-pub fn request_input(q: RequestRead) -> InputRead
-    ensures { λ r. ⌜ ((s : List ℕ) → inputRead r s ≡ mapped request (requestRead q s)) ⌝ }
+// Cuts off the block that octets end with, as their kind says.
+pub fn cut_block(s: &[u8]) -> &[u8]
+    ensures { λ r. ⌜ now r ≡ cutBlock (now (s .entry)) ⌝ }
 {
-    match q {
-        RequestRead::Request(k) => InputRead::Request(k),
-        RequestRead::Refused(n) => InputRead::Refused(n),
+    if s.len() == 0 {
+        return s;
     }
-}
-
-// Reads any octets as a request, or else as a frame.
-pub fn read_input(s: &[u8]) -> InputRead
-    ensures { λ r. ⌜ inputRead r (now (s .entry)) ≡ readInput (now (s .entry)) ⌝ }
-{
-    let class = class_of(s);
-    match class {
-        Class::Request => request_input(read_request(s)),
-        Class::Frame => frame_input(read_frame(s)),
-        Class::Unknown => frame_input(read_frame(s)),
-    }
+    block_after(s[0], &s[HEAD_SIZE..])
 }

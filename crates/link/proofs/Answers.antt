@@ -1,13 +1,12 @@
 -- What a call on a lent record answers, from its plan.
 use Prim.Native.Nat.{ℕ, _≤_, _<_}
-use mathlib.Core.Path.{_≡_, refl, sym, ap, ap₂, _∙_}
+use mathlib.Core.Path.{_≡_, refl, sym, subst, ap, ap₂, _∙_}
 use mathlib.Core.Logic.{_≢_}
 use mathlib.Core.List.{List, []}
 use native.Mathlib.Omega.{arith}
 use borrow.Author.Tests.{le-leb, lt-leb}
 use lib.ListN.{length, getD, take, drop, length-drop, take-append-drop}
 use lib.Seq.{length-take-le}
-use Rattle.frame.specs.Layout.{dataBlockAt}
 use Rattle.octets.specs.Sizes.{longestFrame, longestBlock, queueSize, heldSize}
 use Rattle.octets.specs.Test.{when, ifEq, first, Outcome, refused, ok, refusing, mapped, numberOf}
 use Rattle.octets.specs.Octets.{put, left, Octets}
@@ -16,15 +15,16 @@ use Rattle.page.specs.Page.{reserving}
 use Rattle.octets.proofs.Buffers.{put-fits, taken}
 use Rattle.octets.proofs.Outcomes.{after-question, is-refused}
 use Rattle.frame.specs.Frame.{Block}
+use Rattle.frame.specs.Read.{cutBlock}
 use Rattle.protocol.specs.Endpoint as abstract
 use Rattle.protocol.specs.Table.{Step}
 use Rattle.call_spec.specs.declared.Call.{Call}
 use Rattle.call_spec.specs.declared.Call.the-variants.{Request, Receive}
-use Rattle.call_spec.specs.Calls.{Arguments, Rooms, rooms, given, wire, performed, recordAfter, bufferAfter, pageAfter}
+use Rattle.call_spec.specs.Calls.{Arguments, Rooms, rooms, given, wire, ownQuestions, asked, performed, recordAfter, bufferAfter, pageAfter}
 use Rattle.step_plan.specs.declared.Plan.{Plan}
 use Rattle.call_spec.specs.Answers.{noticeOf, sentIn, blockOf, blockPart, blockBufferAfter, endpointAfter}
 use Rattle.step_plan.specs.Internal.{blockBy, blockOut, sentBy, Sends}
-use Rattle.step_plan.proofs.Up.{Right, There, source, right, none-right}
+use Rattle.step_plan.proofs.Up.{Right, source, right, none-right}
 use Rattle.step_plan.proofs.Up as up
 use Rattle.endpoint.specs.declared.Endpoint.{Endpoint}
 use Rattle.endpoint.specs.View.{placesSize, placeBlock, pack, view}
@@ -33,12 +33,14 @@ use Rattle.endpoint.specs.Sound.{sound}
 use Rattle.endpoint.proofs.Packs.{Long}
 use Rattle.endpoint.proofs.Sounds.{by-lt, facts}
 use Rattle.endpoint.proofs.Record.{encode-decode}
-use Rattle.endpoint_step.specs.Calls.{outcomeOf, stepAnswerOf}
-use Rattle.endpoint_step.specs.Internal.{joinsQueue, joinsHeld, Plans, carried, blockFrom, HandsUp}
-use Rattle.endpoint_step.proofs.Ready.{passes}
-use Rattle.endpoint_step.proofs.Carries.{leaves, hands-up, stands, hands-is, sends, sends-is, reserves, reserves-none}
+use Rattle.endpoint_places.specs.Internal.{carried, blockFrom, HandsUp}
+use Rattle.endpoint_plan.specs.Calls.{outcomeOf}
+use Rattle.endpoint_plan.specs.Internal.{PlansFor, Plans}
+use Rattle.endpoint_plan.proofs.Messages.{accepted-short}
+use Rattle.endpoint_plan.proofs.Ready.{accepted-by, passes}
+use Rattle.endpoint_plan.proofs.Carries.{same, leaves, hands-up, stands, hands-is, sends, sends-is, is-turned-down, reserves, reserves-none}
 use Rattle.link.specs.declared.Answer.{Answer}
-use Rattle.link.specs.Record.{format}
+use Rattle.link.specs.Record.{format, callQuestions}
 use Rattle.link.specs.Lent.{toldOf, statusOf, sentOf, answerOf, Called}
 
 -- the numbers of an endpoint that are told
@@ -115,6 +117,11 @@ unfolding performed refusing first when
 too-short rec page c h = rw (lt-leb recordSize (length rec) h) refl
 
 module _ (rec : List ℕ) (long : recordSize ≤ length rec) where
+  -- the questions of a call, where there is a record
+  pub own-questions : (page : List ℕ) (c : Arguments) → first (callQuestions rec page c) ≡ first (ownQuestions (sound (decode rec)) (decode rec .local) page c)
+  unfolding first when view
+  own-questions page c = rw (le-leb recordSize (length rec) long) refl
+
   pub enough : (page : List ℕ) (c : Arguments) → performed format rec page c ≡ outcomeOf (decode rec) page c
   unfolding performed outcomeOf refusing first when
   enough page c = rw (le-leb recordSize (length rec) long) refl
@@ -124,10 +131,10 @@ module _ (rec : List ℕ) (long : recordSize ≤ length rec) where
   told (refused n) = rw (le-leb recordSize (length rec) long) (record { state = refl; local = refl; remote = refl })
   told (ok x) = record { state = refl; local = refl; remote = refl }
 
-  stored : Octets rec → (o : Outcome Step) → put rec 0 (encode (stepAnswerOf (decode rec) o .endpoint)) ≡ recordAfter format rec o
-  unfolding stepAnswerOf recordAfter mapped left
-  stored oc (refused n) = rewritten rec long oc
-  stored oc (ok x) = refl
+  stored : Octets rec → pack (view (decode rec)) ≡ decode rec → (o : Outcome Step) → put rec 0 (encode (pack (endpointAfter (view (decode rec)) o))) ≡ recordAfter format rec o
+  unfolding endpointAfter recordAfter mapped left
+  stored oc h (refused n) = ap (λ (x : Endpoint). put rec 0 (encode x)) h ∙ rewritten rec long oc
+  stored oc h (ok x) = refl
 
   pub decode-long : Long (decode rec)
   unfolding decode
@@ -138,69 +145,72 @@ module _ (rec : List ℕ) (long : recordSize ≤ length rec) where
     held-blocks = length-take-le placesSize (drop heldBlocksAt rec) (rw length-drop (omega arith));
   }
 
-  module _ (page : List ℕ) (c : Arguments) {p : Plan} (w : Plans (decode rec) page c p) where
-    abbrev o : Outcome Step
-    o = outcomeOf (decode rec) page c
+  -- what a plan's store leaves of the page
+  pub reserved : (page : List ℕ) (c : Arguments) {p : Plan} → Plans (decode rec) page c p → {page′ : List ℕ} → page′ ≡ ifEq (p .number) 0 (reserving (p .numbers .local) page) page
+      → page′ ≡ pageAfter page (performed format rec page c)
+  reserved page c {p} w h =
+      rw (enough page c)
+      (by-eq (p .number) 0
+      (λ z. reserves (decode rec) decode-long page c w z (h ∙ eq-yes _ _ _ _ z))
+      (λ z. h ∙ eq-no _ _ _ _ z ∙ reserves-none (decode rec) decode-long page c w z))
 
-    abbrev joins : Block
-    joins = joinsQueue p (c .octets)
-
-    abbrev early : Block
-    early = joinsHeld p (c .octets)
-
-    pub refuses : p .number ≢ 0 → (out up : List ℕ) {r : Answer} → r ≡ answerOf rec (refused (p .number))
-        → Called (c .call) (performed format rec page c) rec (c .octets) out up rec out up r
-    refuses z out up h = turned-down (enough page c ∙ is-refused o (λ y. z (w .number ∙ y)) ∙ ap (λ (n : ℕ). refused n) (sym (w .number))) (c .call) rec (c .octets) out up h
-
-    -- what a plan's store leaves of the page
-    pub reserved : {page′ : List ℕ} → page′ ≡ ifEq (p .number) 0 (reserving (p .numbers .local) page) page → page′ ≡ pageAfter page (performed format rec page c)
-    reserved h =
-        rw (enough page c)
-        (by-eq (p .number) 0
-        (λ z. reserves (decode rec) decode-long page c w z (h ∙ eq-yes _ _ _ _ z))
-        (λ z. h ∙ eq-no _ _ _ _ z ∙ reserves-none (decode rec) decode-long page c w z))
+  -- A plan of a call that comes to o, with the block b.
+  module _ (c : Call) (r : Rooms) (b : Block) (o : Outcome Step) {p : Plan} (w : PlansFor c r (decode rec) b o p) where
+    pub refuses : p .number ≢ 0 → (out up : List ℕ) {a : Answer} → a ≡ answerOf rec (refused (p .number)) → Called c o rec b out up rec out up a
+    refuses z out up h = turned-down (is-turned-down (decode rec) decode-long c r b o w z) c rec b out up h
 
     pub accepts : Octets rec → p .number ≡ 0 → {out out′ : List ℕ} {n : ℕ}
-        → Sends (sentBy (p .reply) (blockOut (p .queue) joins (placeBlock (decode rec .lengths) (decode rec .blocks) 0))) out out′ n
-        → {u u′ : List ℕ} {m : ℕ} → HandsUp (c .call) (blockBy (p .notice) (blockFrom (c .call) (decode rec .«held_lengths») (decode rec .«held_blocks») (c .octets))) u u′ m
-        → {rec′ : List ℕ} → rec′ ≡ put rec 0 (encode (carried p joins early (decode rec)))
-        → Called (c .call) (performed format rec page c) rec (c .octets) out u rec′ out′ u′
+        → Sends (sentBy (p .reply) (blockOut (p .queue) b (placeBlock (decode rec .lengths) (decode rec .blocks) 0))) out out′ n
+        → {u u′ : List ℕ} {m : ℕ} → HandsUp c (blockBy (p .notice) (blockFrom c (decode rec .«held_lengths») (decode rec .«held_blocks») b)) u u′ m
+        → {rec′ : List ℕ} → rec′ ≡ put rec 0 (encode (carried p b (decode rec)))
+        → Called c o rec b out u rec′ out′ u′
         (record { status = record { number = 0; state = p .numbers .state; notice = p .notice; local = p .numbers .local; remote = p .numbers .remote }; sent = n; block = m })
-    unfolding answerOf statusOf view outcomeOf
+    unfolding answerOf statusOf view
     accepts oc z {out} s {u} h {rec′} er =
-        let k = w .endpoint in
-        let t = sends (decode rec) decode-long page c w s in
-        let g = rw (hands-up (decode rec) decode-long page c w) at h in
+        let k = w .comes .endpoint in
+        let t = sends (decode rec) decode-long c r b o w s in
+        let g = rw (hands-up (decode rec) decode-long c r b o w) at h in
         let st : p .numbers .state ≡ toldOf rec o .state = ap (λ (x : abstract.Endpoint). x .state) k ∙ told o .state in
         let lo : p .numbers .local ≡ toldOf rec o .local = ap (λ (x : abstract.Endpoint). x .local) k ∙ told o .local in
         let re : p .numbers .remote ≡ toldOf rec o .remote = ap (λ (x : abstract.Endpoint). x .remote) k ∙ told o .remote in
-        let nu : 0 ≡ numberOf o = sym z ∙ w .number in
-        let eu = hands-is (c .call) u o g in
-        rw (enough page c)
-        (record {
-          answer = λ i. record { status = record { number = nu i; state = st i; notice = w .notice i; local = lo i; remote = re i }; sent = (t .count ∙ sent-is o) i; block = g .count i };
-          end = er ∙ ap (λ (x : Endpoint). put rec 0 (encode x)) (leaves (decode rec) decode-long page c w z) ∙ stored oc o;
+        let nu : 0 ≡ numberOf o = sym z ∙ w .comes .number in
+        let eu = hands-is c u o g in
+        record {
+          answer = λ i. record { status = record { number = nu i; state = st i; notice = w .comes .notice i; local = lo i; remote = re i }; sent = (t .count ∙ sent-is o) i; block = g .count i };
+          end = er ∙ ap (λ (x : Endpoint). put rec 0 (encode x)) (leaves (decode rec) decode-long c r b o w z) ∙ stored oc (same (decode rec) (w .is-sound z) decode-long) o;
           buffer = sends-is out o t;
           block-buffer = eu;
-          block = ap₂ (λ (l : List ℕ) (j : ℕ). blockPart (c .call) (c .octets) l j) eu (g .count) ∙ stands (decode rec) decode-long page c w u;
-        })
+          block = ap₂ (λ (l : List ℕ) (j : ℕ). blockPart c b l j) eu (g .count) ∙ stands (decode rec) decode-long c r b o w u;
+        }
+
+-- what a call of a record that is long enough comes to is what the call of its struct does
+pub at-record : (rec : List ℕ) → recordSize ≤ length rec → (page : List ℕ) (c : Arguments) {b : Block} {out up rec′ out′ up′ : List ℕ} {a : Answer}
+    → Called (c .call) (outcomeOf (decode rec) page c) rec b out up rec′ out′ up′ a → Called (c .call) (performed format rec page c) rec b out up rec′ out′ up′ a
+at-record rec long page c {b} {out} {up} {rec′} {out′} {up′} {a} h =
+    subst (λ (o : Outcome Step). Called (c .call) o rec b out up rec′ out′ up′ a) (sym (enough rec long page c)) h
+
+-- with the block that was cut
+pub of-block : {k : Call} {o : Outcome Step} {rec : List ℕ} {b b′ : Block} {out up rec′ out′ up′ : List ℕ} {a : Answer} → b ≡ b′
+    → Called k o rec b out up rec′ out′ up′ a → Called k o rec b′ out up rec′ out′ up′ a
+of-block {k} {o} {rec} {out = out} {up} {rec′} {out′} {up′} {a} e c = subst (λ (x : Block). Called k o rec x out up rec′ out′ up′ a) e c
+
+pub called-by : (rec : List ℕ) → recordSize ≤ length rec → (page : List ℕ) (c : Arguments) {b : Block} {out up rec′ out′ up′ : List ℕ} {a : Answer} → b ≡ cutBlock (c .octets)
+    → Called (c .call) (outcomeOf (decode rec) page c) rec b out up rec′ out′ up′ a → Called (c .call) (performed format rec page c) rec (cutBlock (c .octets)) out up rec′ out′ up′ a
+called-by rec long page c e h = of-block e (at-record rec long page c h)
 
 -- The block that is handed up is told by the notice.
 shown : (rec page : List ℕ) (c : Arguments)
-    → Right (source (c .call) (c .octets) (format .holds rec)) (blockOf (performed format rec page c)) (There (c .call) (c .octets)) (noticeOf (performed format rec page c))
+    → Right (source (c .call) (cutBlock (c .octets)) (format .holds rec)) (blockOf (performed format rec page c)) (noticeOf (performed format rec page c))
 unfolding performed
 shown rec page c =
-    after-question (λ (o : Outcome Step). Right (source (c .call) (c .octets) (format .holds rec)) (blockOf o) (There (c .call) (c .octets)) (noticeOf o)) (none-right _ _) _ _
+    after-question (λ (o : Outcome Step). Right (source (c .call) (cutBlock (c .octets)) (format .holds rec)) (blockOf o) (noticeOf o)) (none-right _) _ _
     (right (format .sound rec) page (format .holds rec) c)
 
 module _ (rec page s : List ℕ) (r : Rooms) where
   abbrev received : Outcome Step
   received = performed format rec page (given Receive s r)
 
-  pub long-enough : noticeOf received ≡ 5 → dataBlockAt ≤ length s
-  long-enough h = shown rec page (given Receive s r) .some h .1
-
-  pub hands-it-up : blockBy (noticeOf received) (drop dataBlockAt s) ≡ blockOf received
+  pub hands-it-up : blockBy (noticeOf received) (cutBlock s) ≡ blockOf received
   unfolding source
   hands-it-up = up.told (shown rec page (given Receive s r))
 
@@ -220,13 +230,23 @@ held-fits rec page c h n =
     let f = passes (sound (decode rec)) page (view (decode rec)) c (sym (ap numberOf (enough rec l page c)) ∙ h) .is-fine in
     facts (decode rec) f (decode-long rec l) .fitting 0 n .0)
 
--- a block handed up has at most 64 octets: one received since its frame has no more than the longest, one collected since the record is sound
-pub received-short : (rec page s : List ℕ) (r : Rooms) → length s ≤ longestFrame → length (blockOf (performed format rec page (given Receive s r))) ≤ longestBlock
-unfolding source
-received-short rec page s r h =
-    let w = shown rec page (given Receive s r) in
-    by-eq (noticeOf (performed format rec page (given Receive s r))) 5
-    (λ z. omega (arith, ap length (w .some z .0), length-drop dataBlockAt s))
+-- and so has the block of a frame that a call was accepted of
+received-fits : (rec page s : List ℕ) (r : Rooms) → numberOf (performed format rec page (given Receive s r)) ≡ 0 → length (cutBlock s) ≤ longestBlock
+unfolding outcomeOf asked view numberOf
+received-fits rec page s r h =
+    let c = given Receive s r in
+    by-lt (length rec) recordSize (λ k. absurd (omega (arith, sym h ∙ ap numberOf (too-short rec page c k))))
+    (λ l. accepted-short Receive s (view (decode rec)) (accepted-by (first (ownQuestions (sound (decode rec)) (decode rec .local) page c)) _ (sym (ap numberOf (enough rec l page c)) ∙ h) .1))
+
+-- A block handed up has at most 64 octets: one received since its frame was read, one collected since the record is sound.
+pub received-short : (rec page s : List ℕ) (r : Rooms) → length (blockOf (performed format rec page (given Receive s r))) ≤ longestBlock
+unfolding source outcomeOf asked view
+received-short rec page s r =
+    let c = given Receive s r in
+    let o = performed format rec page c in
+    let w = shown rec page c in
+    by-eq (noticeOf o) 5
+    (λ z. omega (arith, ap length (w .some z), received-fits rec page s r (five o z)))
     (λ z. omega (arith, ap length (w .nothing z)))
 
 pub collected-short : (rec page s : List ℕ) (r : Rooms) → length (blockOf (performed format rec page (given Request s r))) ≤ longestBlock
@@ -235,12 +255,12 @@ collected-short rec page s r =
     let c = given Request s r in
     let w = shown rec page c in
     by-eq (noticeOf (performed format rec page c)) 5
-    (λ z. by-eq (length (blockOf (performed format rec page c))) 0 (λ y. omega arith) (λ y. let e = w .some z .0 in omega (arith, ap length e, held-fits rec page c (five (performed format rec page c) z) (omega (arith, ap length e)))))
+    (λ z. by-eq (length (blockOf (performed format rec page c))) 0 (λ y. omega arith) (λ y. let e = w .some z in omega (arith, ap length e, held-fits rec page c (five (performed format rec page c) z) (omega (arith, ap length e)))))
     (λ z. omega (arith, ap length (w .nothing z)))
 
-block-short-by : (rec page : List ℕ) (c : Call) (s : List ℕ) (r : Rooms) → length s ≤ longestFrame → length (blockOf (performed format rec page (given c s r))) ≤ longestBlock
-block-short-by rec page Request s r h = collected-short rec page s r
-block-short-by rec page Receive s r h = received-short rec page s r h
+block-short-by : (rec page : List ℕ) (c : Call) (s : List ℕ) (r : Rooms) → length (blockOf (performed format rec page (given c s r))) ≤ longestBlock
+block-short-by rec page Request s r = collected-short rec page s r
+block-short-by rec page Receive s r = received-short rec page s r
 
-pub block-short : (rec page : List ℕ) (c : Arguments) → length (c .octets) ≤ longestFrame → length (blockOf (performed format rec page c)) ≤ longestBlock
-block-short rec page c h = block-short-by rec page (c .call) (c .octets) (rooms (c .room) (c .blockRoom)) h
+pub block-short : (rec page : List ℕ) (c : Arguments) → length (blockOf (performed format rec page c)) ≤ longestBlock
+block-short rec page c = block-short-by rec page (c .call) (c .octets) (rooms (c .room) (c .blockRoom))

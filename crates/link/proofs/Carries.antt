@@ -17,8 +17,8 @@ use Rattle.endpoint.specs.declared.Endpoint.{Endpoint}
 use Rattle.endpoint.specs.Record.{encode, decode, lengthsAt, blocksAt, heldLengthsAt, heldBlocksAt, recordSize}
 use Rattle.endpoint.specs.Internal.{recordOf, numbersIn}
 use Rattle.endpoint.proofs.Record.{numbers-long, encode-puts}
-use Rattle.endpoint_step.specs.Internal.{InEight, PlanFits, lengthsAfter, blocksAfter, placesAfter, carried}
-use Rattle.endpoint_step.proofs.Places.{length-after, for-lengths, for-blocks}
+use Rattle.endpoint_places.specs.Internal.{InEight, PlanFits, lengthsAfter, blocksAfter, placesAfter, carried}
+use Rattle.endpoint_places.proofs.Places.{length-after, for-lengths, for-blocks}
 
 -- a part that is lent and comes back is a write
 lent : (x s : List ℕ) (at n : ℕ) → length s ≡ n → take at x ++ (s ++ drop n (drop at x)) ≡ put x at s
@@ -74,11 +74,11 @@ module _ (x l c hl : List ℕ) where
   abbrev x3 : List ℕ
   x3 = back x2 heldLengthsAt heldSize hl
 
-module _ (rec : List ℕ) (p : Plan) (b y : Block) (long : recordSize ≤ length rec) {x l c hl hc : List ℕ} (ex : x ≡ put rec 0 (numbersIn (p .numbers)))
+module _ (rec : List ℕ) (p : Plan) (b : Block) (long : recordSize ≤ length rec) {x l c hl hc : List ℕ} (ex : x ≡ put rec 0 (numbersIn (p .numbers)))
     (el : l ≡ lengthsAfter (p .queue) b (take queueSize (drop lengthsAt x)))
     (ec : c ≡ blocksAfter (p .queue) b (take placesSize (drop blocksAt (x1 x l c hl))))
-    (ehl : hl ≡ lengthsAfter (p .held) y (take heldSize (drop heldLengthsAt (x2 x l c hl))))
-    (ehc : hc ≡ blocksAfter (p .held) y (take placesSize (drop heldBlocksAt (x3 x l c hl)))) (fits : PlanFits p b y) where
+    (ehl : hl ≡ lengthsAfter (p .held) b (take heldSize (drop heldLengthsAt (x2 x l c hl))))
+    (ehc : hc ≡ blocksAfter (p .held) b (take placesSize (drop heldBlocksAt (x3 x l c hl)))) (fits : PlanFits p b) where
   length-x : length x ≡ length rec
   length-x = as-many rec p long ex
 
@@ -86,7 +86,7 @@ module _ (rec : List ℕ) (p : Plan) (b y : Block) (long : recordSize ≤ length
   same-x = ap (drop lengthsAt) ex ∙ after-put rec (numbersIn (p .numbers)) 0 lengthsAt (omega (arith, numbers-long (p .numbers))) (omega arith)
 
   l8 : length l ≡ queueSize
-  l8 = lengths-kept b (p .queue) (fits .0) x lengthsAt (omega (arith, length-x)) el
+  l8 = lengths-kept b (p .queue) (fits .0 .0, fits .1) x lengthsAt (omega (arith, length-x)) el
 
   length-1 : length (x1 x l c hl) ≡ length rec
   length-1 = as-long rec x l lengthsAt queueSize blocksAt refl l8 length-x (omega arith) same-x
@@ -95,7 +95,7 @@ module _ (rec : List ℕ) (p : Plan) (b y : Block) (long : recordSize ≤ length
   same-1 = later rec x l lengthsAt queueSize blocksAt refl l8 length-x (omega arith) same-x
 
   c512 : length c ≡ placesSize
-  c512 = blocks-kept b (p .queue) (fits .0) (x1 x l c hl) blocksAt (omega (arith, length-1)) ec
+  c512 = blocks-kept b (p .queue) (fits .0 .0, fits .1) (x1 x l c hl) blocksAt (omega (arith, length-1)) ec
 
   length-2 : length (x2 x l c hl) ≡ length rec
   length-2 = as-long rec (x1 x l c hl) c blocksAt placesSize heldLengthsAt refl c512 length-1 (omega arith) same-1
@@ -104,25 +104,25 @@ module _ (rec : List ℕ) (p : Plan) (b y : Block) (long : recordSize ≤ length
   same-2 = later rec (x1 x l c hl) c blocksAt placesSize heldLengthsAt refl c512 length-1 (omega arith) same-1
 
   hl8 : length hl ≡ heldSize
-  hl8 = lengths-kept y (p .held) (fits .1) (x2 x l c hl) heldLengthsAt (omega (arith, length-2)) ehl
+  hl8 = lengths-kept b (p .held) (fits .0 .1, fits .1) (x2 x l c hl) heldLengthsAt (omega (arith, length-2)) ehl
 
   length-3 : length (x3 x l c hl) ≡ length rec
   length-3 = as-long rec (x2 x l c hl) hl heldLengthsAt heldSize heldBlocksAt refl hl8 length-2 (omega arith) same-2
 
   hc512 : length hc ≡ placesSize
-  hc512 = blocks-kept y (p .held) (fits .1) (x3 x l c hl) heldBlocksAt (omega (arith, length-3)) ehc
+  hc512 = blocks-kept b (p .held) (fits .0 .1, fits .1) (x3 x l c hl) heldBlocksAt (omega (arith, length-3)) ehc
 
   same-3 : drop heldBlocksAt (x3 x l c hl) ≡ drop heldBlocksAt rec
   same-3 = later rec (x2 x l c hl) hl heldLengthsAt heldSize heldBlocksAt refl hl8 length-2 (omega arith) same-2
 
-  new : recordOf (p .numbers) l c hl hc ≡ carried p b y (decode rec)
+  new : recordOf (p .numbers) l c hl hc ≡ carried p b (decode rec)
   unfolding carried decode
   new =
       let n = p .numbers in
       let e1 = el ∙ ap (λ (z : List ℕ). lengthsAfter (p .queue) b (take queueSize z)) same-x in
       let e2 = ec ∙ ap (λ (z : List ℕ). blocksAfter (p .queue) b (take placesSize z)) same-1 in
-      let e3 = ehl ∙ ap (λ (z : List ℕ). lengthsAfter (p .held) y (take heldSize z)) same-2 in
-      let e4 = ehc ∙ ap (λ (z : List ℕ). blocksAfter (p .held) y (take placesSize z)) same-3 in
+      let e3 = ehl ∙ ap (λ (z : List ℕ). lengthsAfter (p .held) b (take heldSize z)) same-2 in
+      let e4 = ehc ∙ ap (λ (z : List ℕ). blocksAfter (p .held) b (take placesSize z)) same-3 in
       λ i. record {
         state = n .state;
         local = n .local;
@@ -136,7 +136,7 @@ module _ (rec : List ℕ) (p : Plan) (b y : Block) (long : recordSize ≤ length
         «held_blocks» = e4 i;
       }
 
-  pub carried-out : back (x3 x l c hl) heldBlocksAt placesSize hc ≡ put rec 0 (encode (carried p b y (decode rec)))
+  pub carried-out : back (x3 x l c hl) heldBlocksAt placesSize hc ≡ put rec 0 (encode (carried p b (decode rec)))
   carried-out =
       encode-puts (p .numbers) l c hl hc rec (record { lengths = l8; blocks = c512; held-lengths = hl8; held-blocks = hc512 }) long ex
       (lent x l lengthsAt queueSize l8) (lent (x1 x l c hl) c blocksAt placesSize c512) (lent (x2 x l c hl) hl heldLengthsAt heldSize hl8) (lent (x3 x l c hl) hc heldBlocksAt placesSize hc512)
@@ -150,9 +150,9 @@ kept-same : {k : Places} (w : ℕ) (s d : List ℕ) → k ≡ Keep → d ≡ pla
 unfolding placesAfter
 kept-same w s d e = rw e refl
 
-pub kept : (rec : List ℕ) (p : Plan) (b y : Block) → recordSize ≤ length rec → p .queue ≡ Keep → p .held ≡ Keep → PlanFits p b y
-    → {x : List ℕ} → x ≡ put rec 0 (numbersIn (p .numbers)) → x ≡ put rec 0 (encode (carried p b y (decode rec)))
-kept rec p b y long q h fits {x} ex =
+pub kept : (rec : List ℕ) (p : Plan) (b : Block) → recordSize ≤ length rec → p .queue ≡ Keep → p .held ≡ Keep → PlanFits p b
+    → {x : List ℕ} → x ≡ put rec 0 (numbersIn (p .numbers)) → x ≡ put rec 0 (encode (carried p b (decode rec)))
+kept rec p b long q h fits {x} ex =
     let l : List ℕ = take queueSize (drop lengthsAt x) in
     let y1 : List ℕ = back x lengthsAt queueSize l in
     let c : List ℕ = take placesSize (drop blocksAt y1) in
@@ -161,7 +161,7 @@ kept rec p b y long q h fits {x} ex =
     let y3 : List ℕ = back y2 heldLengthsAt heldSize hl in
     let hc : List ℕ = take placesSize (drop heldBlocksAt y3) in
     lent-same x lengthsAt queueSize ∙ lent-same y1 blocksAt placesSize ∙ lent-same y2 heldLengthsAt heldSize ∙ lent-same y3 heldBlocksAt placesSize
-    ∙ carried-out rec p b y long {x = x} {l = l} {c = c} {hl = hl} {hc = hc} ex (kept-same 1 (length b ∷ []) l q) (kept-same longestBlock b c q) (kept-same 1 (length y ∷ []) hl h) (kept-same longestBlock y hc h) fits
+    ∙ carried-out rec p b long {x = x} {l = l} {c = c} {hl = hl} {hc = hc} ex (kept-same 1 (length b ∷ []) l q) (kept-same longestBlock b c q) (kept-same 1 (length b ∷ []) hl h) (kept-same longestBlock b hc h) fits
 
 -- Where every place is written afresh, the arrays are one run of zeros.
 abbrev runSize : ℕ
@@ -170,8 +170,8 @@ runSize = recordSize - lengthsAt
 zeros : (d : List ℕ) (at n : ℕ) → at + n ≤ length d → replicate {A = ℕ} (length (take n (drop at d))) 0 ≡ replicate n 0
 zeros d at n h = ap (λ (k : ℕ). replicate k 0) (length-take-le n (drop at d) (rw length-drop (omega arith)))
 
-module _ (rec : List ℕ) (p : Plan) (b y : Block) (long : recordSize ≤ length rec) (q : p .queue ≡ Clear) (h : p .held ≡ Clear) where
-  all-zeros : encode (carried p b y (decode rec)) ≡ numbersIn (p .numbers) ++ replicate runSize 0
+module _ (rec : List ℕ) (p : Plan) (b : Block) (long : recordSize ≤ length rec) (q : p .queue ≡ Clear) (h : p .held ≡ Clear) where
+  all-zeros : encode (carried p b (decode rec)) ≡ numbersIn (p .numbers) ++ replicate runSize 0
   unfolding encode carried decode placesAfter numbersIn
   all-zeros =
       let z1 = zeros rec lengthsAt queueSize (omega arith) in
@@ -181,7 +181,7 @@ module _ (rec : List ℕ) (p : Plan) (b y : Block) (long : recordSize ≤ length
       rw (q, h) (λ i. numbersIn (p .numbers) ++ (z1 i ++ (z2 i ++ (z3 i ++ z4 i))))
 
   pub cleared : {x z : List ℕ} → x ≡ put rec 0 (numbersIn (p .numbers)) → z ≡ replicate (length (take runSize (drop lengthsAt x))) 0
-      → back x lengthsAt runSize z ≡ put rec 0 (encode (carried p b y (decode rec)))
+      → back x lengthsAt runSize z ≡ put rec 0 (encode (carried p b (decode rec)))
   cleared {x} {z} ex ez =
       let n = p .numbers in
       let l : length x ≡ length rec = as-many rec p long ex in

@@ -16,8 +16,8 @@ use Rattle.call_spec.specs.Answers.{noticeOf, blockIn, blockOf}
 use Rattle.endpoint.specs.declared.Endpoint.{Endpoint}
 use Rattle.endpoint.specs.View.{pack}
 use Rattle.endpoint.specs.Record.{recordSize, encode}
-use Rattle.endpoint_step.proofs.Ready.{restarts-short, restarts-wrong}
-use Rattle.endpoint_step.proofs.Ready as ready
+use Rattle.endpoint_plan.proofs.Ready.{restarts-short, restarts-wrong}
+use Rattle.endpoint_plan.proofs.Ready as ready
 use Rattle.link.specs.declared.Answer.{Answer}
 use Rattle.link.specs.Record.{format}
 use Rattle.link.specs.Lent.{toldOf, statusOf, sentOf, answerOf, Restarted}

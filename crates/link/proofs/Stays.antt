@@ -27,9 +27,9 @@ use Rattle.endpoint.specs.Record.{localAt, remoteAt, acceptedAt, deliveredAt, r
 use Rattle.endpoint.proofs.Packs.{pack-view}
 use Rattle.endpoint.proofs.Record.{encode-decode}
 use Rattle.endpoint.proofs.Sounds.{tidy, tidy-held, view-sound}
-use Rattle.endpoint_step.proofs.Ready as ready
-use Rattle.endpoint_step.proofs.Numbers.{receive-local}
-use Rattle.endpoint_step.proofs.Laws.{accepts}
+use Rattle.endpoint_plan.proofs.Ready as ready
+use Rattle.endpoint_plan.proofs.Numbers.{receive-local}
+use Rattle.endpoint_plan.proofs.Laws.{accepts}
 use Rattle.call_spec.specs.declared.Call.{Call}
 use Rattle.call_spec.specs.declared.Call.the-variants.{Request, Receive}
 use Rattle.call_spec.specs.Calls.{InOctets, given, ownQuestions, asked, performed, pageAfter}

@@ -5,6 +5,8 @@ use mathlib.Core.List.{List}
 use lib.Dec.{leb}
 use lib.ListN.{length}
 use Rattle.octets.specs.Test.{when, Outcome, refused, ok, numberOf}
+use Rattle.frame.specs.Frame.{Block}
+use Rattle.frame.specs.Read.{cutBlock}
 use Rattle.page.specs.Page.{newPage}
 use Rattle.protocol.specs.Endpoint.{fresh}
 use Rattle.protocol.specs.Table.{none, Step, quiet}
@@ -41,14 +43,14 @@ sentOf (ok x) = length (wire (x .sent))
 unfoldable pub answerOf : List ℕ → Outcome Step → Answer
 answerOf rec o = record { status = statusOf rec o; sent = sentOf o; block = length (blockOf o) }
 
--- A call with this outcome, of the record rec, the octets s of a request or of a frame, and the buffers out and up: every octet that it
+-- A call with this outcome, of the record rec, the block b of a request or of a frame, and the buffers out and up: every octet that it
 -- leaves, and where the block handed up stands.
-pub record Called (c : Call) (o : Outcome Step) (rec s out up rec′ out′ up′ : List ℕ) (r : Answer) : Type 0 where
+pub record Called (c : Call) (o : Outcome Step) (rec : List ℕ) (b : Block) (out up rec′ out′ up′ : List ℕ) (r : Answer) : Type 0 where
   pub answer : r ≡ answerOf rec o
   pub end : rec′ ≡ recordAfter format rec o
   pub buffer : out′ ≡ bufferAfter out o
   pub block-buffer : up′ ≡ blockBufferAfter c up o
-  pub block : blockPart c s up′ (r .block) ≡ blockOf o
+  pub block : blockPart c b up′ (r .block) ≡ blockOf o
 
 -- a call with these octets and these buffers, and all that it does
 abbrev pub lentCall : Call → List ℕ → List ℕ → List ℕ → Arguments
@@ -64,7 +66,7 @@ lentOutcome c rec page s out up = performed format rec page (lentCall c s out up
 
 abbrev pub CalledLent : Call → List ℕ → List ℕ → List ℕ → List ℕ → List ℕ → List ℕ → List ℕ → List ℕ → List ℕ → Answer → Type 0
 CalledLent c rec page s out up rec′ page′ out′ up′ r =
-    Called c (lentOutcome c rec page s out up) rec s out up rec′ out′ up′ r × (page′ ≡ pageAfter page (lentOutcome c rec page s out up))
+    Called c (lentOutcome c rec page s out up) rec (cutBlock s) out up rec′ out′ up′ r × (page′ ≡ pageAfter page (lentOutcome c rec page s out up))
 
 -- A restart of a lent record (N6), on this page: what it answers, and every octet that it leaves.
 pub record Restarted (rec page rec′ : List ℕ) (r : Answer) : Type 0 where

@@ -8,24 +8,30 @@ use endpoint::Endpoint;
 use endpoint::HELD_BLOCKS_AT;
 use endpoint::HELD_LENGTHS_AT;
 use endpoint::LENGTHS_AT;
+use frame::Message;
 use octets::refusal;
 use step_plan::Plan;
 ghost use mathlib.Core.Path.{_≡_};
 ghost use mathlib.Core.Bool.{true};
-ghost use mathlib.Core.List.{List, []};
-ghost use Prim.Native.Nat.{ℕ, _+_, _*_, _≤_};
+ghost use mathlib.Core.List.{[]};
+ghost use Prim.Native.Nat.{_+_, _*_, _≤_};
 ghost use lib.ListN.{length};
 ghost use Rattle.octets.specs.Sizes.{pageSize, numbersEach, lastIncarnation};
-ghost use Rattle.octets.specs.Test.{ifEq, first, refused, ok};
+ghost use Rattle.octets.specs.Test.{ifEq, first, Outcome, refused, ok, refusing};
 ghost use Rattle.octets.specs.Octets.{put};
+ghost use Rattle.frame.specs.Read.{cutBlock};
+ghost use Rattle.frame.specs.Answer.{meant};
 ghost use Rattle.page.specs.Page.{runs, count, reserving};
+ghost use Rattle.protocol.specs.Table.{Step};
 ghost use Rattle.call_spec.specs.declared.Call.the-variants.{Receive};
 ghost use Rattle.call_spec.specs.Calls.{given, rooms};
 ghost use Rattle.call_spec.specs.Answers.{blockOf};
 ghost use Rattle.endpoint.specs.Record.{recordSize, encode, decode};
-ghost use Rattle.endpoint_step.specs.Internal.{Plans, PlansAny, Reserved, PlanFits, carried};
-ghost use Rattle.link.specs.Record.{format, pagedFor, recordQuestions};
-ghost use Rattle.link.specs.Lent.{statusOf, stands, answerOf, Called, lentCall, lentOutcome, CalledLent, Restarted, answerIn};
+ghost use Rattle.endpoint.specs.Internal.{numbersOf};
+ghost use Rattle.endpoint_places.specs.Internal.{PlanFits, carried};
+ghost use Rattle.endpoint_plan.specs.Internal.{inputOf, Plannable, PlannedBy, PlansFor, Plans, Reserved};
+ghost use Rattle.link.specs.Record.{format, pagedFor, recordQuestions, callQuestions};
+ghost use Rattle.link.specs.Lent.{statusOf, stands, answerOf, Called, lentOutcome, CalledLent, Restarted, answerIn};
 
 // The octets of a record.
 pub const RECORD_SIZE: usize = endpoint::RECORD_SIZE;
@@ -156,41 +162,41 @@ pub fn restart(rec: &mut [u8], page: &[u8]) -> Answer
     }
 }
 
-// The plan of a call, from the record's own octets and its page: s has those of a request or of a frame, room and block_room are the lengths of
-// the buffers for a frame out and for a block. Nothing is stored.
-pub fn plan_call(
-    call: Call,
-    rec: &[u8],
-    page: &[u8],
-    s: &[u8],
-    room: usize,
-    block_room: usize,
-) -> Plan
+// 11, 12 and 15 of a call of a lent record with its page; room and block_room are the lengths of the buffers for a frame out and for a block. 0 where all
+// are passed.
+fn refusal_of(call: Call, rec: &[u8], page: &[u8], room: usize, block_room: usize) -> u8
+    ensures { λ r. ⌜ r ≡ first (callQuestions (now (rec .entry)) (now (page .entry)) (given call [] (rooms room «block_room»))) ⌝ }
+{
+    if !endpoint_plan::rooms_ok(call, room, block_room) {
+        return refusal::SHORT_BUFFER;
+    }
+    ready(rec, page)
+}
+
+// The message of a call of a lent record: its questions, and then what its octets s are read as.
+fn message(call: Call, rec: &[u8], page: &[u8], s: &[u8], room: usize, block_room: usize) -> Message
+    ensures { λ r. ⌜ meant r (cutBlock (now (s .entry))) ≡ refusing (first (callQuestions (now (rec .entry)) (now (page .entry)) (given call [] (rooms room «block_room»)))) (inputOf call (now (s .entry))) ⌝ }
+{
+    let number = refusal_of(call, rec, page, room, block_room);
+    endpoint_plan::read_after(number, call, s)
+}
+
+// The plan of a message at a record, whose numbers and held lengths are read where they lie. Nothing is stored.
+pub fn plan(m: Message, rec: &[u8]) -> Plan
+    requires { ⌜ (recordSize ≤ length (now rec)) × Plannable m (numbersOf (decode (now rec))) (decode (now rec) .«held_lengths») ⌝ }
+    ensures { λ r. ⌜ PlannedBy m (numbersOf (decode (now (rec .entry)))) (decode (now (rec .entry)) .«held_lengths») r ⌝ }
+{
+    let n = endpoint::load_numbers(rec);
+    endpoint_plan::plan(m, n, &rec[HELD_LENGTHS_AT..HELD_BLOCKS_AT])
+}
+
+// The plan of a call of a lent record that is long enough.
+fn plan_call(call: Call, rec: &[u8], page: &[u8], s: &[u8], room: usize, block_room: usize) -> Plan
     requires { ⌜ recordSize ≤ length (now rec) ⌝ }
     ensures { λ r. ⌜ Plans (decode (now (rec .entry))) (now (page .entry)) (given call (now (s .entry)) (rooms room «block_room»)) r ⌝ }
 {
-    let n = endpoint::load_numbers(rec);
-    endpoint_step::plan_call(
-        call,
-        n,
-        &rec[LENGTHS_AT..BLOCKS_AT],
-        &rec[BLOCKS_AT..HELD_LENGTHS_AT],
-        &rec[HELD_LENGTHS_AT..HELD_BLOCKS_AT],
-        &rec[HELD_BLOCKS_AT..RECORD_SIZE],
-        page,
-        s,
-        room,
-        block_room,
-    )
-}
-
-// The plan of a call where 11, 12 and 15 are passed.
-pub fn plan_sound(call: Call, rec: &[u8], s: &[u8]) -> Plan
-    requires { ⌜ (recordSize ≤ length (now rec)) × (format .sound (now rec) ≡ true) ⌝ }
-    ensures { λ r. ⌜ PlansAny (decode (now (rec .entry))) call (now (s .entry)) r ⌝ }
-{
-    let n = endpoint::load_numbers(rec);
-    endpoint_step::plan_sound(call, n, &rec[HELD_LENGTHS_AT..HELD_BLOCKS_AT], s)
+    let m = message(call, rec, page, s, room, block_room);
+    plan(m, rec)
 }
 
 // The one store of a planned call to its page, before all its others: the number that the plan leaves is reserved. A refusal stores nothing.
@@ -204,83 +210,73 @@ pub fn reserve(p: Plan, page: &mut [u8])
     page::reserve(p.numbers.local, page);
 }
 
-// Changes the record where it lies: its numbers, and of the lengths and blocks what the plan says; joined is the block that joins those
-// that wait, early the one that joins those held. Places that all stay are passed over, and those that are all written afresh are one run of octets.
-fn store<'a>(p: Plan, joined: &'a [u8], early: &'a [u8], rec: &mut [u8])
-    requires { ⌜ (recordSize ≤ length (now rec)) × PlanFits p (now joined) (now early) ⌝ }
-    ensures { λ _. ⌜ now (rec .exit) ≡ put (now (rec .entry)) 0 (encode (carried p (now (joined .entry)) (now (early .entry)) (decode (now (rec .entry))))) ⌝ }
+// Changes the record where it lies: its numbers, and of the lengths and blocks what the plan says, where the block joins those that wait or those held.
+// Places that all stay are passed over, and those that are all written afresh are one run of octets.
+fn store(p: Plan, block: &[u8], rec: &mut [u8])
+    requires { ⌜ (recordSize ≤ length (now rec)) × PlanFits p (now block) ⌝ }
+    ensures { λ _. ⌜ now (rec .exit) ≡ put (now (rec .entry)) 0 (encode (carried p (now (block .entry)) (decode (now (rec .entry))))) ⌝ }
 {
     let n = p.numbers;
     endpoint::store_numbers(n, rec);
     let queue = p.queue;
     let held = p.held;
-    if endpoint_step::keeps(queue, held) {
+    if endpoint_places::keeps(queue, held) {
         return;
     }
-    if endpoint_step::clears(n.state, queue, held) {
-        endpoint_step::clear(&mut rec[LENGTHS_AT..RECORD_SIZE]);
+    if endpoint_places::clears(n.state, queue, held) {
+        endpoint_places::clear(&mut rec[LENGTHS_AT..RECORD_SIZE]);
         return;
     }
-    let count = [joined.len() as u8];
-    endpoint_step::change_places(queue, 1, &count, &mut rec[LENGTHS_AT..BLOCKS_AT]);
-    endpoint_step::change_places(
+    let count = [block.len() as u8];
+    endpoint_places::change_places(queue, 1, &count, &mut rec[LENGTHS_AT..BLOCKS_AT]);
+    endpoint_places::change_places(
         queue,
         Endpoint::LONGEST_BLOCK,
-        joined,
+        block,
         &mut rec[BLOCKS_AT..HELD_LENGTHS_AT],
     );
-    let early_count = [early.len() as u8];
-    endpoint_step::change_places(
-        held,
-        1,
-        &early_count,
-        &mut rec[HELD_LENGTHS_AT..HELD_BLOCKS_AT],
-    );
-    endpoint_step::change_places(
+    endpoint_places::change_places(held, 1, &count, &mut rec[HELD_LENGTHS_AT..HELD_BLOCKS_AT]);
+    endpoint_places::change_places(
         held,
         Endpoint::LONGEST_BLOCK,
-        early,
+        block,
         &mut rec[HELD_BLOCKS_AT..RECORD_SIZE],
     );
 }
 
-// The other stores of a planned call, and its answer: the frame out, the block handed up, then the record. A plan that refuses stores nothing.
-// They come after the page's one store: the number that the plan leaves is reserved on the page that is lent, and nothing can store to it here.
+// The other stores of a planned call, whose message has this block, and its answer: the frame out, the block handed up, then the record. A plan that refuses
+// stores nothing. They come after the page's one store: the number that the plan leaves is reserved on the page that is lent, and nothing can store to it here.
 pub fn finish(
     call: Call,
     p: Plan,
     page: &[u8],
     rec: &mut [u8],
-    s: &[u8],
+    block: &[u8],
     out: &mut [u8],
     up: &mut [u8],
 ) -> Answer
-    requires { ⌜ (recordSize ≤ length (now rec)) × (Reserved p (now page) × ((planned : List ℕ) × Plans (decode (now rec)) planned (lentCall call (now s) (now out) (now up)) p)) ⌝ }
-    ensures { λ r. ⌜ ((planned : List ℕ) → Plans (decode (now (rec .entry))) planned (lentCall call (now (s .entry)) (now (out .entry)) (now (up .entry))) p → Called call (lentOutcome call (now (rec .entry)) planned (now (s .entry)) (now (out .entry)) (now (up .entry))) (now (rec .entry)) (now (s .entry)) (now (out .entry)) (now (up .entry)) (now (rec .exit)) (now (out .exit)) (now (up .exit)) r) ⌝ }
+    requires { ⌜ (recordSize ≤ length (now rec)) × (Reserved p (now page) × ((o : Outcome Step) × PlansFor call (rooms (length (now out)) (length (now up))) (decode (now rec)) (now block) o p)) ⌝ }
+    ensures { λ r. ⌜ ((o : Outcome Step) → PlansFor call (rooms (length (now (out .entry))) (length (now (up .entry)))) (decode (now (rec .entry))) (now (block .entry)) o p → Called call o (now (rec .entry)) (now (block .entry)) (now (out .entry)) (now (up .entry)) (now (rec .exit)) (now (out .exit)) (now (up .exit)) r) ⌝ }
 {
     if p.number != step_plan::ACCEPTED {
         return refuse(rec, p.number);
     }
-    let queue = p.queue;
-    let joined = step_plan::joined(queue, frame::SEND_BLOCK_AT, s);
-    let sent = endpoint_step::send(
+    let sent = endpoint_places::send(
         p,
-        joined,
+        block,
         &rec[LENGTHS_AT..BLOCKS_AT],
         &rec[BLOCKS_AT..HELD_LENGTHS_AT],
         out,
     );
-    let block = endpoint_step::hand_up(
+    let handed = endpoint_places::hand_up(
         call,
         p.notice,
         &rec[HELD_LENGTHS_AT..HELD_BLOCKS_AT],
         &rec[HELD_BLOCKS_AT..RECORD_SIZE],
-        s,
+        block,
         up,
     );
-    let held = p.held;
-    let early = step_plan::joined(held, frame::DATA_BLOCK_AT, s);
-    store(p, joined, early, rec);
+    store(p, block, rec);
     let after = p.numbers;
     Answer {
         status: Status {
@@ -291,7 +287,7 @@ pub fn finish(
             remote: after.remote,
         },
         sent,
-        block,
+        block: handed,
     }
 }
 
@@ -311,18 +307,26 @@ pub fn perform(
     }
     let p = plan_call(call, rec, page, s, out.len(), up.len());
     reserve(p, page);
-    finish(call, p, page, rec, s, out, up)
+    finish(call, p, page, rec, frame_read::cut_block(s), out, up)
 }
 
-// A frame received by a call that only looks at the page: no number is begun, so that nothing has to be reserved.
-fn hear(rec: &mut [u8], page: &[u8], s: &[u8], out: &mut [u8], up: &mut [u8]) -> Answer
-    ensures { λ r. ⌜ Called Receive (lentOutcome Receive (now (rec .entry)) (now (page .entry)) (now (s .entry)) (now (out .entry)) (now (up .entry))) (now (rec .entry)) (now (s .entry)) (now (out .entry)) (now (up .entry)) (now (rec .exit)) (now (out .exit)) (now (up .exit)) r ⌝ }
+// A frame received by a call that only looks at the page: no number is begun, so that nothing has to be reserved. block is its block.
+fn hear(
+    rec: &mut [u8],
+    page: &[u8],
+    s: &[u8],
+    block: &[u8],
+    out: &mut [u8],
+    up: &mut [u8],
+) -> Answer
+    requires { ⌜ now block ≡ cutBlock (now s) ⌝ }
+    ensures { λ r. ⌜ (let o : Outcome Step = lentOutcome Receive (now (rec .entry)) (now (page .entry)) (now (s .entry)) (now (out .entry)) (now (up .entry)) in Called Receive o (now (rec .entry)) (now (block .entry)) (now (out .entry)) (now (up .entry)) (now (rec .exit)) (now (out .exit)) (now (up .exit)) r) ⌝ }
 {
     if rec.len() < RECORD_SIZE {
         return refuse(rec, refusal::SHORT_BUFFER);
     }
     let p = plan_call(Call::Receive, rec, page, s, out.len(), up.len());
-    finish(Call::Receive, p, page, rec, s, out, up)
+    finish(Call::Receive, p, page, rec, block, out, up)
 }
 
 // Receives the frame s. Gives the block handed up, a part of s, empty where there is none; the number, state, notice, L, D and
@@ -339,10 +343,11 @@ pub fn receive<'a>(
     remote: &mut u32,
     sent: &mut usize,
 ) -> &'a [u8]
-    ensures { λ r. ⌜ Called Receive (lentOutcome Receive (now (rec .entry)) (now (page .entry)) (now (s .entry)) (now (out .entry)) []) (now (rec .entry)) (now (s .entry)) (now (out .entry)) [] (now (rec .exit)) (now (out .exit)) [] (answerIn (now (number .exit)) (now (state .exit)) (now (notice .exit)) (now (local .exit)) (now (remote .exit)) (now (sent .exit)) (length (now r))) × (now r ≡ blockOf (lentOutcome Receive (now (rec .entry)) (now (page .entry)) (now (s .entry)) (now (out .entry)) [])) ⌝ }
+    ensures { λ r. ⌜ (let o : Outcome Step = lentOutcome Receive (now (rec .entry)) (now (page .entry)) (now (s .entry)) (now (out .entry)) [] in Called Receive o (now (rec .entry)) (cutBlock (now (s .entry))) (now (out .entry)) [] (now (rec .exit)) (now (out .exit)) [] (answerIn (now (number .exit)) (now (state .exit)) (now (notice .exit)) (now (local .exit)) (now (remote .exit)) (now (sent .exit)) (length (now r))) × (now r ≡ blockOf o)) ⌝ }
 {
     let mut none = [0u8; 0];
-    let a = hear(rec, page, s, out, &mut none);
+    let block = frame_read::cut_block(s);
+    let a = hear(rec, page, s, block, out, &mut none);
     let told = a.status;
     *number = told.number;
     *state = told.state;
@@ -350,5 +355,5 @@ pub fn receive<'a>(
     *local = told.local;
     *remote = told.remote;
     *sent = a.sent;
-    step_plan::handed_up(told.notice, s)
+    step_plan::handed_up(told.notice, block)
 }

@@ -1,5 +1,5 @@
 -- What the plans that many rows share come to.
-use Prim.Native.Nat.{ℕ, zero, suc, _+_, _-_, _≤_}
+use Prim.Native.Nat.{ℕ, zero, suc, _+_, _-_, _≤_, _<_}
 use mathlib.Core.Path.{_≡_, refl, sym, ap, _∙_}
 use mathlib.Core.Logic.{_≢_}
 use mathlib.Core.Bool.{true, false, false≢true}
@@ -7,16 +7,16 @@ use mathlib.Core.List.{List, [], _∷_, _++_}
 use native.Mathlib.Omega.{arith}
 use borrow.Author.Tests.{eqb-true}
 use lib.Dec.{eqb}
-use lib.ListN.{length, drop, getD, replicate, length-drop, drop-of-length-le, List·getD-eq-default}
-use Rattle.frame.specs.Layout.{sendBlockAt, dataBlockAt}
-use Rattle.octets.specs.Test.{zeros, Outcome, refused, ok, numberOf}
-use Rattle.octets.specs.Sizes.{longestBlock, heldSize}
+use lib.ListN.{length, drop, getD, replicate, length-append, length-drop, drop-of-length-le, List·getD-eq-default}
+use Rattle.frame.specs.Layout.{isFrame}
+use Rattle.octets.specs.Test.{when, ifEq, inRange, zeros, Outcome, refused, ok, numberOf}
+use Rattle.octets.specs.Sizes.{longestBlock, queueSize, heldSize}
 use Rattle.octets.proofs.Test.{both, split, if-eq}
 use Rattle.octets.proofs.Each.{zeros-of}
-use Rattle.frame.specs.Frame.{Block}
-use Rattle.frame.specs.declared.Header.the-variants.{Ack}
+use Rattle.frame.specs.Frame.{Block, ACK, dataFrame}
+use Rattle.frame.specs.Answer.{headerOf}
 use Rattle.protocol.specs.Endpoint.{Endpoint, noneHeld, lengthsOf}
-use Rattle.protocol.specs.Table.{Notice, none, handedUp, noticeNumber, Step, quiet, turned, movedDown, delivering, heldAt}
+use Rattle.protocol.specs.Table.{Notice, none, handedUp, noticeNumber, Step, quiet, says, turned, movedDown, delivering, heldAt}
 use Rattle.protocol.specs.Table as table
 use Rattle.protocol.specs.Requests.{begun}
 use Rattle.protocol.proofs.Facts.{getD-moved, none-at}
@@ -29,8 +29,8 @@ use Rattle.step_plan.specs.declared.Plan.{Plan}
 use Rattle.step_plan.specs.declared.Places.{Places}
 use Rattle.step_plan.specs.declared.Places.the-variants.{Keep, Join, Release, Clear}
 use Rattle.call_spec.specs.Answers.{noticeOf, sentIn, endpointAfter}
-use Rattle.step_plan.specs.Internal.{joinedBy, Reaches, queueAfter, heldAfter, Room, HeldRoom, blockOut, sentBy, Comes}
-use Rattle.step_plan.specs.Internal.{refusedPlan, keeping, leaving, clearing, emptying, deliveringNumbers, handing, turning, beginning, holdingPlan, releasingPlan}
+use Rattle.step_plan.specs.Internal.{queueAfter, heldAfter, Room, HeldRoom, blockOut, sentBy, Known, Comes}
+use Rattle.step_plan.specs.Internal.{refusedPlan, keeping, leaving, clearing, emptying, deliveringNumbers, handing, turning, beginning, joining, holdingPlan, releasingPlan}
 
 -- an accepted call
 abbrev pub answers : Endpoint → Notice → Reply → Block → Outcome Step
@@ -114,70 +114,90 @@ module _ (n : Numbers) (q : List Block) (b old : Block) (w : length q ≡ n .wai
   unfolding emptying
   out-emptied = if-eq (λ (p : Places). blockOut p b old ≡ old) (n .waiting) 0 (λ _. refl) (λ _. refl)
 
-module _ (n : Numbers) (q h : List Block) (b x old : Block) (w : length q ≡ n .waiting) {o : Outcome Step} {p : Plan} where
-  pub refuses : (k : ℕ) → o ≡ refused k → p ≡ refusedPlan n k → Comes n q h b x old o p
+module _ (n : Numbers) (q h : List Block) (b old : Block) (w : length q ≡ n .waiting) {o : Outcome Step} {p : Plan} where
+  pub refuses : (k : ℕ) → o ≡ refused k → p ≡ refusedPlan n k → Comes n q h b old o p
   unfolding numberOf noticeOf sentIn endpointAfter queueAfter heldAfter sentBy
   refuses k g e =
-      rw (g, e) (record { number = refl; notice = refl; endpoint = refl; counted = sym w; room = tt; place = tt; sent = refl })
+      rw (g, e) (record { number = refl; notice = refl; endpoint = refl; counted = sym w; room = tt; place = tt; known = tt; sent = refl })
 
-  pub keeps : (i : Notice) (r : Reply) → o ≡ answers (holding n q h) i r old → p ≡ keeping n (noticeNumber i) r → Comes n q h b x old o p
+  pub keeps : (i : Notice) (r : Reply) → Known r → o ≡ answers (holding n q h) i r old → p ≡ keeping n (noticeNumber i) r → Comes n q h b old o p
   unfolding numberOf noticeOf sentIn endpointAfter queueAfter heldAfter
-  keeps i r g e =
-      rw (g, e) (record { number = refl; notice = refl; endpoint = refl; counted = sym w; room = tt; place = tt; sent = refl })
+  keeps i r k g e =
+      rw (g, e) (record { number = refl; notice = refl; endpoint = refl; counted = sym w; room = tt; place = tt; known = k; sent = refl })
 
-  pub holds : (i : ℕ) → HeldRoom (Join i) x h → o ≡ answers (holding n q (heldAt i x h)) none (Frame (Ack (n .local) (n .remote) (n .delivered))) old
-      → p ≡ holdingPlan n i → Comes n q h b x old o p
-  unfolding numberOf noticeOf sentIn endpointAfter queueAfter heldAfter noticeNumber
+  pub holds : (i : ℕ) → HeldRoom (Join i) b h → o ≡ answers (holding n q (heldAt i b h)) none (Frame (headerOf ACK (n .local) (n .remote) (n .delivered))) old
+      → p ≡ holdingPlan n i → Comes n q h b old o p
+  unfolding numberOf noticeOf sentIn endpointAfter queueAfter heldAfter noticeNumber isFrame inRange
   holds i m g e =
-      rw (g, e) (record { number = refl; notice = refl; endpoint = refl; counted = sym w; room = tt; place = m; sent = refl })
+      rw (g, e) (record { number = refl; notice = refl; endpoint = refl; counted = sym w; room = tt; place = m; known = refl; sent = refl })
+
+  pub joins : n .waiting < queueSize → 1 ≤ length b → length b ≤ longestBlock
+      → o ≡ ok (says (record { state = n .state; local = n .local; remote = n .remote; accepted = n .accepted + 1; delivered = n .delivered; queue = q ++ (b ∷ []); held = h }) none (dataFrame (n .local) (n .remote) (n .accepted) b))
+      → p ≡ joining n → Comes n q h b old o p
+  unfolding numberOf noticeOf sentIn endpointAfter queueAfter heldAfter sentBy noticeNumber isFrame inRange ifEq when
+  joins free lo hi g e =
+      rw (g, e)
+      (record {
+        number = refl;
+        notice = refl;
+        endpoint = refl;
+        counted = omega (arith, length-append q (b ∷ []));
+        room = (sym w, (omega arith, (lo, hi)));
+        place = tt;
+        known = refl;
+        sent = refl;
+      })
 
   module _ (z : List ℕ) (lz : lengthsOf h ≡ z) (l8 : length z ≡ heldSize) where
-    pub hands : (y : Block) → o ≡ answers (delivering (holding n q h)) (handedUp y) (Frame (Ack (n .local) (n .remote) (n .delivered + 1))) old
-        → p ≡ handing n z → Comes n q h b x old o p
-    unfolding numberOf noticeOf sentIn endpointAfter queueAfter noticeNumber
+    pub hands : (y : Block) → o ≡ answers (delivering (holding n q h)) (handedUp y) (Frame (headerOf ACK (n .local) (n .remote) (n .delivered + 1))) old
+        → p ≡ handing n z → Comes n q h b old o p
+    unfolding numberOf noticeOf sentIn endpointAfter queueAfter noticeNumber isFrame inRange
     hands y g e =
         rw (g, e)
         (record {
           number = refl;
           notice = refl;
-          endpoint = ap (λ (l : List Block). holding (deliveringNumbers n) q l) (moved-by z h lz l8 x);
+          endpoint = ap (λ (l : List Block). holding (deliveringNumbers n) q l) (moved-by z h lz l8 b);
           counted = sym w;
           room = tt;
-          place = room-moved z h lz l8 x;
+          place = room-moved z h lz l8 b;
+          known = refl;
           sent = refl;
         })
 
-    pub turns : (st d : ℕ) (i : Notice) (r : Reply) → o ≡ answers (turned st d (holding n q h)) i r old → p ≡ turning n z st d (noticeNumber i) r
-        → Comes n q h b x old o p
+    pub turns : (st d : ℕ) (i : Notice) (r : Reply) → Known r → o ≡ answers (turned st d (holding n q h)) i r old → p ≡ turning n z st d (noticeNumber i) r
+        → Comes n q h b old o p
     unfolding numberOf noticeOf sentIn endpointAfter queueAfter
-    turns st d i r g e =
+    turns st d i r k g e =
         rw (g, e)
         (record {
           number = refl;
           notice = refl;
-          endpoint = λ j. record { state = st; local = n .local; remote = d; accepted = 0; delivered = 0; queue = emptied n q b old w j; held = cleared-by z h lz l8 x j };
+          endpoint = λ j. record { state = st; local = n .local; remote = d; accepted = 0; delivered = 0; queue = emptied n q b old w j; held = cleared-by z h lz l8 b j };
           counted = sym (ap length (emptied n q b old w));
           room = room-emptied n q b old w;
-          place = room-cleared z h lz l8 x;
+          place = room-cleared z h lz l8 b;
+          known = k;
           sent = ap (sentBy r) (out-emptied n q b old w);
         })
 
-    pub begins : (st : ℕ) (r : Reply) → o ≡ answers (begun st (holding n q h)) none r old → p ≡ beginning n z st r → Comes n q h b x old o p
+    pub begins : (st : ℕ) (r : Reply) → Known r → o ≡ answers (begun st (holding n q h)) none r old → p ≡ beginning n z st r → Comes n q h b old o p
     unfolding numberOf noticeOf sentIn endpointAfter queueAfter noticeNumber
-    begins st r g e =
+    begins st r k g e =
         rw (g, e)
         (record {
           number = refl;
           notice = refl;
-          endpoint = λ j. record { state = st; local = n .local + 1; remote = 0; accepted = 0; delivered = 0; queue = emptied n q b old w j; held = cleared-by z h lz l8 x j };
+          endpoint = λ j. record { state = st; local = n .local + 1; remote = 0; accepted = 0; delivered = 0; queue = emptied n q b old w j; held = cleared-by z h lz l8 b j };
           counted = sym (ap length (emptied n q b old w));
           room = room-emptied n q b old w;
-          place = room-cleared z h lz l8 x;
+          place = room-cleared z h lz l8 b;
+          known = k;
           sent = ap (sentBy r) (out-emptied n q b old w);
         })
 
   pub releases : (m : ℕ) → n .waiting ≤ n .accepted → m ≤ n .accepted → o ≡ ok (quiet (table.releasing m (holding n q h)) none)
-      → p ≡ releasingPlan n (m - (n .accepted - n .waiting)) → Comes n q h b x old o p
+      → p ≡ releasingPlan n (m - (n .accepted - n .waiting)) → Comes n q h b old o p
   unfolding numberOf noticeOf sentIn endpointAfter queueAfter heldAfter sentBy noticeNumber
   releases m lo hi g e =
       let k = m - (n .accepted - n .waiting) in
@@ -189,87 +209,6 @@ module _ (n : Numbers) (q h : List Block) (b x old : Block) (w : length q ≡ n 
         counted = omega (arith, length-drop k q);
         room = omega arith;
         place = tt;
+        known = tt;
         sent = refl;
       })
-
--- the block that joins is that of the request, or of the frame
-module _ (at : ℕ) (s : List ℕ) where
-  queue-joined : (k : Places) (q : List Block) → queueAfter k (drop at s) q ≡ queueAfter k (joinedBy k at s) q
-  unfolding queueAfter joinedBy
-  queue-joined Keep q = refl
-  queue-joined (Join i) q = refl
-  queue-joined (Release k) q = refl
-  queue-joined Clear q = refl
-
-  held-joined : (k : Places) (h : List Block) → heldAfter k (drop at s) h ≡ heldAfter k (joinedBy k at s) h
-  unfolding heldAfter joinedBy
-  held-joined Keep h = refl
-  held-joined (Join i) h = refl
-  held-joined (Release k) h = refl
-  held-joined Clear h = refl
-
-  out-joined : (k : Places) (old : Block) → blockOut k (drop at s) old ≡ blockOut k (joinedBy k at s) old
-  unfolding joinedBy
-  out-joined Keep old = refl
-  out-joined (Join i) old = refl
-  out-joined (Release k) old = refl
-  out-joined Clear old = refl
-
-  room-joined : (k : Places) (w : ℕ) → Room k (drop at s) w → Room k (joinedBy k at s) w
-  unfolding joinedBy
-  room-joined Keep w r = r
-  room-joined (Join i) w r = r
-  room-joined (Release k) w r = r
-  room-joined Clear w r = r
-
-  place-joined : (k : Places) (h : List Block) → HeldRoom k (drop at s) h → HeldRoom k (joinedBy k at s) h
-  unfolding joinedBy
-  place-joined Keep h r = r
-  place-joined (Join i) h r = r
-  place-joined (Release k) h r = r
-  place-joined Clear h r = r
-
-  long : 1 ≤ length (drop at s) → at ≤ length s
-  long h = omega (arith, length-drop at s)
-
-  pub queue-reaches : (k : Places) (w : ℕ) → Room k (joinedBy k at s) w → Reaches k at s
-  unfolding joinedBy
-  queue-reaches Keep w r = tt
-  queue-reaches (Join i) w r = long (r .1 .1 .0)
-  queue-reaches (Release k) w r = tt
-  queue-reaches Clear w r = tt
-
-  pub held-reaches : (k : Places) (h : List Block) → HeldRoom k (joinedBy k at s) h → Reaches k at s
-  unfolding joinedBy
-  held-reaches Keep h r = tt
-  held-reaches (Join i) h r = long (r .1 .1 .0)
-  held-reaches (Release k) h r = tt
-  held-reaches Clear h r = tt
-
-  pub queue-short : (k : Places) (w : ℕ) → Room k (joinedBy k at s) w → length (joinedBy k at s) ≤ longestBlock
-  unfolding joinedBy
-  queue-short Keep w r = omega arith
-  queue-short (Join i) w r = r .1 .1 .1
-  queue-short (Release k) w r = omega arith
-  queue-short Clear w r = omega arith
-
-  pub held-short : (k : Places) (h : List Block) → HeldRoom k (joinedBy k at s) h → length (joinedBy k at s) ≤ longestBlock
-  unfolding joinedBy
-  held-short Keep h r = omega arith
-  held-short (Join i) h r = r .1 .1 .1
-  held-short (Release k) h r = omega arith
-  held-short Clear h r = omega arith
-
-pub by-joined : {n : Numbers} {q h : List Block} (s : List ℕ) {old : Block} {o : Outcome Step} {p : Plan}
-    → Comes n q h (drop sendBlockAt s) (drop dataBlockAt s) old o p
-    → Comes n q h (joinedBy (p .queue) sendBlockAt s) (joinedBy (p .held) dataBlockAt s) old o p
-by-joined {q = q} {h} s {old} {p = p} c =
-    record {
-      number = c .number;
-      notice = c .notice;
-      endpoint = rw (queue-joined sendBlockAt s (p .queue) q, held-joined dataBlockAt s (p .held) h) at (c .endpoint);
-      counted = rw (queue-joined sendBlockAt s (p .queue) q) at (c .counted);
-      room = room-joined sendBlockAt s (p .queue) (length q) (c .room);
-      place = place-joined dataBlockAt s (p .held) h (c .place);
-      sent = rw (out-joined sendBlockAt s (p .queue) old) at (c .sent);
-    }

@@ -3,14 +3,16 @@
 use Prim.Native.Nat.{ℕ, _≤_, _<_, _+_, _-_}
 use mathlib.Core.Path.{_≡_}
 use mathlib.Core.Logic.{_≢_}
+use mathlib.Core.Bool.{Bool, true, false, _&&_}
 use mathlib.Core.List.{List, [], _∷_, _++_}
+use lib.Dec.{eqb}
 use lib.ListN.{length, drop, getD, replicate}
 use Rattle.octets.specs.Sizes.{longestBlock, queueSize, heldSize}
 use Rattle.octets.specs.Test.{when, ifEq, zeros, Outcome, numberOf}
 use Rattle.octets.specs.Octets.{put}
-use Rattle.frame.specs.Frame.{Block}
-use Rattle.frame.specs.declared.Header.the-variants.{Ack}
-use Rattle.frame.specs.Answer.{frameOf}
+use Rattle.frame.specs.Frame.{Block, DATA, ACK}
+use Rattle.frame.specs.Layout.{isFrame}
+use Rattle.frame.specs.Answer.{headerOf, frameOf}
 use Rattle.protocol.specs.Endpoint.{Endpoint, noneHeld, lengthsOf}
 use Rattle.protocol.specs.Table.{Sent, nothing, frame, Step, heldAt}
 use Rattle.call_spec.specs.Calls.{wire}
@@ -27,20 +29,6 @@ use Rattle.step_plan.specs.declared.Reply.the-variants.{Nothing, Frame}
 -- the block that a notice tells of: with notice 5 that of the DATA received or, of a request, the first of the held ones; else none
 unfoldable pub blockBy : ℕ → Block → Block
 blockBy n b = ifEq n 5 b []
-
--- the block that joins some places, which is what follows in the octets s from at on; none where none joins
-unfoldable pub joinedBy : Places → ℕ → List ℕ → Block
-joinedBy Keep at s = []
-joinedBy (Join i) at s = drop at s
-joinedBy (Release k) at s = []
-joinedBy Clear at s = []
-
--- s is that long
-abbrev pub Reaches : Places → ℕ → List ℕ → Type 0
-Reaches Keep at s = Unit {0}
-Reaches (Join i) at s = at ≤ length s
-Reaches (Release k) at s = Unit {0}
-Reaches Clear at s = Unit {0}
 
 -- the waiting blocks q after the plan; b is the block that joins
 unfoldable pub queueAfter : Places → Block → List Block → List Block
@@ -81,26 +69,50 @@ unfoldable pub sentBy : Reply → Block → Sent
 sentBy reply.Nothing b = nothing
 sentBy (reply.Frame h) b = frame (frameOf h b)
 
+-- what is sent is of a frame's kind
+abbrev pub Known : Reply → Type 0
+Known reply.Nothing = Unit {0}
+Known (reply.Frame h) = isFrame (h .kind) ≡ true
+
 -- the first of the waiting blocks, if there are any
 abbrev pub Oldest : List Block → Block → Type 0
 Oldest [] old = Unit {0}
 Oldest (b ∷ q) old = b ≡ old
 
--- The plan p comes to the outcome o, of an endpoint with these numbers, the waiting blocks q and the held ones h; b is the block that
--- joins those that wait, x the one that joins those held, old the oldest.
-pub record Comes (n : Numbers) (q h : List Block) (b x old : Block) (o : Outcome Step) (p : Plan) : Type 0 where
+-- The plan p comes to the outcome o, of an endpoint with these numbers, the waiting blocks q and the held ones h; b is the block of the message, which
+-- joins those that wait or those held, old the oldest that waits.
+pub record Comes (n : Numbers) (q h : List Block) (b old : Block) (o : Outcome Step) (p : Plan) : Type 0 where
   pub number : p .number ≡ numberOf o
   pub notice : p .notice ≡ noticeOf o
-  pub endpoint : holding (p .numbers) (queueAfter (p .queue) b q) (heldAfter (p .held) x h) ≡ endpointAfter (holding n q h) o
+  pub endpoint : holding (p .numbers) (queueAfter (p .queue) b q) (heldAfter (p .held) b h) ≡ endpointAfter (holding n q h) o
   pub counted : p .numbers .waiting ≡ length (queueAfter (p .queue) b q)
   pub room : Room (p .queue) b (length q)
-  pub place : HeldRoom (p .held) x h
+  pub place : HeldRoom (p .held) b h
+  pub known : Known (p .reply)
   pub sent : sentBy (p .reply) (blockOut (p .queue) b old) ≡ sentIn o
 
 -- of every endpoint of these numbers, whose held blocks have the lengths z
-abbrev pub Planned : Numbers → List ℕ → Block → Block → (Endpoint → Outcome Step) → Plan → Type 0
-Planned n z b x does p =
-    (q h : List Block) (old : Block) → length q ≡ n .waiting → Oldest q old → lengthsOf h ≡ z → Comes n q h b x old (does (holding n q h)) p
+abbrev pub Planned : Numbers → List ℕ → Block → (Endpoint → Outcome Step) → Plan → Type 0
+Planned n z b does p =
+    (q h : List Block) (old : Block) → length q ≡ n .waiting → Oldest q old → lengthsOf h ≡ z → Comes n q h b old (does (holding n q h)) p
+
+-- A plan leaves an end of these numbers as it is: the waiting blocks change only with their count.
+unfoldable pub staying : Places → Bool
+staying Keep = true
+staying (Join i) = false
+staying (Release k) = false
+staying Clear = false
+
+unfoldable pub sameNumbers : Numbers → Numbers → Bool
+sameNumbers n m =
+    eqb (n .state) (m .state)
+    && (eqb (n .local) (m .local)
+    && (eqb (n .remote) (m .remote)
+    && (eqb (n .accepted) (m .accepted)
+    && (eqb (n .delivered) (m .delivered) && eqb (n .waiting) (m .waiting)))))
+
+abbrev pub leavesAlone : Plan → Numbers → Bool
+leavesAlone p n = sameNumbers (p .numbers) n && staying (p .held)
 
 -- What is left in the buffer where x is sent, and the count of its octets.
 pub record Sends (x : Sent) (out out′ : List ℕ) (n : ℕ) : Type 0 where
@@ -141,7 +153,7 @@ handing n z =
       queue = Keep;
       held = leaving z 1;
       notice = 5;
-      reply = Frame (Ack (n .local) (n .remote) (n .delivered + 1));
+      reply = Frame (headerOf ACK (n .local) (n .remote) (n .delivered + 1));
     }
 
 -- all blocks leave, in the same incarnation and in the next
@@ -167,10 +179,22 @@ beginning n z st reply =
       reply = reply;
     }
 
+-- a block more waits
+abbrev pub joining : Numbers → Plan
+joining n =
+    record {
+      number = 0;
+      numbers = record { state = n .state; local = n .local; remote = n .remote; accepted = n .accepted + 1; delivered = n .delivered; waiting = n .waiting + 1 };
+      queue = Join (n .waiting);
+      held = Keep;
+      notice = 0;
+      reply = Frame (headerOf DATA (n .local) (n .remote) (n .accepted));
+    }
+
 -- the frame's block is held at place i
 abbrev pub holdingPlan : Numbers → ℕ → Plan
 holdingPlan n i =
-    record { number = 0; numbers = n; queue = Keep; held = Join i; notice = 0; reply = Frame (Ack (n .local) (n .remote) (n .delivered)) }
+    record { number = 0; numbers = n; queue = Keep; held = Join i; notice = 0; reply = Frame (headerOf ACK (n .local) (n .remote) (n .delivered)) }
 
 -- the k oldest blocks leave
 abbrev pub releasingPlan : Numbers → ℕ → Plan

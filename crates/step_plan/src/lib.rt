@@ -1,15 +1,19 @@
 // What a call of an end comes to, planned from the numbers of its record and the lengths of its held blocks. Whoever holds the record carries the plan out.
 use call_spec::Call;
+use frame::ACK;
+use frame::DATA;
 use frame::Header;
 use step_rules::Numbers;
 ghost use mathlib.Core.Path.{_≡_};
-ghost use Prim.Native.Nat.{_≤_, _<_};
-ghost use lib.ListN.{length, drop};
-ghost use Rattle.octets.specs.Sizes.{longestFrame, longestBlock, lastNumber};
-ghost use Rattle.frame.specs.Layout.{dataBlockAt};
+ghost use Prim.Native.Nat.{_-_, _≤_, _<_};
+ghost use lib.ListN.{length, getD};
+ghost use Rattle.octets.specs.Sizes.{longestFrame, longestBlock, queueSize, heldSize, lastNumber, lastIncarnation};
+ghost use Rattle.octets.specs.Test.{ifEq};
+ghost use Rattle.frame.specs.Frame.{ACK};
+ghost use Rattle.frame.specs.Answer.{headerOf};
 ghost use Rattle.call_spec.specs.Answers.{blockPart};
-ghost use Rattle.step_plan.specs.Internal.{blockBy, joinedBy, Reaches, blockOut, sentBy, Sends};
-ghost use Rattle.step_plan.specs.Internal.{refusedPlan, keeping, leaving, clearing, emptying, handing, turning};
+ghost use Rattle.step_plan.specs.Internal.{blockBy, blockOut, sentBy, Known, staying, sameNumbers, leavesAlone, Sends};
+ghost use Rattle.step_plan.specs.Internal.{refusedPlan, keeping, leaving, clearing, emptying, handing, turning, beginning, joining, holdingPlan, releasingPlan};
 
 // The number of an answer that refuses nothing.
 pub const ACCEPTED: u8 = 0;
@@ -111,6 +115,18 @@ pub fn clear_queue(waiting: u8) -> Places
     Places::Clear
 }
 
+// A frame of these numbers is sent; one with two numbers only has 0 for the last.
+pub fn say(kind: u8, sender: u32, quoted: u32, number: u32) -> Reply
+    ensures { λ r. ⌜ r ≡ Reply.Frame (headerOf kind sender quoted number) ⌝ }
+{
+    Reply::Frame(Header {
+        kind,
+        sender,
+        quoted,
+        number,
+    })
+}
+
 // One block more is handed up, the frame's or the held one: e + 1, and the held places, whose lengths these are, move down.
 pub fn hand_up(n: Numbers, held: &[u8]) -> Plan
     requires { ⌜ n .delivered < lastNumber ⌝ }
@@ -130,11 +146,7 @@ pub fn hand_up(n: Numbers, held: &[u8]) -> Plan
         queue: Places::Keep,
         held: leave(held, 1),
         notice: HANDED_UP,
-        reply: Reply::Frame(Header::Ack {
-            sender: n.local,
-            quoted: n.remote,
-            count,
-        }),
+        reply: say(ACK, n.local, n.remote, count),
     }
 }
 
@@ -159,9 +171,127 @@ pub fn turn(n: Numbers, held: &[u8], state: u8, remote: u32, notice: u8, reply: 
     }
 }
 
+// The next incarnation in this state, with no partner known.
+pub fn begin(n: Numbers, held: &[u8], state: u8, reply: Reply) -> Plan
+    requires { ⌜ n .local < lastIncarnation ⌝ }
+    ensures { λ r. ⌜ r ≡ beginning n (now (held .entry)) state reply ⌝ }
+{
+    Plan {
+        number: ACCEPTED,
+        numbers: Numbers {
+            state,
+            local: n.local + 1,
+            remote: 0,
+            accepted: 0,
+            delivered: 0,
+            waiting: 0,
+        },
+        queue: clear_queue(n.waiting),
+        held: clear_held(held),
+        notice: NONE,
+        reply,
+    }
+}
+
+// A block joins the waiting ones as number t; then t + 1.
+pub fn join(n: Numbers) -> Plan
+    requires { ⌜ (n .accepted < lastNumber) × (n .waiting < queueSize) ⌝ }
+    ensures { λ r. ⌜ r ≡ joining n ⌝ }
+{
+    Plan {
+        number: ACCEPTED,
+        numbers: Numbers {
+            state: n.state,
+            local: n.local,
+            remote: n.remote,
+            accepted: n.accepted + 1,
+            delivered: n.delivered,
+            waiting: n.waiting + 1,
+        },
+        queue: Places::Join(n.waiting as usize),
+        held: Places::Keep,
+        notice: NONE,
+        reply: say(DATA, n.local, n.remote, n.accepted),
+    }
+}
+
+// The blocks before this number leave; the oldest waiting one has number t - w.
+pub fn release(n: Numbers, number: u32) -> Plan
+    requires { ⌜ (n .waiting ≤ n .accepted) × ((n .accepted - n .waiting < number) × (number ≤ n .accepted)) ⌝ }
+    ensures { λ r. ⌜ r ≡ releasingPlan n (number - (n .accepted - n .waiting)) ⌝ }
+{
+    let gone = number - (n.accepted - (n.waiting as u32));
+    Plan {
+        number: ACCEPTED,
+        numbers: Numbers {
+            state: n.state,
+            local: n.local,
+            remote: n.remote,
+            accepted: n.accepted,
+            delivered: n.delivered,
+            waiting: n.waiting - (gone as u8),
+        },
+        queue: Places::Release(gone as usize),
+        held: Places::Keep,
+        notice: NONE,
+        reply: Reply::Nothing,
+    }
+}
+
+// An early block: the first copy is held at its place, and each copy is acknowledged.
+pub fn hold(n: Numbers, held: &[u8], place: usize) -> Plan
+    requires { ⌜ (length (now held) ≡ heldSize) × (place < heldSize) ⌝ }
+    ensures { λ r. ⌜ r ≡ ifEq (getD (now (held .entry)) place 0) 0 (holdingPlan n place) (keeping n 0 (Reply.Frame (headerOf ACK (n .local) (n .remote) (n .delivered)))) ⌝ }
+{
+    let answer = say(ACK, n.local, n.remote, n.delivered);
+    if held[place] != 0 {
+        return keep(n, NONE, answer);
+    }
+    Plan {
+        number: ACCEPTED,
+        numbers: n,
+        queue: Places::Keep,
+        held: Places::Join(place),
+        notice: NONE,
+        reply: answer,
+    }
+}
+
+// All six are compared without a branch between them.
+fn same(n: Numbers, m: Numbers) -> bool
+    ensures { λ r. ⌜ r ≡ sameNumbers n m ⌝ }
+{
+    (n.state == m.state)
+        & ((n.local == m.local)
+            & ((n.remote == m.remote)
+                & ((n.accepted == m.accepted)
+                    & ((n.delivered == m.delivered) & (n.waiting == m.waiting)))))
+}
+
+// Whether the held blocks stay.
+fn stays(held: Places) -> bool
+    ensures { λ r. ⌜ r ≡ staying held ⌝ }
+{
+    match held {
+        Places::Keep => true,
+        Places::Join(_) => false,
+        Places::Release(_) => false,
+        Places::Clear => false,
+    }
+}
+
+// Whether a plan leaves an end of these numbers as it is: the waiting blocks change only with their count, so that nothing else is compared. A frame
+// whose plan does, and sends nothing, is passed over.
+pub fn leaves_alone(p: Plan, n: Numbers) -> bool
+    ensures { λ r. ⌜ r ≡ leavesAlone p n ⌝ }
+{
+    let held = p.held;
+    same(p.numbers, n) & stays(held)
+}
+
 // Writes what the plan sends at the start of out, and answers its length.
 fn write(reply: Reply, block: &[u8], out: &mut [u8]) -> usize
-    requires { ⌜ (longestFrame ≤ length (now out)) × (length (now block) ≤ longestBlock) ⌝ }
+    requires { ⌜ Known reply × ((longestFrame ≤ length (now out)) × (length (now block) ≤ longestBlock)) ⌝ }
     ensures { λ r. ⌜ Sends (sentBy reply (now (block .entry))) (now (out .entry)) (now (out .exit)) r ⌝ }
 {
     match reply {
@@ -170,55 +300,45 @@ fn write(reply: Reply, block: &[u8], out: &mut [u8]) -> usize
     }
 }
 
-// The block that joins some places, which is what follows in the octets s from at on; empty where none joins.
-pub fn joined<'a>(places: Places, at: usize, s: &'a [u8]) -> &'a [u8]
-    requires { ⌜ Reaches places at (now s) ⌝ }
-    ensures { λ r. ⌜ now r ≡ joinedBy places at (now (s .entry)) ⌝ }
+// The block that goes out with a DATA: the one that joins, else the oldest.
+fn block_out<'a>(queue: Places, joined: &'a [u8], oldest: &'a [u8]) -> &'a [u8]
+    ensures { λ r. ⌜ now r ≡ blockOut queue (now (joined .entry)) (now (oldest .entry)) ⌝ }
 {
-    match places {
-        Places::Keep => &s[..0],
-        Places::Join(_) => &s[at..],
-        Places::Release(_) => &s[..0],
-        Places::Clear => &s[..0],
+    match queue {
+        Places::Keep => oldest,
+        Places::Join(_) => joined,
+        Places::Release(_) => oldest,
+        Places::Clear => oldest,
     }
 }
 
-// Sends what the plan says. joined is the block that joins, oldest the first of the waiting blocks.
-pub fn send_reply(p: Plan, joined: &[u8], oldest: &[u8], out: &mut [u8]) -> usize
-    requires { ⌜ (longestFrame ≤ length (now out)) × ((length (now oldest) ≤ longestBlock) × (length (now joined) ≤ longestBlock)) ⌝ }
+// Sends what the plan says. joined is the block that joins, if one does, oldest the first of the waiting blocks.
+pub fn send_reply<'a>(p: Plan, joined: &'a [u8], oldest: &'a [u8], out: &mut [u8]) -> usize
+    requires { ⌜ Known (p .reply) × ((longestFrame ≤ length (now out)) × ((length (now oldest) ≤ longestBlock) × (length (now joined) ≤ longestBlock))) ⌝ }
     ensures { λ r. ⌜ Sends (sentBy (p .reply) (blockOut (p .queue) (now (joined .entry)) (now (oldest .entry)))) (now (out .entry)) (now (out .exit)) r ⌝ }
 {
     let queue = p.queue;
     let reply = p.reply;
-    match queue {
-        Places::Keep => write(reply, oldest, out),
-        Places::Join(_) => write(reply, joined, out),
-        Places::Release(_) => write(reply, oldest, out),
-        Places::Clear => write(reply, oldest, out),
-    }
+    write(reply, block_out(queue, joined, oldest), out)
 }
 
-// The block that a notice tells of, a part of the frame s received; empty where none is handed up.
-pub fn handed_up<'a>(notice: u8, s: &'a [u8]) -> &'a [u8]
-    requires { ⌜ (notice ≡ 5 → dataBlockAt ≤ length (now s)) ⌝ }
-    ensures { λ r. ⌜ now r ≡ blockBy notice (drop dataBlockAt (now (s .entry))) ⌝ }
+// The block that a notice tells of, that of the frame received; empty where none is handed up.
+pub fn handed_up(notice: u8, block: &[u8]) -> &[u8]
+    ensures { λ r. ⌜ now r ≡ blockBy notice (now (block .entry)) ⌝ }
 {
     if notice != HANDED_UP {
-        return &s[..0];
+        return &block[..0];
     }
-    &s[frame::DATA_BLOCK_AT..]
+    block
 }
 
-// The block handed up, of so many octets: a part of the frame s received; of a request, the start of up.
-pub fn block_part<'a>(call: Call, s: &'a [u8], up: &'a [u8], n: usize) -> &'a [u8]
-    requires { ⌜ length (blockPart call (now s) (now up) n) ≡ n ⌝ }
-    ensures { λ r. ⌜ now r ≡ blockPart call (now (s .entry)) (now (up .entry)) n ⌝ }
+// The block handed up, of so many octets: the start of the frame's block; of a request, the start of up.
+pub fn block_part<'a>(call: Call, block: &'a [u8], up: &'a [u8], n: usize) -> &'a [u8]
+    requires { ⌜ length (blockPart call (now block) (now up) n) ≡ n ⌝ }
+    ensures { λ r. ⌜ now r ≡ blockPart call (now (block .entry)) (now (up .entry)) n ⌝ }
 {
-    if n == 0 {
-        return &s[..0];
-    }
     match call {
         Call::Request => &up[..n],
-        Call::Receive => &s[frame::DATA_BLOCK_AT..frame::DATA_BLOCK_AT + n],
+        Call::Receive => &block[..n],
     }
 }

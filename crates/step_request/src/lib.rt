@@ -1,14 +1,14 @@
 // Requests and the timer call, planned from the numbers of a record and the lengths of its held blocks.
-use frame::Header;
+use frame::CRAO;
+use frame::CRPO;
+use frame::DATA;
+use frame::DR;
 use frame::RequestKind;
-use frame::RequestRead;
 use octets::LAST_INCARNATION;
 use octets::LAST_NUMBER;
 use octets::refusal;
-use step_plan::ACCEPTED;
 use step_plan::CLOSE_FINISHED;
 use step_plan::NONE;
-use step_plan::Places;
 use step_plan::Plan;
 use step_plan::Reply;
 use step_rules::ACTIVE_OPENING;
@@ -22,19 +22,15 @@ ghost use mathlib.Core.Path.{_≡_};
 ghost use Prim.Native.Nat.{ℕ, _≤_, _<_};
 ghost use mathlib.Core.List.{List, [], _∷_};
 ghost use lib.Dec.{ltb, eqb};
-ghost use lib.ListN.{length, drop, getD};
-ghost use Rattle.octets.specs.Sizes.{longestBlock, heldSize, lastNumber, lastIncarnation};
+ghost use lib.ListN.{length, getD};
+ghost use Rattle.octets.specs.Sizes.{longestBlock, heldSize, lastNumber};
 ghost use Rattle.octets.specs.Test.{first};
 ghost use Rattle.frame.specs.Frame.{Block, connect, listen, endListening, close, timer, collect, send};
-ghost use Rattle.frame.specs.Layout.{sendBlockAt};
 ghost use Rattle.frame.specs.Answer.{requestOf};
 ghost use Rattle.protocol.specs.Requests.{request};
 ghost use Rattle.protocol.specs.History.{ask};
 ghost use Rattle.protocol.specs.Limits.{Readable};
-ghost use Rattle.call_spec.specs.declared.Call.the-variants.{Request};
-ghost use Rattle.call_spec.specs.Calls.{does};
 ghost use Rattle.step_plan.specs.Internal.{Planned};
-ghost use Rattle.step_plan.specs.Internal.{beginning};
 
 // The most blocks that wait.
 const QUEUE_SIZE: u8 = octets::QUEUE_SIZE as u8;
@@ -52,61 +48,32 @@ fn refusal_of(n: Numbers, allowed: u8, number: u32, last: u32) -> u8
     0
 }
 
-// The next incarnation in this state, with no partner known.
-fn begin(n: Numbers, held: &[u8], state: u8, reply: Reply) -> Plan
-    requires { ⌜ n .local < lastIncarnation ⌝ }
-    ensures { λ r. ⌜ r ≡ beginning n (now (held .entry)) state reply ⌝ }
-{
-    Plan {
-        number: ACCEPTED,
-        numbers: Numbers {
-            state,
-            local: n.local + 1,
-            remote: 0,
-            accepted: 0,
-            delivered: 0,
-            waiting: 0,
-        },
-        queue: step_plan::clear_queue(n.waiting),
-        held: step_plan::clear_held(held),
-        notice: NONE,
-        reply,
-    }
-}
-
 fn connect(n: Numbers, held: &[u8]) -> Plan
     requires { ⌜ length (now held) ≡ heldSize ⌝ }
-    ensures { λ r. ⌜ ((b x : Block) → Planned n (now (held .entry)) b x (request connect) r) ⌝ }
+    ensures { λ r. ⌜ ((b : Block) → Planned n (now (held .entry)) b (request connect) r) ⌝ }
 {
     let refusal = refusal_of(n, CLOSED, n.local, LAST_INCARNATION);
     if refusal != 0 {
         return step_plan::refuse(n, refusal);
     }
-    begin(
-        n,
-        held,
-        ACTIVE_OPENING,
-        Reply::Frame(Header::Crao {
-            sender: n.local + 1,
-            quoted: 0,
-        }),
-    )
+    let reply = step_plan::say(CRAO, n.local + 1, 0, 0);
+    step_plan::begin(n, held, ACTIVE_OPENING, reply)
 }
 
 fn listen(n: Numbers, held: &[u8]) -> Plan
     requires { ⌜ length (now held) ≡ heldSize ⌝ }
-    ensures { λ r. ⌜ ((b x : Block) → Planned n (now (held .entry)) b x (request listen) r) ⌝ }
+    ensures { λ r. ⌜ ((b : Block) → Planned n (now (held .entry)) b (request listen) r) ⌝ }
 {
     let refusal = refusal_of(n, CLOSED, n.local, LAST_INCARNATION);
     if refusal != 0 {
         return step_plan::refuse(n, refusal);
     }
-    begin(n, held, LISTENING, Reply::Nothing)
+    step_plan::begin(n, held, LISTENING, Reply::Nothing)
 }
 
 fn end_listening(n: Numbers, held: &[u8]) -> Plan
     requires { ⌜ length (now held) ≡ heldSize ⌝ }
-    ensures { λ r. ⌜ ((b x : Block) → Planned n (now (held .entry)) b x (request endListening) r) ⌝ }
+    ensures { λ r. ⌜ ((b : Block) → Planned n (now (held .entry)) b (request endListening) r) ⌝ }
 {
     if n.state != LISTENING {
         return step_plan::refuse(n, refusal::WRONG_STATE);
@@ -117,7 +84,7 @@ fn end_listening(n: Numbers, held: &[u8]) -> Plan
 // Close tells the partner, and waits until it has heard. Where no partner is known, there is nobody to tell.
 fn close(n: Numbers, held: &[u8]) -> Plan
     requires { ⌜ length (now held) ≡ heldSize ⌝ }
-    ensures { λ r. ⌜ ((b x : Block) → Planned n (now (held .entry)) b x (request close) r) ⌝ }
+    ensures { λ r. ⌜ ((b : Block) → Planned n (now (held .entry)) b (request close) r) ⌝ }
 {
     let state = n.state;
     let allowed = (state == ACTIVE_OPENING) | (state == ESTABLISHED);
@@ -127,15 +94,13 @@ fn close(n: Numbers, held: &[u8]) -> Plan
     if n.remote == 0 {
         return step_plan::turn(n, held, CLOSED, 0, CLOSE_FINISHED, Reply::Nothing);
     }
-    let sender = n.local;
-    let quoted = n.remote;
-    let reply = Reply::Frame(Header::Dr { sender, quoted });
-    step_plan::turn(n, held, CLOSING, quoted, NONE, reply)
+    let reply = step_plan::say(DR, n.local, n.remote, 0);
+    step_plan::turn(n, held, CLOSING, n.remote, NONE, reply)
 }
 
 // The block joins the waiting ones as number t; then t + 1.
 fn send(n: Numbers) -> Plan
-    ensures { λ r. ⌜ ((z : List ℕ) (b x : Block) → 1 ≤ length b → length b ≤ longestBlock → Planned n z b x (request (send b)) r) ⌝ }
+    ensures { λ r. ⌜ ((z : List ℕ) (b : Block) → 1 ≤ length b → length b ≤ longestBlock → Planned n z b (request (send b)) r) ⌝ }
 {
     let refusal = refusal_of(n, ESTABLISHED, n.accepted, LAST_NUMBER);
     if refusal != 0 {
@@ -144,57 +109,31 @@ fn send(n: Numbers) -> Plan
     if n.waiting >= QUEUE_SIZE {
         return step_plan::refuse(n, refusal::QUEUE_FULL);
     }
-    Plan {
-        number: ACCEPTED,
-        numbers: Numbers {
-            state: n.state,
-            local: n.local,
-            remote: n.remote,
-            accepted: n.accepted + 1,
-            delivered: n.delivered,
-            waiting: n.waiting + 1,
-        },
-        queue: Places::Join(n.waiting as usize),
-        held: Places::Keep,
-        notice: NONE,
-        reply: Reply::Frame(Header::Data {
-            sender: n.local,
-            quoted: n.remote,
-            number: n.accepted,
-        }),
-    }
+    step_plan::join(n)
 }
 
 // The timer call: sends again what the partner may not have heard. The oldest waiting block has number t - w.
 fn timer(n: Numbers) -> Plan
     requires { ⌜ n .waiting ≤ n .accepted ⌝ }
-    ensures { λ r. ⌜ ((z : List ℕ) (b x : Block) → Planned n z b x (request timer) r) ⌝ }
+    ensures { λ r. ⌜ ((z : List ℕ) (b : Block) → Planned n z b (request timer) r) ⌝ }
 {
     let sender = n.local;
     let quoted = n.remote;
     if n.state == ACTIVE_OPENING {
-        return step_plan::keep(n, NONE, Reply::Frame(Header::Crao { sender, quoted }));
+        return step_plan::keep(n, NONE, step_plan::say(CRAO, sender, quoted, 0));
     }
     if n.state == PASSIVE_OPENING {
-        return step_plan::keep(n, NONE, Reply::Frame(Header::Crpo { sender, quoted }));
+        return step_plan::keep(n, NONE, step_plan::say(CRPO, sender, quoted, 0));
     }
     if n.state == ESTABLISHED {
         if n.waiting == 0 {
             return step_plan::keep(n, NONE, Reply::Nothing);
         }
         let number = n.accepted - (n.waiting as u32);
-        return step_plan::keep(
-            n,
-            NONE,
-            Reply::Frame(Header::Data {
-                sender,
-                quoted,
-                number,
-            }),
-        );
+        return step_plan::keep(n, NONE, step_plan::say(DATA, sender, quoted, number));
     }
     if n.state == CLOSING {
-        return step_plan::keep(n, NONE, Reply::Frame(Header::Dr { sender, quoted }));
+        return step_plan::keep(n, NONE, step_plan::say(DR, sender, quoted, 0));
     }
     step_plan::keep(n, NONE, Reply::Nothing)
 }
@@ -202,7 +141,7 @@ fn timer(n: Numbers) -> Plan
 // Collect: block e is handed up if it is held; otherwise nothing is done.
 fn collect(n: Numbers, held: &[u8]) -> Plan
     requires { ⌜ (length (now held) ≡ heldSize) × (1 ≤ getD (now held) 0 0 → n .delivered < lastNumber) ⌝ }
-    ensures { λ r. ⌜ ((b x : Block) → Planned n (now (held .entry)) b x (request collect) r) ⌝ }
+    ensures { λ r. ⌜ ((b : Block) → Planned n (now (held .entry)) b (request collect) r) ⌝ }
 {
     let state = n.state;
     if state != ESTABLISHED {
@@ -214,10 +153,10 @@ fn collect(n: Numbers, held: &[u8]) -> Plan
     step_plan::hand_up(n, held)
 }
 
-// A request that questions 3 to 6 have passed.
-fn ask(kind: RequestKind, n: Numbers, held: &[u8]) -> Plan
+// A request of the endpoint's user, or the timer call, that questions 3 to 6 have passed.
+pub fn ask(kind: RequestKind, n: Numbers, held: &[u8]) -> Plan
     requires { ⌜ (n .waiting ≤ n .accepted) × ((length (now held) ≡ heldSize) × (1 ≤ getD (now held) 0 0 → n .delivered < lastNumber)) ⌝ }
-    ensures { λ r. ⌜ ((b x : Block) → Readable (ask (requestOf kind b)) → Planned n (now (held .entry)) b x (request (requestOf kind b)) r) ⌝ }
+    ensures { λ r. ⌜ ((b : Block) → Readable (ask (requestOf kind b)) → Planned n (now (held .entry)) b (request (requestOf kind b)) r) ⌝ }
 {
     match kind {
         RequestKind::Connect => connect(n, held),
@@ -227,17 +166,5 @@ fn ask(kind: RequestKind, n: Numbers, held: &[u8]) -> Plan
         RequestKind::Send => send(n),
         RequestKind::Timer => timer(n),
         RequestKind::Collect => collect(n, held),
-    }
-}
-
-// A request of the endpoint's user, or the timer call: s has the request's octets, held the lengths of the held blocks.
-pub fn request(n: Numbers, held: &[u8], s: &[u8]) -> Plan
-    requires { ⌜ (n .waiting ≤ n .accepted) × ((length (now held) ≡ heldSize) × (1 ≤ getD (now held) 0 0 → n .delivered < lastNumber)) ⌝ }
-    ensures { λ r. ⌜ ((x : Block) → Planned n (now (held .entry)) (drop sendBlockAt (now (s .entry))) x (does Request (now (s .entry))) r) ⌝ }
-{
-    let read = frame_read::read_request(s);
-    match read {
-        RequestRead::Request(kind) => ask(kind, n, held),
-        RequestRead::Refused(number) => step_plan::refuse(n, number),
     }
 }

@@ -6,9 +6,9 @@ use frame::CRPO;
 use frame::DATA;
 use frame::DR;
 use frame::DRACK;
+use frame::Header;
 use frame::REJ;
 use frame::RESET;
-use frame::Values;
 use protocol::Rule;
 ghost use mathlib.Core.Path.{_≡_};
 ghost use Prim.Native.Nat.{_≤_};
@@ -43,7 +43,7 @@ pub struct Numbers {
 }
 
 // A row whose test is that r = L: what it leads to, and what counts where the test fails.
-fn quotes(e: Numbers, f: Values, row: Rule, other: Rule) -> Rule
+fn quotes(e: Numbers, f: Header, row: Rule, other: Rule) -> Rule
     ensures { λ r. ⌜ r ≡ ifEq (f .quoted) (e .local) row other ⌝ }
 {
     if f.quoted == e.local {
@@ -53,7 +53,7 @@ fn quotes(e: Numbers, f: Values, row: Rule, other: Rule) -> Rule
 }
 
 // The same where the test is that s = D.
-fn matches(e: Numbers, f: Values, row: Rule, other: Rule) -> Rule
+fn matches(e: Numbers, f: Header, row: Rule, other: Rule) -> Rule
     ensures { λ r. ⌜ r ≡ ifEq (f .sender) (e .remote) row other ⌝ }
 {
     if f.sender == e.remote {
@@ -63,7 +63,7 @@ fn matches(e: Numbers, f: Values, row: Rule, other: Rule) -> Rule
 }
 
 // The same where the test is that s > D.
-fn exceeds(e: Numbers, f: Values, row: Rule, other: Rule) -> Rule
+fn exceeds(e: Numbers, f: Header, row: Rule, other: Rule) -> Rule
     ensures { λ r. ⌜ r ≡ ifLt (e .remote) (f .sender) row other ⌝ }
 {
     if e.remote < f.sender {
@@ -72,7 +72,7 @@ fn exceeds(e: Numbers, f: Values, row: Rule, other: Rule) -> Rule
     other
 }
 
-fn when_closed(e: Numbers, f: Values) -> Rule
+fn when_closed(e: Numbers, f: Header) -> Rule
     ensures { λ r. ⌜ Chosen whenClosed e f r ⌝ }
 {
     let kind = f.kind;
@@ -87,7 +87,7 @@ fn when_closed(e: Numbers, f: Values) -> Rule
     }
 }
 
-fn when_listening(e: Numbers, f: Values) -> Rule
+fn when_listening(e: Numbers, f: Header) -> Rule
     ensures { λ r. ⌜ Chosen whenListening e f r ⌝ }
 {
     let kind = f.kind;
@@ -100,7 +100,7 @@ fn when_listening(e: Numbers, f: Values) -> Rule
 }
 
 // Document 01: calling.
-fn when_active(e: Numbers, f: Values) -> Rule
+fn when_active(e: Numbers, f: Header) -> Rule
     ensures { λ r. ⌜ Chosen whenActive e f r ⌝ }
 {
     let kind = f.kind;
@@ -115,7 +115,7 @@ fn when_active(e: Numbers, f: Values) -> Rule
 }
 
 // Document 01: answering.
-fn when_passive(e: Numbers, f: Values) -> Rule
+fn when_passive(e: Numbers, f: Header) -> Rule
     ensures { λ r. ⌜ Chosen whenPassive e f r ⌝ }
 {
     let kind = f.kind;
@@ -131,7 +131,7 @@ fn when_passive(e: Numbers, f: Values) -> Rule
 }
 
 // Open, a DATA.
-fn data_row(e: Numbers, f: Values) -> Rule
+fn data_row(e: Numbers, f: Header) -> Rule
     ensures { λ r. ⌜ Chosen dataRow e f r ⌝ }
 {
     if f.number == e.delivered {
@@ -147,7 +147,7 @@ fn data_row(e: Numbers, f: Values) -> Rule
 }
 
 // Open, an ACK.
-fn ack_row(e: Numbers, f: Values) -> Rule
+fn ack_row(e: Numbers, f: Header) -> Rule
     requires { ⌜ e .waiting ≤ e .accepted ⌝ }
     ensures { λ r. ⌜ Chosen ackRow e f r ⌝ }
 {
@@ -161,7 +161,7 @@ fn ack_row(e: Numbers, f: Values) -> Rule
 }
 
 // Document 01: open.
-fn open_rows(e: Numbers, f: Values) -> Rule
+fn open_rows(e: Numbers, f: Header) -> Rule
     requires { ⌜ e .waiting ≤ e .accepted ⌝ }
     ensures { λ r. ⌜ Chosen openRows e f r ⌝ }
 {
@@ -177,7 +177,7 @@ fn open_rows(e: Numbers, f: Values) -> Rule
 }
 
 // Only with s = D and r = L, but for REJ.
-fn when_established(e: Numbers, f: Values) -> Rule
+fn when_established(e: Numbers, f: Header) -> Rule
     requires { ⌜ e .waiting ≤ e .accepted ⌝ }
     ensures { λ r. ⌜ Chosen whenEstablished e f r ⌝ }
 {
@@ -188,7 +188,7 @@ fn when_established(e: Numbers, f: Values) -> Rule
     matches(e, f, quotes(e, f, rows, Rule::Ignore), Rule::Ignore)
 }
 
-fn when_closing(e: Numbers, f: Values) -> Rule
+fn when_closing(e: Numbers, f: Header) -> Rule
     ensures { λ r. ⌜ Chosen whenClosing e f r ⌝ }
 {
     let kind = f.kind;
@@ -208,7 +208,7 @@ fn when_closing(e: Numbers, f: Values) -> Rule
 }
 
 // The row that applies. If s < D, the frame is passed over in every state.
-pub fn choose(e: Numbers, f: Values) -> Rule
+pub fn choose(e: Numbers, f: Header) -> Rule
     requires { ⌜ e .waiting ≤ e .accepted ⌝ }
     ensures { λ r. ⌜ Chosen rule e f r ⌝ }
 {

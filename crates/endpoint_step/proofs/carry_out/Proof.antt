@@ -1,7 +1,7 @@
 use denote.Ref.{now}
 use Rattle.endpoint.proofs.Packs.{Long}
-use Rattle.endpoint_step.specs.Internal.{carried}
-use Rattle.endpoint_step.proofs.Places.{for-lengths, for-blocks}
+use Rattle.endpoint_places.specs.Internal.{carried}
+use Rattle.endpoint_places.proofs.Places.{for-lengths, for-blocks}
 use borrow.Author.Needs.{needs}
 use Rattle.endpoint_step.proofs.carry_out.Statement.{statement}
 use Rattle.endpoint_step.proofs.carry_out.Tie as tie
@@ -12,22 +12,22 @@ long c = record { lengths = search needs; blocks = search needs; held-lengths = 
 lengths-after-requires : tie.Need-lengths-after-requires
 lengths-after-requires c κs =
     let s : tie.Start = search in
-    for-lengths (now (s .args .joined)) (s .pre .0 .1) (s .args .p .queue) (s .pre .0 .0) (s .args .e .lengths) (long s .lengths)
+    for-lengths (now (s .args .block)) (s .pre .1) (s .args .p .queue) (s .pre .0 .0) (s .args .e .lengths) (long s .lengths)
 
 blocks-after-requires : tie.Need-blocks-after-requires
 blocks-after-requires c κs =
     let s : tie.Start = search in
-    for-blocks (now (s .args .joined)) (s .pre .0 .1) (s .args .p .queue) (s .pre .0 .0) (s .args .e .blocks) (long s .blocks)
+    for-blocks (now (s .args .block)) (s .pre .1) (s .args .p .queue) (s .pre .0 .0) (s .args .e .blocks) (long s .blocks)
 
 lengths-after-requires-2 : tie.Need-lengths-after-requires-2
 lengths-after-requires-2 c κs =
     let s : tie.Start = search in
-    for-lengths (now (s .args .early)) (s .pre .1 .1) (s .args .p .held) (s .pre .1 .0) (s .args .e .«held_lengths») (long s .held-lengths)
+    for-lengths (now (s .args .block)) (s .pre .1) (s .args .p .held) (s .pre .0 .1) (s .args .e .«held_lengths») (long s .held-lengths)
 
 blocks-after-requires-2 : tie.Need-blocks-after-requires-2
 blocks-after-requires-2 c κs =
     let s : tie.Start = search in
-    for-blocks (now (s .args .early)) (s .pre .1 .1) (s .args .p .held) (s .pre .1 .0) (s .args .e .«held_blocks») (long s .held-blocks)
+    for-blocks (now (s .args .block)) (s .pre .1) (s .args .p .held) (s .pre .0 .1) (s .args .e .«held_blocks») (long s .held-blocks)
 
 returns : tie.Need-returns
 unfolding carried
@@ -54,5 +54,4 @@ returns c =
 pub carry-out-spec : {M : Type 1} → statement M
 carry-out-spec =
     tie.close
-    (tie.spec (λ c. search needs) (λ c. search needs) lengths-after-requires blocks-after-requires (λ c. search needs) (λ c. search needs)
-    lengths-after-requires-2 blocks-after-requires-2 returns)
+    (tie.spec (λ c. search needs) (λ c. search needs) lengths-after-requires blocks-after-requires (λ c. search needs) lengths-after-requires-2 blocks-after-requires-2 returns)

@@ -1,11 +1,12 @@
-use mathlib.Core.Path.{_≡_, refl, sym, _∙_}
+use mathlib.Core.Path.{_≡_, refl, sym, ap, _∙_}
 use lib.ListN.{length}
 use denote.Ref.{now}
-use Rattle.octets.specs.Test.{first, inRange}
+use Rattle.octets.specs.Test.{first, inRange, mapped}
 use Rattle.frame.specs.Frame.{DATA}
 use Rattle.frame.specs.Layout.{isFrame}
 use Rattle.octets.proofs.Test.{all-yes}
-use Rattle.frame.specs.Read.{sizeQuestions}
+use Rattle.frame.specs.Read.{sizeQuestions, frame}
+use Rattle.frame.specs.Answer.{meant}
 use Rattle.frame.proofs.Classes.{frame-range}
 use Rattle.frame.proofs.Reading.{frame-refused, frame-numbers, numbers-there}
 use native.Mathlib.Omega.{arith}
@@ -17,12 +18,12 @@ whole : (c : tie.Else1) → first (sizeQuestions (c .before .before .before .arg
 whole c = sym (c .before .size-refusal .ensures) ∙ c .if1 .left
 
 pub known-frame-spec : {M : Type 1} → statement M
-unfolding isFrame inRange
+unfolding isFrame inRange meant mapped
 known-frame-spec =
     tie.close
     (tie.spec (λ c κs. let s = c .before in omega (arith, frame-range (s .args .kind) (s .pre)))
-    (λ c. let s = c .before .before .before in frame-refused (s .args .kind) (now (s .args .rest)) (s .pre) (c .before .size-refusal .ensures) (c .if1 .taken))
+    (λ c. let s = c .before .before .before in ap (mapped frame) (frame-refused (s .args .kind) (now (s .args .rest)) (s .pre) (c .before .size-refusal .ensures) (c .if1 .taken)))
     (λ c κs. let s = c .before .before .before .before in let e : s .args .kind ≡ DATA = omega arith in (refl, rw e at (numbers-there (s .args .kind) (length (now (s .args .rest))) (all-yes 4 _ _ (whole (c .before)) tt .0))))
-    (λ c. let s = c .before .before .before .before .before in let e : s .args .kind ≡ DATA = omega arith in rw e (c .frame-of .ensures ∙ sym (frame-numbers DATA (now (s .args .rest)) refl (rw e at (whole (c .before .before))))))
+    (λ c. let s = c .before .before .before .before .before in let e : s .args .kind ≡ DATA = omega arith in rw e (c .frame-of .ensures ∙ sym (ap (mapped frame) (frame-numbers DATA (now (s .args .rest)) refl (rw e at (whole (c .before .before)))))))
     (λ c κs. let s = c .before .before .before .before in (s .pre, numbers-there (s .args .kind) (length (now (s .args .rest))) (all-yes 4 _ _ (whole (c .before)) tt .0)))
-    (λ c. let s = c .before .before .before .before .before in c .frame-of2 .ensures ∙ sym (frame-numbers (s .args .kind) (now (s .args .rest)) (s .pre) (whole (c .before .before)))))
+    (λ c. let s = c .before .before .before .before .before in c .frame-of2 .ensures ∙ sym (ap (mapped frame) (frame-numbers (s .args .kind) (now (s .args .rest)) (s .pre) (whole (c .before .before))))))

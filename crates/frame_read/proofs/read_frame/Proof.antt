@@ -1,12 +1,12 @@
 use Prim.Native.Nat.{_≤_}
-use mathlib.Core.Path.{_≡_, sym, _∙_}
+use mathlib.Core.Path.{_≡_, sym, ap, _∙_}
 use mathlib.Core.Bool.{true}
 use lib.ListN.{length}
-use lib.Seq.{drop-drop}
 use denote.Ref.{now}
-use Rattle.frame.specs.Layout.{isFrame, dataNumbers, headSize}
-use Rattle.frame.specs.Read.{kindOf, afterHead, readFrame}
-use Rattle.frame.specs.Answer.{frameRead}
+use Rattle.octets.specs.Test.{mapped}
+use Rattle.frame.specs.Layout.{isFrame}
+use Rattle.frame.specs.Read.{kindOf, afterHead, cutBlock, readFrame, frame}
+use Rattle.frame.specs.Answer.{meant}
 use Rattle.frame.proofs.Classes.{of-frame, of-request, of-unknown, frame-range, some, rest-is}
 use Rattle.frame.proofs.Reading.{unknown-frame}
 use native.Mathlib.Omega.{arith}
@@ -22,11 +22,11 @@ there : (c : tie.After-enum-told) → 1 ≤ length (now (c .before .before .befo
 there c = let s = now (c .before .before .before .before .args .s) in some s (omega (arith, frame-range (kindOf s) (is c)))
 
 pub read-frame-spec : {M : Type 1} → statement M
-unfolding frameRead readFrame kindOf afterHead
+unfolding meant mapped readFrame cutBlock kindOf afterHead
 read-frame-spec =
     tie.close
     (tie.spec (λ c κs. search needs) (λ c. search needs) (λ c. omega (arith, there (c .before))) (λ c. omega (arith, there (c .before)))
     (λ c. omega (arith, there (c .before))) (λ c. search needs) (λ c κs. is (c .before .before)) (λ c. search needs) (λ c. search needs)
-    (λ c. let s = now (c .before .before .before .before .before .before .before .args .s) in rw (rest-is s, drop-drop dataNumbers headSize s) at (c .known-frame .ensures))
-    (λ c. let s = now (c .before .before .before .before .args .s) in unknown-frame s (of-request (kindOf s) (sym (c .before .before .class-of .ensures) ∙ c .enum-told2 .given .1) .0))
-    (λ c. let s = now (c .before .before .before .before .args .s) in unknown-frame s (of-unknown (kindOf s) (sym (c .before .before .class-of .ensures) ∙ c .enum-told3 .given .1) .0)))
+    (λ c. let s = now (c .before .before .before .before .before .before .before .args .s) in rw (rest-is s) at (c .known-frame .ensures))
+    (λ c. let s = now (c .before .before .before .before .args .s) in ap (mapped frame) (unknown-frame s (of-request (kindOf s) (sym (c .before .before .class-of .ensures) ∙ c .enum-told2 .given .1) .0)))
+    (λ c. let s = now (c .before .before .before .before .args .s) in ap (mapped frame) (unknown-frame s (of-unknown (kindOf s) (sym (c .before .before .class-of .ensures) ∙ c .enum-told3 .given .1) .0))))

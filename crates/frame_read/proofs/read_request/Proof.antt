@@ -1,12 +1,12 @@
 use Prim.Native.Nat.{_≤_}
-use mathlib.Core.Path.{_≡_, sym, _∙_}
+use mathlib.Core.Path.{_≡_, sym, ap, _∙_}
 use mathlib.Core.Bool.{true}
 use lib.ListN.{length}
-use lib.Seq.{drop-drop}
 use denote.Ref.{now}
-use Rattle.frame.specs.Layout.{isRequest, sendNumbers, headSize}
-use Rattle.frame.specs.Read.{kindOf, afterHead, readRequest}
-use Rattle.frame.specs.Answer.{requestRead}
+use Rattle.octets.specs.Test.{mapped}
+use Rattle.frame.specs.Layout.{isRequest}
+use Rattle.frame.specs.Read.{kindOf, afterHead, cutBlock, readRequest, request}
+use Rattle.frame.specs.Answer.{meant}
 use Rattle.frame.proofs.Classes.{of-frame, of-request, of-unknown, frame-no-request, request-range, some, rest-is}
 use Rattle.frame.proofs.Reading.{unknown-request}
 use native.Mathlib.Omega.{arith}
@@ -22,11 +22,11 @@ there : (c : tie.After-enum-told2) → 1 ≤ length (now (c .before .before .bef
 there c = let s = now (c .before .before .before .before .args .s) in some s (omega (arith, request-range (kindOf s) (is c)))
 
 pub read-request-spec : {M : Type 1} → statement M
-unfolding requestRead readRequest kindOf afterHead
+unfolding meant mapped readRequest cutBlock kindOf afterHead
 read-request-spec =
     tie.close
     (tie.spec (λ c κs. search needs) (λ c. search needs) (λ c. search needs) (λ c. omega (arith, there (c .before))) (λ c. omega (arith, there (c .before)))
     (λ c. omega (arith, there (c .before))) (λ c. search needs) (λ c κs. is (c .before .before)) (λ c. search needs)
-    (λ c. let s = now (c .before .before .before .before .args .s) in unknown-request s (frame-no-request (kindOf s) (of-frame (kindOf s) (sym (c .before .before .class-of .ensures) ∙ c .enum-told .given .1))))
-    (λ c. let s = now (c .before .before .before .before .before .before .before .args .s) in rw (rest-is s, drop-drop sendNumbers headSize s) at (c .known-request .ensures))
-    (λ c. let s = now (c .before .before .before .before .args .s) in unknown-request s (of-unknown (kindOf s) (sym (c .before .before .class-of .ensures) ∙ c .enum-told3 .given .1) .1)))
+    (λ c. let s = now (c .before .before .before .before .args .s) in ap (mapped request) (unknown-request s (frame-no-request (kindOf s) (of-frame (kindOf s) (sym (c .before .before .class-of .ensures) ∙ c .enum-told .given .1)))))
+    (λ c. let s = now (c .before .before .before .before .before .before .before .args .s) in rw (rest-is s) at (c .known-request .ensures))
+    (λ c. let s = now (c .before .before .before .before .args .s) in ap (mapped request) (unknown-request s (of-unknown (kindOf s) (sym (c .before .before .class-of .ensures) ∙ c .enum-told3 .given .1) .1))))

@@ -1,13 +1,14 @@
-use mathlib.Core.Path.{refl}
 use Prim.Native.Nat.{_≤_}
-use denote.Ref.{now}
+use mathlib.Core.Path.{_≡_, refl}
 use lib.ListN.{length}
+use denote.Ref.{now}
 use Rattle.call_spec.specs.declared.Call.the-variants.{Receive}
 use Rattle.call_spec.specs.Calls.{Arguments}
 use Rattle.endpoint.specs.Record.{recordSize, decode}
-use Rattle.endpoint_step.proofs.Carries.{received-reserved}
+use Rattle.endpoint_plan.proofs.Carries.{by-block, received-reserved}
 use Rattle.link.specs.Lent.{lentCall}
-use Rattle.link.proofs.Answers.{turned-down, too-short, decode-long}
+use Rattle.link.proofs.Answers.{turned-down, too-short, decode-long, at-record}
+use native.Mathlib.Omega.{arith}
 use borrow.Author.Needs.{needs}
 use Rattle.link.proofs.hear.Statement.{statement}
 use Rattle.link.proofs.hear.Tie as tie
@@ -19,7 +20,7 @@ returns : tie.Need-returns
 returns c =
     let s : tie.Start = search in
     let a = s .args in
-    turned-down (too-short (now (a .rec)) (now (a .page)) (call-of s) (c .before .before .if1 .taken)) Receive (now (a .rec)) (now (a .s)) (now (a .out)) (now (a .up)) (c .refuse .ensures)
+    turned-down (too-short (now (a .rec)) (now (a .page)) (call-of s) (c .before .before .if1 .taken)) Receive (now (a .rec)) (now (a .block)) (now (a .out)) (now (a .up)) (c .refuse .ensures)
 
 finish-requires : tie.Need-finish-requires
 finish-requires c κs =
@@ -28,14 +29,15 @@ finish-requires c κs =
     let d = now (s .args .rec) in
     let page = now (s .args .page) in
     let l : recordSize ≤ length d = search needs in
-    (l, (received-reserved (decode d) (decode-long d l) page (call-of s) (w .plan-call .ensures) refl, (page, w .plan-call .ensures)))
+    (l, (received-reserved (decode d) (decode-long d l) page (call-of s) (w .plan-call .ensures) refl, (_, by-block (s .pre) (w .plan-call .ensures))))
 
 returns-2 : tie.Need-returns-2
 returns-2 c =
     let s : tie.Start = search in
+    let t : tie.Else1 = search in
     let w : tie.After-plan-call = search in
     let f : tie.After-finish = search in
-    f .finish .ensures (now (s .args .page)) (w .plan-call .ensures)
+    at-record (now (s .args .rec)) (omega (arith, t .if1 .left)) (now (s .args .page)) (call-of s) (f .finish .ensures _ (by-block (s .pre) (w .plan-call .ensures)))
 
 pub hear-spec : {M : Type 1} → statement M
 hear-spec =

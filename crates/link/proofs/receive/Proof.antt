@@ -1,10 +1,10 @@
-use mathlib.Core.Path.{_≡_, ap, sym, _∙_}
-use mathlib.Core.List.{[]}
 use Prim.Native.Nat.{ℕ}
+use mathlib.Core.Path.{_≡_, sym, ap, _∙_}
+use mathlib.Core.List.{[]}
+use lib.ListN.{length}
 use denote.Ref.{now}
-use lib.ListN.{length, drop}
 use Rattle.octets.specs.Test.{Outcome}
-use Rattle.frame.specs.Layout.{dataBlockAt}
+use Rattle.frame.specs.Frame.{Block}
 use Rattle.protocol.specs.Table.{Step}
 use Rattle.call_spec.specs.declared.Call.the-variants.{Receive}
 use Rattle.call_spec.specs.Calls.{rooms}
@@ -12,7 +12,7 @@ use Rattle.call_spec.specs.Answers.{noticeOf}
 use Rattle.step_plan.specs.Internal.{blockBy}
 use Rattle.link.specs.declared.Answer.{Answer}
 use Rattle.link.specs.Lent.{statusOf, answerOf, lentOutcome}
-use Rattle.link.proofs.Answers.{with-block, received-same, long-enough, hands-it-up}
+use Rattle.link.proofs.Answers.{with-block, received-same, of-block, hands-it-up}
 use borrow.Author.Needs.{needs}
 use Rattle.link.proofs.receive.Statement.{statement}
 use Rattle.link.proofs.receive.Tie as tie
@@ -21,22 +21,30 @@ use Rattle.link.proofs.receive.Tie as tie
 abbrev comes : tie.Start → Outcome Step
 comes c = lentOutcome Receive (now (c .args .rec)) (now (c .args .page)) (now (c .args .s)) (now (c .args .out)) []
 
-notice-is : (c : tie.After-hear) → c .hear .result .status .notice ≡ noticeOf (comes (c .before .before .before .before .before .before .before .before))
+abbrev start-of : tie.After-hear → tie.Start
+start-of c = search
+
+notice-is : (c : tie.After-hear) → c .hear .result .status .notice ≡ noticeOf (comes (start-of c))
 unfolding answerOf statusOf
 notice-is c = ap (λ (x : Answer). x .status .notice) (c .hear .ensures .answer)
 
-handed-up-requires : tie.Need-handed-up-requires
-handed-up-requires c κs = let s = c .before .before .before .before .before .before .before .before .before .before .before .before .before .before in rw (notice-is (c .before .before .before .before .before .before)) (long-enough (now (s .args .rec)) (now (s .args .page)) (now (s .args .s)) (rooms (length (now (s .args .out))) 0))
+hear-requires : tie.Need-hear-requires
+hear-requires c κs = let b : tie.After-cut-block = search in b .cut-block .ensures
 
 returns : tie.Need-returns
 unfolding answerOf
 returns c =
-    let s = c .before .before .before .before .before .before .before .before .before .before .before .before .before .before .before in
-    let r = c .before .before .before .before .before .before .before .hear in
-    let b = c .handed-up .ensures ∙ ap (λ (n : ℕ). blockBy n (drop dataBlockAt (now (s .args .s)))) (notice-is (c .before .before .before .before .before .before .before)) ∙ hands-it-up (now (s .args .rec)) (now (s .args .page)) (now (s .args .s)) (rooms (length (now (s .args .out))) 0) in
-    (with-block (r .result) (received-same (r .ensures)) _ (ap length b ∙ sym (ap (λ (x : Answer). x .block) (r .ensures .answer))), b)
+    let m : tie.After-hear = search in
+    let k : tie.After-cut-block = search in
+    let s = start-of m in
+    let r = m .hear in
+    let e = k .cut-block .ensures in
+    let b =
+    c .handed-up .ensures ∙ ap (λ (n : ℕ). blockBy n (now (k .cut-block .result))) (notice-is m) ∙ ap (blockBy (noticeOf (comes s))) e
+    ∙ hands-it-up (now (s .args .rec)) (now (s .args .page)) (now (s .args .s)) (rooms (length (now (s .args .out))) 0) in
+    (with-block (r .result) (of-block e (received-same (r .ensures))) _ (ap length b ∙ sym (ap (λ (x : Answer). x .block) (r .ensures .answer))), b)
 
 pub receive-spec : {M : Type 1} → statement M
 receive-spec =
     tie.close
-    (tie.spec (λ c. search needs) (λ c κs. search needs) handed-up-requires (λ c. search needs) (λ c. search needs) returns)
+    (tie.spec (λ c κs. search needs) (λ c. search needs) hear-requires (λ c κs. search needs) (λ c. search needs) (λ c. search needs) returns)

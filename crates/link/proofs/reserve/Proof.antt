@@ -1,7 +1,7 @@
 use mathlib.Core.Path.{sym, _∙_}
 use Rattle.octets.proofs.Test.{eq-yes, eq-no}
 use native.Mathlib.Omega.{arith}
-use Rattle.endpoint_step.proofs.Carries.{is-left, none-left}
+use Rattle.endpoint_plan.proofs.Carries.{is-left, none-left}
 use borrow.Author.Needs.{needs}
 use Rattle.link.proofs.reserve.Statement.{statement}
 use Rattle.link.proofs.reserve.Tie as tie

@@ -7,12 +7,12 @@ use borrow.Author.Needs.{needs}
 use Rattle.step_plan.proofs.write.Statement.{statement}
 use Rattle.step_plan.proofs.write.Tie as tie
 
-enum-told : tie.Need-enum-told
-enum-told c = search needs
+write-requires : tie.Need-write-requires
+write-requires c κs = let s : tie.Start = search in (rw (c .before .before .reply .given .1) at (s .pre .0), (search needs, search needs))
 
 returns : tie.Need-returns
 unfolding sentBy wire
-returns c = rw (c .enum-told .given .1) (record { count = refl; octets = put-none (now (c .before .before .before .before .args .out)) 0 })
+returns c = let s : tie.Start = search in rw (c .enum-told .given .1) (record { count = refl; octets = put-none (now (s .args .out)) 0 })
 
 returns-2 : tie.Need-returns-2
 unfolding sentBy wire
@@ -20,4 +20,4 @@ returns-2 c = let w = c .before .before .write .ensures in rw (c .before .before
 
 pub write-spec : {M : Type 1} → statement M
 write-spec =
-    tie.close (tie.spec enum-told (λ c. search needs) (λ c κs. search needs) returns (λ c. search needs) returns-2)
+    tie.close (tie.spec (λ c. search needs) (λ c. search needs) write-requires returns (λ c. search needs) returns-2)

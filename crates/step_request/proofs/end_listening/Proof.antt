@@ -10,13 +10,13 @@ use Rattle.step_request.proofs.end_listening.Statement.{statement}
 use Rattle.step_request.proofs.end_listening.Tie as tie
 
 returns : tie.Need-returns
-returns c = λ b x q h old w _ lz. let a = c .before .before .before .before .args in refuses (a .n) q h b x old w 8 (end-listening-8 (holding (a .n) q h) (c .before .if1 .taken)) (c .refuse .ensures)
+returns c = λ b q h old w _ lz. let s : tie.Start = search in let a = s .args in refuses (a .n) q h b old w 8 (end-listening-8 (holding (a .n) q h) (c .before .if1 .taken)) (c .refuse .ensures)
 
 returns-2 : tie.Need-returns-2
 unfolding accept noticeNumber sentBy
-returns-2 c = λ b x q h old w _ lz.
-    let a = c .before .before .before .before .args in
-    turns (a .n) q h b x old w _ lz (c .before .before .before .before .pre) 0 0 none Nothing (end-listening-0 (holding (a .n) q h) (c .before .if1 .left)) (c .turn .ensures)
+returns-2 c = λ b q h old w _ lz.
+    let s : tie.Start = search in let a = s .args in
+    turns (a .n) q h b old w _ lz (s .pre) 0 0 none Nothing tt (end-listening-0 (holding (a .n) q h) (c .before .if1 .left)) (c .turn .ensures)
 
 pub end-listening-spec : {M : Type 1} → statement M
 end-listening-spec = tie.close (tie.spec (λ c κs. search needs) returns (λ c κs. search needs) returns-2)

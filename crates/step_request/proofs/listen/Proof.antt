@@ -21,8 +21,8 @@ unfolding refusal requestQuestions accept sentBy
 listen-spec =
     tie.close
     (tie.spec (λ c κs. search needs) (λ c κs. search needs)
-    (λ c b x q h old w _ lz. let n = c .before .before .before .before .args .n in refuses n q h b x old w _ (refused-by (holding n q h) listen (c .before .before .refusal-of .ensures) (c .before .if1 .taken)) (c .refuse .ensures))
+    (λ c b q h old w _ lz. let s : tie.Start = search in let n = s .args .n in refuses n q h b old w _ (refused-by (holding n q h) listen (c .before .before .refusal-of .ensures) (c .before .if1 .taken)) (c .refuse .ensures))
     (λ c κs. room c)
-    (λ c b x q h old w _ lz.
-    let n = c .before .before .before .before .args .n in
-    begins n q h b x old w _ lz (c .before .before .before .before .pre) listening Nothing (allowed (holding n q h) listen (sym (c .before .before .refusal-of .ensures) ∙ c .before .if1 .left)) (c .begin .ensures)))
+    (λ c b q h old w _ lz.
+    let s : tie.Start = search in let n = s .args .n in
+    begins n q h b old w _ lz (s .pre) listening Nothing tt (allowed (holding n q h) listen (sym (c .before .before .refusal-of .ensures) ∙ c .before .if1 .left)) (c .begin .ensures)))

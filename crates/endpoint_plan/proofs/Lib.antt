@@ -1,0 +1,6 @@
+pub mod Messages
+pub mod Numbers
+pub mod Ready
+pub mod Laws
+pub mod Carries
+pub mod Order
