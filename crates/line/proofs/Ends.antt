@@ -1,26 +1,24 @@
 -- What answers a line at one end, and the program's theorem.
-use Prim.Native.Nat.{ℕ, _+_, _≤_}
+use Prim.Native.Nat.{ℕ, _-_, _≤_}
 use mathlib.Core.Path.{_≡_, refl, ap, _∙_}
-use mathlib.Core.List.{List, [], _∷_}
-use lib.ListN.{length}
-use Rattle.octets.specs.Test.{ok}
+use mathlib.Core.List.{List, [], _∷_, _++_}
+use lib.ListN.{length, take, drop}
 use Rattle.hex.specs.Line.{unhex, normal}
 use Rattle.hex.proofs.Normal.{asked-alike, unhex-normal}
 use Rattle.call_spec.specs.Calls.{performed}
 use Rattle.call_spec.specs.Claim.{Lent, lent}
 use Rattle.link.specs.Record.{format}
-use Rattle.answer_text.specs.declared.Output.{Output}
 use Rattle.answer_text.specs.Text.{answerRoom}
 use Rattle.link.specs.Lent.{lentAfter, freshEnd}
 use Rattle.line_answer.specs.Line.{lineCall, readyOutcome, lineOutcome}
-use Rattle.line_answer.specs.Text.{text, inRoom, recordLeft, pageLeft, LineAnswered}
-use Rattle.line_answer.proofs.Lines.{in-room}
+use Rattle.line_answer.specs.Text.{text, LineAnswered}
 use Rattle.line_answer.proofs.Runs.{Holds, fresh-holds, stays-put, line-leaves}
 use Rattle.line_split.specs.Split.{cut}
 use Rattle.line_split.proofs.Long.{asks-cut}
 use Rattle.line_io.specs.Answering.{stateAfter, Cuts}
 use Rattle.line_io.proofs.Answers.{input-normal}
-use Rattle.line_io.proofs.Steps.{free, free-room}
+use Rattle.line_io.specs.Step.{Replied}
+use Rattle.line_io.proofs.Steps.{free, replied}
 use Rattle.line_io.proofs.Program.{program-run}
 use Rattle.line_io.specs.Claim.{WholeText, EitherCase}
 use Rattle.line.specs.Ends.{oneEnd, others, LeftOut}
@@ -58,20 +56,14 @@ after-others k ((c ∷ l) ∷ ls) = after-others (line-leaves k (c ∷ l)) ls
 pub left-out : LeftOut
 left-out ls l = ap (λ (r : Lent). oneEnd .says r l) (after-others fresh-holds ls)
 
--- where there is room for an answer, the line is asked
-pub asks : (r : Lent) (line out : List ℕ) (filled : ℕ) → filled + answerRoom ≤ length out
-    → inRoom (r .rec) (r .page) line (free out filled) ≡ ok (lineOutcome (r .rec) (r .page) line)
-asks r line out filled h = in-room (r .rec) (r .page) line (free out filled) (free-room out filled answerRoom h)
-
--- and its answer leaves what the line leaves of the record and the page
-pub leaves : (rec page line out : List ℕ) (filled : ℕ) → filled + answerRoom ≤ length out → {rec′ page′ out′ : List ℕ} {r : Output}
-    → LineAnswered rec page line (free out filled) rec′ page′ out′ r → lent rec′ page′ ≡ oneEnd .next (lent rec page) line
-unfolding recordLeft pageLeft
-leaves rec page line out filled h w =
-    let e = asks (lent rec page) line out filled h in
-    let p = rw e at (w .end) in
-    let q = rw e at (w .paged) in
-    λ i. record { rec = p i; page = q i }
+-- The answer to a line, in the free part of the output.
+pub replies : (rec page line out : List ℕ) (filled : ℕ) {rec′ page′ x : List ℕ} {n : ℕ} → filled ≤ length out
+    → LineAnswered (lineOutcome rec page line) rec page (free out filled) rec′ page′ x n → length x ≡ length (free out filled)
+    → Replied oneEnd (lent rec page) line out filled (lent rec′ page′) (take filled out ++ (x ++ drop (length out - filled) (drop filled out))) n
+replies rec page line out filled h w l =
+    let e = w .end in
+    let p = w .paged in
+    replied line out filled h (λ i. record { rec = e i; page = p i }) (w .begins .count) (w .begins .buffer) l
 
 -- THE theorem, of the program
 pub whole : WholeText oneEnd answerRoom freshEnd

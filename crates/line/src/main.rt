@@ -1,29 +1,16 @@
 // The line program: one end, asked by lines of standard input, answered on standard output.
-use answer_text::Output;
 use line_io::Place;
 ghost use mathlib.Core.Path.{_≡_};
-ghost use Prim.Native.Nat.{_+_, _≤_, _<_};
+ghost use Prim.Native.Nat.{_<_};
 ghost use lib.ListN.{length};
 ghost use Rattle.page.specs.Page.{newPage};
 ghost use Rattle.call_spec.specs.Claim.{lent};
 ghost use Rattle.answer_text.specs.Text.{answerRoom};
 ghost use Rattle.link.specs.Lent.{freshEnd};
-ghost use Rattle.line_io.specs.Place.{PlaceFits};
-ghost use Rattle.line_io.specs.Step.{Replied, Stepped};
+ghost use Rattle.line_io.specs.Place.{bufferSize, PlaceFits};
+ghost use Rattle.line_io.specs.Step.{Stepped};
 ghost use Rattle.line_io.specs.Program.{Ran};
 ghost use Rattle.line.specs.Ends.{oneEnd};
-
-// Answers a line into the free part of out; how many characters the answer has.
-fn answer(rec: &mut [u8], page: &mut [u8], line: &[u8], out: &mut [u8], filled: usize) -> usize
-    requires { ⌜ filled + answerRoom ≤ length (now out) ⌝ }
-    ensures { λ r. ⌜ Replied oneEnd (lent (now (rec .entry)) (now (page .entry))) (now (line .entry)) (now (out .entry)) filled (lent (now (rec .exit)) (now (page .exit))) (now (out .exit)) r ⌝ }
-{
-    let reply = line_answer::answer(rec, page, line, &mut out[filled..]);
-    match reply {
-        Output::Written(n) => n,
-        Output::Refused(_) => 0,
-    }
-}
 
 // One step of the stream, with the answer where a line is ready.
 fn step(
@@ -31,17 +18,18 @@ fn step(
     page: &mut [u8; octets::PAGE_SIZE],
     buf: &mut [u8; line_io::BUFFER_SIZE],
     line: &mut [u8; line_io::LONGEST_KEPT],
-    out: &mut [u8; line_io::BUFFER_SIZE],
+    out: &mut [u8],
     p: Place,
 ) -> Place
-    requires { ⌜ (PlaceFits p) × (0 < p .steps) ⌝ }
+    requires { ⌜ (PlaceFits p) × ((0 < p .steps) × (length (now out) ≡ bufferSize)) ⌝ }
     ensures { λ r. ⌜ Stepped oneEnd answerRoom (lent (now (rec .entry)) (now (page .entry))) (now (buf .entry)) (now (line .entry)) (now (out .entry)) p (lent (now (rec .exit)) (now (page .exit))) (now (buf .exit)) (now (line .exit)) (now (out .exit)) r ⌝ }
 {
     let q = line_io::next(buf, line, out, answer_text::ANSWER_ROOM, p);
     if q.lines == 0 {
         return q;
     }
-    let n = answer(rec, page, line_io::ready(buf, line, q), out, q.filled);
+    let filled = q.filled;
+    let n = line_answer::answer(rec, page, line_io::ready(buf, line, q), &mut out[filled..]);
     line_io::answered(q, n)
 }
 

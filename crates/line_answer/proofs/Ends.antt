@@ -15,8 +15,7 @@ use Rattle.link.specs.declared.Answer.{Answer}
 use Rattle.link.specs.Lent.{answerOf, Called}
 use Rattle.link.proofs.Answers.{sent-taken}
 use Rattle.answer_text.specs.Text.{textOf, StartsWith}
-use Rattle.line_answer.specs.Text.{text}
-use Rattle.line_answer.specs.Internal.{Gives}
+use Rattle.line_answer.specs.Text.{text, LineAnswered}
 
 -- the buffers for a frame out and for a block
 abbrev pub room : List ℕ
@@ -27,7 +26,7 @@ blockRoom = replicate longestBlock 0
 
 pub gives : {c : Call} (o : Outcome Step) (rec page s out : List ℕ) {rec′ page′ frame up out′ : List ℕ} {a : Answer} {r : ℕ} {b : Block}
     → Called c o rec s room blockRoom rec′ frame up a → page′ ≡ pageAfter page o → b ≡ blockOf o → StartsWith (textOf (a .status) b (take (a .sent) frame)) out out′ r
-    → Gives o rec page out rec′ page′ out′ r
+    → LineAnswered o rec page out rec′ page′ out′ r
 unfolding text answerOf
 gives o rec page s out l g h w =
     let e = l .answer in
@@ -40,6 +39,6 @@ unfolding text answerOf blockOf sentIn wire
 tells-refusal rec out n h w = rw (ap (λ (x : Answer). x .status) h) at w
 
 pub refuses : {o : Outcome Step} {n : ℕ} → o ≡ refused n → (rec page out : List ℕ) {out′ : List ℕ} {r : ℕ} → StartsWith (text rec (refused n)) out out′ r
-    → Gives o rec page out rec page out′ r
+    → LineAnswered o rec page out rec page out′ r
 unfolding recordAfter pageAfter mapped left
 refuses e rec page out w = rw e (record { begins = w; end = refl; paged = refl })

@@ -1,16 +1,15 @@
 -- What a line comes to, from what its reading answers.
-use Prim.Native.Nat.{ℕ, _≤_, _<_}
+use Prim.Native.Nat.{ℕ, _≤_}
 use mathlib.Core.Path.{_≡_, refl, sym, ap, _∙_}
 use mathlib.Core.Logic.{_≢_}
 use mathlib.Core.Bool.{true}
 use mathlib.Core.List.{List, [], _∷_}
 use native.Mathlib.Omega.{arith}
-use borrow.Author.Tests.{le-leb, lt-leb, leb-true}
+use borrow.Author.Tests.{leb-true}
 use lib.ListN.{length}
 use Rattle.octets.specs.Sizes.{pageSize, longestFrame}
-use Rattle.octets.specs.Test.{when, first, Outcome, refused, ok, outcome, refusing, mapped}
+use Rattle.octets.specs.Test.{first, Outcome, refused, ok, refusing}
 use Rattle.octets.proofs.Test.{all-yes, refusing-of}
-use Rattle.octets.specs.Octets.{left}
 use Rattle.hex.specs.Line.{unhex, lineQuestions, readInto, lineOf}
 use Rattle.hex.specs.declared.Line.the-variants.{Refused}
 use Rattle.hex.proofs.Asked.{none-refused, turned-away}
@@ -19,13 +18,7 @@ use Rattle.protocol.specs.Table.{Step}
 use Rattle.call_spec.specs.Calls.{performed, pageAfter}
 use Rattle.link.specs.Record.{format, pagedFor, recordQuestions}
 use Rattle.link.specs.Lent.{stands}
-use Rattle.answer_text.specs.declared.Output.{Output}
-use Rattle.answer_text.specs.declared.Output.the-variants as output
-use Rattle.answer_text.specs.Text.{outputOf, answerRoom}
-use Rattle.answer_text.proofs.Outputs.{output-fits}
 use Rattle.line_answer.specs.Line.{lineCall, readyOutcome, lineOutcome}
-use Rattle.line_answer.specs.Text.{text, inRoom, recordLeft, pageLeft, LineAnswered}
-use Rattle.line_answer.specs.Internal.{Gives}
 
 -- what a line makes that has a character, as one has that passes 1 and 2
 makes-call : (rec page line : List ℕ) → length line ≢ 0
@@ -96,28 +89,3 @@ asked-of rec page h =
 pub page-still : (rec page : List ℕ) → pagedFor rec page ≡ true → pageAfter page (ok (stands rec)) ≡ page
 unfolding pageAfter
 page-still rec page h = stays (format .holds rec .local) page (omega (arith, goes-so (format .holds rec .local) page h .1))
-
--- the whole answer, without room for it and with
-module _ (rec page line out : List ℕ) where
-  gives-answer : (o : Outcome (Outcome Step)) → inRoom rec page line out ≡ o → {rec′ page′ out′ : List ℕ} {r : Output} → r ≡ outputOf (mapped (text rec) o)
-      → out′ ≡ left (mapped (text rec) o) out → rec′ ≡ recordLeft rec o → page′ ≡ pageLeft page o → LineAnswered rec page line out rec′ page′ out′ r
-  gives-answer o e a b c d = record { answer = rw e a; buffer = rw e b; end = rw e c; paged = rw e d }
-
-  pub no-room : length out < answerRoom → LineAnswered rec page line out rec page out (output.Refused 11)
-  unfolding inRoom first when outcome mapped outputOf left recordLeft pageLeft
-  no-room h = gives-answer (refused 11) (rw (lt-leb answerRoom (length out) h) refl) refl refl refl refl
-
-  pub in-room : answerRoom ≤ length out → inRoom rec page line out ≡ ok (lineOutcome rec page line)
-  unfolding inRoom first when outcome
-  in-room h = rw (le-leb answerRoom (length out) h) refl
-
-  pub with-text : answerRoom ≤ length out → {rec′ page′ out′ : List ℕ} {r : ℕ} → Gives (lineOutcome rec page line) rec page out rec′ page′ out′ r
-      → LineAnswered rec page line out rec′ page′ out′ (output.Written r)
-  unfolding mapped outputOf left recordLeft pageLeft
-  with-text h g =
-      gives-answer (ok (lineOutcome rec page line)) (in-room h) (ap output.Written (g .begins .count)) (g .begins .buffer) (g .end) (g .paged)
-
--- an answer has room in its buffer
-pub written-fits : {rec page line out rec′ page′ out′ : List ℕ} {n : ℕ} → LineAnswered rec page line out rec′ page′ out′ (output.Written n)
-    → length out′ ≡ length out → n ≤ length out
-written-fits {out = out} a l = output-fits out _ (a .answer) (a .buffer) l

@@ -13,12 +13,11 @@ use Rattle.link.specs.Record.{format, recordQuestions}
 use Rattle.link.specs.Lent.{toldOf, statusOf, stands}
 use Rattle.link.proofs.Stays.{record-holding}
 use Rattle.link.proofs.Standing.{stands-still}
-use Rattle.answer_text.specs.Text.{asLine, counted, answerOctets, answerLine, frameLine, textOf, outputOf, StartsWith}
+use Rattle.answer_text.specs.Text.{asLine, counted, answerOctets, answerLine, frameLine, textOf, StartsWith}
 use Rattle.answer_text.proofs.Text.{length-told}
 use Rattle.line_answer.specs.Line.{readyOutcome, lineOutcome}
-use Rattle.line_answer.specs.Text.{text, standing, recordLeft, pageLeft, EmptyAnswered, StandingSays, Undisturbed, PageUndisturbed}
-use Rattle.line_answer.specs.Internal.{Gives}
-use Rattle.line_answer.proofs.Lines.{asked-of, page-still, asks-standing, in-room}
+use Rattle.line_answer.specs.Text.{text, standing, LineAnswered, EmptyAnswered, StandingSays, Undisturbed, PageUndisturbed}
+use Rattle.line_answer.proofs.Lines.{asked-of, page-still, asks-standing}
 
 module _ (rec : List ℕ) where
   -- one answer line, without a block
@@ -49,7 +48,7 @@ module _ (rec page : List ℕ) where
   leaves-page (suc n) h = refl
 
   module _ (out : List ℕ) {out′ : List ℕ} (o : Octets rec) (h : first (recordQuestions rec page) ≡ 0) where
-    pub stands-there : {r : ℕ} → StartsWith (standing rec) out out′ r → Gives (ok (stands rec)) rec page out rec page out′ r
+    pub stands-there : {r : ℕ} → StartsWith (standing rec) out out′ r → LineAnswered (ok (stands rec)) rec page out rec page out′ r
     stands-there w = record { begins = w; end = sym (still o h); paged = sym (page-still rec page (asked-of rec page h .goes)) }
 
 pub undisturbed : Undisturbed
@@ -62,13 +61,11 @@ page-undisturbed rec page = leaves-page rec page (first (recordQuestions rec pag
 
 -- N5 of the call: every octet of what is lent
 pub stood : EmptyAnswered
-unfolding mapped outputOf left recordLeft pageLeft
-stood rec page out rec′ page′ out′ r o h room w =
-    let i = in-room rec page [] out room in
-    let e = i ∙ ap ok (asks-standing rec page [] h refl) in
+stood rec page out rec′ page′ out′ n o h w =
+    let b = rw (asks-standing rec page [] h refl) at (w .begins) in
     record {
-      answer = rw (e, standing-long rec) at (w .answer);
-      buffer = rw e at (w .buffer);
-      end = rw i at (w .end) ∙ undisturbed rec page o;
-      paged = rw i at (w .paged) ∙ page-undisturbed rec page;
+      count = b .count ∙ standing-long rec;
+      buffer = b .buffer;
+      end = w .end ∙ undisturbed rec page o;
+      paged = w .paged ∙ page-undisturbed rec page;
     }

@@ -1,4 +1,3 @@
 pub mod Line
 pub mod Text
 pub mod Claim
-pub mod Internal

@@ -1,20 +1,16 @@
 -- The text of an answer at one end.
-use Prim.Native.Nat.{ℕ, _≤_}
+use Prim.Native.Nat.{ℕ}
 use mathlib.Core.Path.{_≡_}
 use mathlib.Core.List.{List, [], _∷_}
-use lib.Dec.{leb}
-use lib.ListN.{length}
-use Rattle.octets.specs.Test.{first, Outcome, refused, ok, outcome, mapped}
-use Rattle.octets.specs.Octets.{put, left, lay, Octets}
+use Rattle.octets.specs.Test.{first, Outcome, ok}
+use Rattle.octets.specs.Octets.{put, lay, Octets}
 use Rattle.protocol.specs.Table.{Step}
 use Rattle.call_spec.specs.Calls.{wire, recordAfter, pageAfter}
 use Rattle.call_spec.specs.Answers.{sentIn, blockOf}
 use Rattle.endpoint.specs.Record.{decode}
 use Rattle.link.specs.Record.{format, recordQuestions}
 use Rattle.link.specs.Lent.{statusOf, stands}
-use Rattle.answer_text.specs.declared.Output.{Output}
-use Rattle.answer_text.specs.declared.Output.the-variants.{Written}
-use Rattle.answer_text.specs.Text.{asLine, textOf, outputOf, answerRoom}
+use Rattle.answer_text.specs.Text.{asLine, textOf, StartsWith}
 use Rattle.line_answer.specs.Line.{lineOutcome}
 
 -- the text of a call's outcome
@@ -25,37 +21,24 @@ text rec o = textOf (statusOf rec o) (blockOf o) (wire (sentIn o))
 abbrev pub standing : List ℕ → List ℕ
 standing rec = text rec (ok (stands rec))
 
--- A line's answer into a buffer: without room for it, nothing is asked of the end.
-unfoldable pub inRoom : List ℕ → List ℕ → List ℕ → List ℕ → Outcome (Outcome Step)
-inRoom rec page line out = outcome (first ((11, leb answerRoom (length out)) ∷ [])) (lineOutcome rec page line)
-
-unfoldable pub recordLeft : List ℕ → Outcome (Outcome Step) → List ℕ
-recordLeft rec (refused n) = rec
-recordLeft rec (ok o) = recordAfter format rec o
-
-unfoldable pub pageLeft : List ℕ → Outcome (Outcome Step) → List ℕ
-pageLeft page (refused n) = page
-pageLeft page (ok o) = pageAfter page o
-
--- What the answer to a line is, and every octet that it leaves.
-pub record LineAnswered (rec page line out rec′ page′ out′ : List ℕ) (r : Output) : Type 0 where
-  pub answer : r ≡ outputOf (mapped (text rec) (inRoom rec page line out))
-  pub buffer : out′ ≡ left (mapped (text rec) (inRoom rec page line out)) out
-  pub end : rec′ ≡ recordLeft rec (inRoom rec page line out)
-  pub paged : page′ ≡ pageLeft page (inRoom rec page line out)
+-- What the answer to a line that comes to o is, and every octet that it leaves: the text of o at the start of out, and the record and the page as o leaves them.
+pub record LineAnswered (o : Outcome Step) (rec page out rec′ page′ out′ : List ℕ) (n : ℕ) : Type 0 where
+  pub begins : StartsWith (text rec o) out out′ n
+  pub end : rec′ ≡ recordAfter format rec o
+  pub paged : page′ ≡ pageAfter page o
 
 -- What an empty line leaves of all that is lent, where 11, 12 and 15 are passed (document 02, N5): 23 characters, and nothing else moves.
-pub record Stood (rec page out rec′ page′ out′ : List ℕ) (r : Output) : Type 0 where
-  pub answer : r ≡ Written 23
+pub record Stood (rec page out rec′ page′ out′ : List ℕ) (n : ℕ) : Type 0 where
+  pub count : n ≡ 23
   pub buffer : out′ ≡ put out 0 (standing rec)
   pub end : rec′ ≡ rec
   pub paged : page′ ≡ page
 
--- The claims: so it is answered, with room for an answer;
+-- The claims: so it is answered;
 abbrev pub EmptyAnswered : Type 0
 EmptyAnswered =
-    (rec page out rec′ page′ out′ : List ℕ) (r : Output) → Octets rec → first (recordQuestions rec page) ≡ 0 → answerRoom ≤ length out
-    → LineAnswered rec page [] out rec′ page′ out′ r → Stood rec page out rec′ page′ out′ r
+    (rec page out rec′ page′ out′ : List ℕ) (n : ℕ) → Octets rec → first (recordQuestions rec page) ≡ 0
+    → LineAnswered (lineOutcome rec page []) rec page out rec′ page′ out′ n → Stood rec page out rec′ page′ out′ n
 
 -- these are its characters: 80 (hexadecimal), for number 0, the record's state, notice 0, its L and D;
 abbrev pub StandingSays : Type 0

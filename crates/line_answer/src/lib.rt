@@ -1,9 +1,7 @@
 // One end asked by lines of text: a line and its answer.
-use answer_text::Output;
 use call_spec::Call;
 use frame::Class;
 use hex::Line;
-use octets::refusal;
 ghost use mathlib.Core.Path.{_≡_};
 ghost use Prim.Native.Nat.{_≤_};
 ghost use lib.ListN.{length};
@@ -13,9 +11,8 @@ ghost use Rattle.call_spec.specs.Calls.{performed};
 ghost use Rattle.endpoint.specs.Record.{recordSize};
 ghost use Rattle.link.specs.Record.{format, recordQuestions};
 ghost use Rattle.answer_text.specs.Text.{answerRoom, StartsWith};
-ghost use Rattle.line_answer.specs.Line.{callIn, lineCall};
+ghost use Rattle.line_answer.specs.Line.{callIn, lineCall, lineOutcome};
 ghost use Rattle.line_answer.specs.Text.{text, standing, LineAnswered};
-ghost use Rattle.line_answer.specs.Internal.{Gives};
 
 // The call that the octets of a line make.
 fn call_in(s: &[u8]) -> Call
@@ -32,7 +29,7 @@ fn call_in(s: &[u8]) -> Call
 // What the octets of a line ask, where 11, 12 and 15 of the record and its page are passed. The page is stored to first.
 fn ask(rec: &mut [u8], page: &mut [u8], s: &[u8], out: &mut [u8]) -> usize
     requires { ⌜ (first (recordQuestions (now rec) (now page)) ≡ 0) × ((length (now s) ≤ longestFrame) × (answerRoom ≤ length (now out))) ⌝ }
-    ensures { λ r. ⌜ Gives (performed format (now (rec .entry)) (now (page .entry)) (lineCall (now (s .entry)))) (now (rec .entry)) (now (page .entry)) (now (out .entry)) (now (rec .exit)) (now (page .exit)) (now (out .exit)) r ⌝ }
+    ensures { λ r. ⌜ LineAnswered (performed format (now (rec .entry)) (now (page .entry)) (lineCall (now (s .entry)))) (now (rec .entry)) (now (page .entry)) (now (out .entry)) (now (rec .exit)) (now (page .exit)) (now (out .exit)) r ⌝ }
 {
     let mut frame = [0u8; octets::LONGEST_FRAME];
     let mut up = [0u8; octets::LONGEST_BLOCK];
@@ -65,24 +62,22 @@ pub fn stand(rec: &[u8], out: &mut [u8]) -> usize
 }
 
 // Answers a line, which is given without its line feed, at the end with the record rec and this page: the answer line and, if a frame is
-// sent, its line go to the start of out, which needs room for answer_text::ANSWER_ROOM characters.
-pub fn answer(rec: &mut [u8], page: &mut [u8], line: &[u8], out: &mut [u8]) -> Output
-    ensures { λ r. ⌜ LineAnswered (now (rec .entry)) (now (page .entry)) (now (line .entry)) (now (out .entry)) (now (rec .exit)) (now (page .exit)) (now (out .exit)) r ⌝ }
+// sent, its line go to the start of out, which has room for answer_text::ANSWER_ROOM characters; how many they are.
+pub fn answer(rec: &mut [u8], page: &mut [u8], line: &[u8], out: &mut [u8]) -> usize
+    requires { ⌜ answerRoom ≤ length (now out) ⌝ }
+    ensures { λ r. ⌜ LineAnswered (lineOutcome (now (rec .entry)) (now (page .entry)) (now (line .entry))) (now (rec .entry)) (now (page .entry)) (now (out .entry)) (now (rec .exit)) (now (page .exit)) (now (out .exit)) r ⌝ }
 {
-    if out.len() < answer_text::ANSWER_ROOM {
-        return Output::Refused(refusal::SHORT_BUFFER);
-    }
     let asked = link::ready(rec, page);
     if asked != 0 {
-        return Output::Written(refuse(rec, asked, out));
+        return refuse(rec, asked, out);
     }
     if line.len() == 0 {
-        return Output::Written(stand(rec, out));
+        return stand(rec, out);
     }
     let mut s = [0u8; octets::LONGEST_FRAME];
     let read = hex::read(line, &mut s);
     match read {
-        Line::Decoded(n) => Output::Written(ask(rec, page, &s[..n], out)),
-        Line::Refused(number) => Output::Written(refuse(rec, number, out)),
+        Line::Decoded(n) => ask(rec, page, &s[..n], out),
+        Line::Refused(number) => refuse(rec, number, out),
     }
 }

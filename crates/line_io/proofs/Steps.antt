@@ -10,6 +10,7 @@ use lib.Seq.{length-take-le, take-at}
 use Rattle.octets.specs.Octets.{put}
 use Rattle.octets.specs.Test.{when, ifEq}
 use Rattle.octets.proofs.Test.{by-eq, eq-yes, eq-no, if-lt}
+use Rattle.octets.proofs.Buffers.{put-fits}
 use Rattle.line_split.specs.Split.{ended, last, longestKept, cut}
 use Rattle.line_io.specs.declared.Place.{Place}
 use Rattle.line_io.specs.Answering.{Answering, Cuts, stateAfter, answers}
@@ -290,20 +291,22 @@ free out filled = take (length out - filled) (drop filled out)
 pub free-room : (out : List ℕ) (filled room : ℕ) → filled + room ≤ length out → room ≤ length (free out filled)
 free-room out filled room h = simp (length-take, length-drop) (omega arith)
 
--- an answer in the free part of a buffer, which comes back as x
-pub replied : {a : Answering} {s s′ : a .State} (line out : List ℕ) (filled : ℕ) {n : ℕ} {x : List ℕ} (rest : List ℕ) → filled ≤ length out
-    → s′ ≡ a .next s line → n ≡ length (a .says s line) → x ≡ put (free out filled) 0 (a .says s line) → n ≤ length (free out filled)
-    → Replied a s line out filled s′ (take filled out ++ (x ++ rest)) n
+-- an answer in the free part of a buffer, which comes back as x and is no longer than it was
+pub replied : {a : Answering} {s s′ : a .State} (line out : List ℕ) (filled : ℕ) {n : ℕ} {x : List ℕ} → filled ≤ length out
+    → s′ ≡ a .next s line → n ≡ length (a .says s line) → x ≡ put (free out filled) 0 (a .says s line) → length x ≡ length (free out filled)
+    → Replied a s line out filled s′ (take filled out ++ (x ++ drop (length out - filled) (drop filled out))) n
 unfolding put
-replied {a = a} {s = s} line out filled {n} {x} rest h es en ex f =
+replied {a = a} {s = s} line out filled {n} {x} h es en ex l =
     let t = a .says s line in
     let d = free out filled in
+    let rest = drop (length out - filled) (drop filled out) in
     let r = drop (0 + length t) d ++ rest in
     let e : take filled out ++ (x ++ rest) ≡ (take filled out ++ t) ++ r =
     ap (λ (y : List ℕ). take filled out ++ (y ++ rest)) ex
     ∙ ap (λ (y : List ℕ). take filled out ++ y) (append-assoc t (drop (0 + length t) d) rest)
     ∙ sym (append-assoc (take filled out) t r) in
-    let l : length (take filled out ++ t) ≡ filled + n =
+    let m : length (take filled out ++ t) ≡ filled + n =
     length-append (take filled out) t ∙ omega (arith, length-take-le filled out h, en) in
-    let b : n ≤ length out - filled = omega (arith, simp (length-take, length-drop) at f) in
-    record { state = es; room = omega arith; told = ap (take (filled + n)) e ∙ take-at (take filled out ++ t) r (filled + n) l }
+    let f = put-fits d t ex l in
+    let b : n ≤ length out - filled = omega (arith, en, simp (length-take, length-drop) at f) in
+    record { state = es; room = omega arith; told = ap (take (filled + n)) e ∙ take-at (take filled out ++ t) r (filled + n) m }

@@ -62,8 +62,8 @@ fn tell(what: &[u8]) {
 }
 
 // Writes what waits of the output. Whether all was written, no contract can say.
-fn flush(out: &[u8; BUFFER_SIZE], p: Place) -> bool
-    requires { ⌜ p .filled ≤ bufferSize ⌝ }
+fn flush(out: &[u8], p: Place) -> bool
+    requires { ⌜ p .filled ≤ length (now out) ⌝ }
 {
     io::write_all(libc::STDOUT_FILENO, waiting(out, p))
 }
@@ -159,11 +159,11 @@ fn take(buf: &[u8], line: &mut [u8], p: Place) -> Place
 pub fn next(
     buf: &mut [u8; BUFFER_SIZE],
     line: &mut [u8; LONGEST_KEPT],
-    out: &[u8; BUFFER_SIZE],
+    out: &[u8],
     room: usize,
     p: Place,
 ) -> Place
-    requires { ⌜ (PlaceFits p) × (0 < p .steps) ⌝ }
+    requires { ⌜ (PlaceFits p) × ((0 < p .steps) × (length (now out) ≡ bufferSize)) ⌝ }
     ensures { λ r. ⌜ Next room (now (buf .entry)) (now (line .entry)) p (now (buf .exit)) (now (line .exit)) r ⌝ }
 {
     let mut q = p;

@@ -34,11 +34,11 @@ asked : (c : tie.Start) → Asked (now (c .args .rec)) (now (c .args .page))
 asked c = asked-of (now (c .args .rec)) (now (c .args .page)) (c .pre .0)
 
 plan-sound-requires : tie.Need-plan-sound-requires
-plan-sound-requires c κs = let k = asked (c .before .before .before .before .before .before) in (k .long, k .is-sound)
+plan-sound-requires c κs = let s : tie.Start = search in let k = asked s in (k .long, k .is-sound)
 
 -- the start
 abbrev start-of : tie.After-plan-sound → tie.Start
-start-of c = c .before .before .before .before .before .before .before
+start-of c = search
 
 -- the call that is planned
 abbrev call-of : tie.After-plan-sound → Arguments
@@ -67,11 +67,11 @@ page-is c =
     let s = start-of (c .before .before) in
     let page = now (s .args .page) in
     reserved (now (s .args .rec)) (asked s .long) page (call-of (c .before .before)) (planned (c .before .before)) (c .reserve .ensures .0)
-    ∙ ap (λ (k : Call). pageAfter page (performed format (now (s .args .rec)) page (given k (now (s .args .s)) (rooms longestFrame longestBlock)))) (c .before .before .before .before .call-in .ensures)
+    ∙ ap (λ (k : Call). pageAfter page (performed format (now (s .args .rec)) page (given k (now (s .args .s)) (rooms longestFrame longestBlock)))) (let i : tie.After-call-in = search in i .call-in .ensures)
 
 -- the plan that is carried out
 abbrev plan-of : tie.After-finish → tie.After-plan-sound
-plan-of c = c .before .before .before .before .before .before .before .before .before
+plan-of c = search
 
 called : (c : tie.After-finish)
     → let s = start-of (plan-of c) in
@@ -93,7 +93,7 @@ fits c =
 
 -- the block handed up
 abbrev finish-of : tie.After-block-part → tie.After-finish
-finish-of c = c .before .before .before .before .before .before .before
+finish-of c = search
 
 block-is : (c : tie.After-block-part) → now (c .block-part .result) ≡ blockOf (comes (start-of (plan-of (finish-of c))))
 block-is c =

@@ -10,15 +10,15 @@ use Rattle.line_answer.proofs.call_in.Tie as tie
 
 returns : tie.Need-returns
 unfolding callIn when
-returns c = let k = kindOf (now (c .before .before .before .before .args .s)) in rw (frame-no-request k (of-frame k (sym (c .before .before .class-of .ensures) ∙ c .enum-told .given .1))) refl
+returns c = let s : tie.Start = search in let k = kindOf (now (s .args .s)) in rw (frame-no-request k (of-frame k (sym (c .before .before .class-of .ensures) ∙ c .enum-told .given .1))) refl
 
 returns-2 : tie.Need-returns-2
 unfolding callIn when
-returns-2 c = let k = kindOf (now (c .before .before .before .before .args .s)) in rw (of-request k (sym (c .before .before .class-of .ensures) ∙ c .enum-told2 .given .1) .1) refl
+returns-2 c = let s : tie.Start = search in let k = kindOf (now (s .args .s)) in rw (of-request k (sym (c .before .before .class-of .ensures) ∙ c .enum-told2 .given .1) .1) refl
 
 returns-3 : tie.Need-returns-3
 unfolding callIn when
-returns-3 c = let k = kindOf (now (c .before .before .before .before .args .s)) in rw (of-unknown k (sym (c .before .before .class-of .ensures) ∙ c .enum-told3 .given .1) .1) refl
+returns-3 c = let s : tie.Start = search in let k = kindOf (now (s .args .s)) in rw (of-unknown k (sym (c .before .before .class-of .ensures) ∙ c .enum-told3 .given .1) .1) refl
 
 pub call-in-spec : {M : Type 1} → statement M
 call-in-spec =

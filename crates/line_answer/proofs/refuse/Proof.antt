@@ -9,12 +9,13 @@ use Rattle.line_answer.proofs.refuse.Statement.{statement}
 use Rattle.line_answer.proofs.refuse.Tie as tie
 
 write-answer-requires : tie.Need-write-answer-requires
-write-answer-requires c κs = (omega arith, omega (arith, length-told (c .before .before .before .refuse .result .status), c .before .before .before .before .before .before .pre))
+write-answer-requires c κs = let s : tie.Start = search in (omega arith, omega (arith, length-told (c .before .before .before .refuse .result .status), s .pre))
 
 returns : tie.Need-returns
 returns c =
-    let a = c .before .before .before .before .before .before .before .before .before .args in
-    tells-refusal (now (a .rec)) (now (a .out)) (a .number) (c .before .before .before .before .before .before .refuse .ensures) (text-none _ [] [] (now (a .out)) refl (c .before .before .write-answer .ensures))
+    let s : tie.Start = search in
+    let r : tie.After-refuse = search in
+    tells-refusal (now (s .args .rec)) (now (s .args .out)) (s .args .number) (r .refuse .ensures) (text-none _ [] [] (now (s .args .out)) refl (c .before .before .write-answer .ensures))
 
 pub refuse-spec : {M : Type 1} → statement M
 refuse-spec =

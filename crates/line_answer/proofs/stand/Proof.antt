@@ -8,11 +8,14 @@ use Rattle.line_answer.proofs.stand.Tie as tie
 
 write-answer-requires : tie.Need-write-answer-requires
 write-answer-requires c κs =
-    let s = c .before .before .before .before .before in
+    let s : tie.Start = search in
     (omega arith, rw (c .before .before .stands .ensures, sym (standing-is (now (s .args .rec)))) (s .pre .1))
 
 returns : tie.Need-returns
-returns c = rw (standing-is (now (c .before .before .before .before .before .before .before .before .args .rec)), sym (c .before .before .before .before .before .stands .ensures)) (c .before .before .write-answer .ensures)
+returns c =
+    let s : tie.Start = search in
+    let t : tie.After-stands = search in
+    rw (standing-is (now (s .args .rec)), sym (t .stands .ensures)) (c .before .before .write-answer .ensures)
 
 pub stand-spec : {M : Type 1} → statement M
 stand-spec =
