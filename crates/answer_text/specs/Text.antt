@@ -4,13 +4,10 @@ use mathlib.Core.Path.{_≡_}
 use mathlib.Core.List.{List, [], _∷_, _++_}
 use lib.ListN.{length}
 use Rattle.octets.specs.Sizes.{longestFrame, longestBlock}
-use Rattle.octets.specs.Test.{Outcome, refused, ok}
 use Rattle.octets.specs.Octets.{put, lay}
 use Rattle.hex.specs.Line.{hex}
 use Rattle.frame.specs.Frame.{Block}
 use Rattle.call_spec.specs.declared.Status.{Status}
-use Rattle.answer_text.specs.declared.Output.{Output}
-use Rattle.answer_text.specs.declared.Output.the-variants.{Written, Refused}
 
 -- octets as a line of output
 unfoldable pub asLine : List ℕ → List ℕ
@@ -45,11 +42,6 @@ longestAnswer = 11 + 1 + longestBlock
 -- The room that an answer asks for: the answer line, with its line feed, and the line of the longest frame.
 abbrev pub answerRoom : ℕ
 answerRoom = (2 * longestAnswer + 1) + (2 * longestFrame + 1)
-
--- what the answer's enum says: how many characters, or the refusal's number
-unfoldable pub outputOf : Outcome (List ℕ) → Output
-outputOf (refused n) = Refused n
-outputOf (ok s) = Written (length s)
 
 -- s stands at the start of the buffer, and n is its length
 pub record StartsWith (s out out′ : List ℕ) (n : ℕ) : Type 0 where

@@ -17,12 +17,6 @@ const BLOCK_AT: usize = NUMBERS_SIZE + 1;
 
 const LINE_FEED: u8 = 10;
 
-// What the answer to a line is: so many characters at the start of the buffer; or 11 where the buffer is too short for any.
-pub enum Output {
-    Written(usize),
-    Refused(u8),
-}
-
 // Writes the octets of s as a line to the start of out.
 fn write_line(s: &[u8], out: &mut [u8]) -> usize
     requires { ⌜ 2 * length (now s) + 1 ≤ length (now out) ⌝ }

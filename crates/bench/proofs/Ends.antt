@@ -1,11 +1,10 @@
 -- What answers a line on the bench, and the program's theorem.
-use Prim.Native.Nat.{ℕ, zero, suc, _+_, _≤_}
+use Prim.Native.Nat.{ℕ, zero, suc, _-_, _≤_}
 use mathlib.Core.Path.{_≡_, refl, sym, ap, _∙_}
-use mathlib.Core.List.{List, []}
+use mathlib.Core.List.{List, [], _++_}
 use native.Mathlib.Omega.{arith}
-use borrow.Author.Tests.{le-leb}
-use lib.ListN.{length}
-use Rattle.octets.specs.Test.{when, ifEq, first, Outcome, refused, ok, outcome, refusing}
+use lib.ListN.{length, take, drop}
+use Rattle.octets.specs.Test.{ifEq, first, Outcome, refused, ok, refusing}
 use Rattle.octets.proofs.Test.{eq-yes, eq-no}
 use Rattle.octets.specs.Sizes.{longestFrame, longestBlock}
 use Rattle.call_spec.specs.Calls.{rooms}
@@ -14,13 +13,14 @@ use Rattle.hex.proofs.Normal.{asked-alike, unhex-normal}
 use Rattle.call_spec.specs.Claim.{Lent}
 use Rattle.link.specs.Lent.{freshEnd}
 use Rattle.bench_spec.specs.Bench.{Bench, benchOf, bufferQuestions, roomQuestions, soundQuestions, At, octetsAsk, restartedBy, restartedEnd, neither, lineAsks, comes, endOf, benchAfter}
-use Rattle.bench_answer.specs.Text.{answerRoom, benchText, askedWith}
+use Rattle.bench_answer.specs.Text.{answerRoom, benchText, asked, BenchAnswered}
 use Rattle.line_split.specs.Split.{cut}
 use Rattle.line_split.proofs.Long.{asks-cut}
 use Rattle.line_io.specs.Answering.{Cuts}
 use Rattle.line_io.specs.Claim.{WholeText, EitherCase}
 use Rattle.line_io.proofs.Answers.{input-normal}
-use Rattle.line_io.proofs.Steps.{free, free-room}
+use Rattle.line_io.specs.Step.{Replied}
+use Rattle.line_io.proofs.Steps.{free, replied}
 use Rattle.line_io.proofs.Program.{program-run}
 use Rattle.bench.specs.Ends.{bothEnds, freshBench}
 
@@ -41,7 +41,7 @@ restarts-in l = named (first (lineQuestions l)) (restartedBy (unhex l))
 restarts-cut : (l : List ℕ) → restartedEnd (cut l) ≡ restartedEnd l
 restarts-cut l = restarts-in (cut l) ∙ ap endIn (asks-cut [] tt (λ (x : List ℕ). ok (restartedBy (unhex x))) l) ∙ sym (restarts-in l)
 
-same : (w : Bench) (l : List ℕ) → lineAsks w (cut l) (rooms longestFrame longestBlock) ≡ lineAsks w l (rooms longestFrame longestBlock)
+same : (w : Bench) (l : List ℕ) → asked w (cut l) ≡ asked w l
 unfolding lineAsks
 same w l = rw (restarts-cut l) (asks-cut (bufferQuestions w (roomQuestions (rooms longestFrame longestBlock) (soundQuestions (restartedEnd l) w []))) tt (λ (x : List ℕ). octetsAsk w (unhex x) (rooms longestFrame longestBlock)) l)
 
@@ -53,7 +53,7 @@ cuts =
     }
 
 -- A line counts as its normal form, so an input is answered in either case with the same text.
-either-case : (w : Bench) (l : List ℕ) → lineAsks w (normal l) (rooms longestFrame longestBlock) ≡ lineAsks w l (rooms longestFrame longestBlock)
+either-case : (w : Bench) (l : List ℕ) → asked w (normal l) ≡ asked w l
 unfolding lineAsks restartedEnd
 either-case w l = rw (asked-alike l, unhex-normal l) refl
 
@@ -64,10 +64,11 @@ either-case-text =
     (λ w l. ap (benchText w) (either-case w l))
     freshBench
 
--- where there is room for an answer, the line is asked
-pub asks-with : (w : Bench) (line out : List ℕ) (filled : ℕ) → filled + answerRoom ≤ length out → askedWith w line (free out filled) ≡ ok (lineAsks w line (rooms longestFrame longestBlock))
-unfolding askedWith first when outcome
-asks-with w line out filled h = rw (le-leb answerRoom (length (free out filled)) (free-room out filled answerRoom h)) refl
+-- The answer to a line, in the free part of the output.
+pub replies : (w : Bench) (line out : List ℕ) (filled : ℕ) {w′ : Bench} {x : List ℕ} {n : ℕ} → filled ≤ length out
+    → BenchAnswered w (asked w line) (free out filled) w′ x n → length x ≡ length (free out filled)
+    → Replied bothEnds w line out filled w′ (take filled out ++ (x ++ drop (length out - filled) (drop filled out))) n
+replies w line out filled h g l = replied line out filled h (g .bench) (g .begins .count) (g .begins .buffer) l
 
 -- two fresh ends and an empty log
 pub all-fresh : {a b : Lent} {log : List ℕ} {count : ℕ} → a ≡ freshEnd → b ≡ freshEnd → log ≡ freshBench .log → count ≡ freshBench .count → benchOf a b log count ≡ freshBench

@@ -1,11 +1,9 @@
 -- What answers the lines of the bench program: two ends and the log.
 use lib.ListN.{replicate}
-use Rattle.octets.specs.Sizes.{longestFrame, longestBlock}
-use Rattle.call_spec.specs.Calls.{rooms}
 use Rattle.link.specs.Lent.{freshEnd}
 use Rattle.bench_log.specs.Log.{logSize}
-use Rattle.bench_spec.specs.Bench.{Bench, benchOf, lineAsks, comes, endOf, benchAfter}
-use Rattle.bench_answer.specs.Text.{benchText}
+use Rattle.bench_spec.specs.Bench.{Bench, benchOf, comes, endOf, benchAfter}
+use Rattle.bench_answer.specs.Text.{benchText, asked}
 use Rattle.line_io.specs.Answering.{Answering}
 
 -- Its state is the bench. A line's text is that of what it asks.
@@ -13,8 +11,8 @@ abbrev pub bothEnds : Answering
 bothEnds =
     record {
       State = Bench;
-      next = λ w line. benchAfter (endOf (lineAsks w line (rooms longestFrame longestBlock))) w (comes w (lineAsks w line (rooms longestFrame longestBlock)));
-      says = λ w line. benchText w (lineAsks w line (rooms longestFrame longestBlock));
+      next = λ w line. benchAfter (endOf (asked w line)) w (comes w (asked w line));
+      says = λ w line. benchText w (asked w line);
     }
 
 -- what it begins with: fresh ends on new pages, and an empty log

@@ -1,38 +1,15 @@
 // The bench program: two ends and every frame ever sent, asked by lines of standard input, answered on standard output.
-use answer_text::Output;
 use line_io::Place;
 ghost use mathlib.Core.Path.{_≡_};
-ghost use Prim.Native.Nat.{_+_, _≤_, _<_};
+ghost use Prim.Native.Nat.{_<_};
 ghost use lib.ListN.{length};
 ghost use Rattle.call_spec.specs.Claim.{lent};
-ghost use Rattle.bench_spec.specs.Bench.{benchOf};
+ghost use Rattle.bench_spec.specs.Bench.{Bench, benchOf};
 ghost use Rattle.bench_answer.specs.Text.{answerRoom};
-ghost use Rattle.line_io.specs.Place.{PlaceFits};
-ghost use Rattle.line_io.specs.Step.{Replied, Stepped};
+ghost use Rattle.line_io.specs.Place.{bufferSize, PlaceFits};
+ghost use Rattle.line_io.specs.Step.{Stepped};
 ghost use Rattle.line_io.specs.Program.{Ran};
 ghost use Rattle.bench.specs.Ends.{bothEnds, freshBench};
-
-// Answers a line into the free part of out; how many characters the answer has.
-fn answer(
-    a: &mut [u8],
-    b: &mut [u8],
-    a_page: &mut [u8],
-    b_page: &mut [u8],
-    log: &mut [u8],
-    count: &mut usize,
-    line: &[u8],
-    out: &mut [u8],
-    filled: usize,
-) -> usize
-    requires { ⌜ filled + answerRoom ≤ length (now out) ⌝ }
-    ensures { λ r. ⌜ Replied bothEnds (benchOf (lent (now (a .entry)) (now («a_page» .entry))) (lent (now (b .entry)) (now («b_page» .entry))) (now (log .entry)) (now (count .entry))) (now (line .entry)) (now (out .entry)) filled (benchOf (lent (now (a .exit)) (now («a_page» .exit))) (lent (now (b .exit)) (now («b_page» .exit))) (now (log .exit)) (now (count .exit))) (now (out .exit)) r ⌝ }
-{
-    let reply = bench_answer::answer(a, b, a_page, b_page, log, count, line, &mut out[filled..]);
-    match reply {
-        Output::Written(n) => n,
-        Output::Refused(_) => 0,
-    }
-}
 
 // One step of the stream, with the answer where a line is ready.
 fn step(
@@ -44,17 +21,20 @@ fn step(
     count: &mut usize,
     buf: &mut [u8; line_io::BUFFER_SIZE],
     line: &mut [u8; line_io::LONGEST_KEPT],
-    out: &mut [u8; line_io::BUFFER_SIZE],
+    out: &mut [u8],
     p: Place,
 ) -> Place
-    requires { ⌜ (PlaceFits p) × (0 < p .steps) ⌝ }
-    ensures { λ r. ⌜ Stepped bothEnds answerRoom (benchOf (lent (now (a .entry)) (now («a_page» .entry))) (lent (now (b .entry)) (now («b_page» .entry))) (now (log .entry)) (now (count .entry))) (now (buf .entry)) (now (line .entry)) (now (out .entry)) p (benchOf (lent (now (a .exit)) (now («a_page» .exit))) (lent (now (b .exit)) (now («b_page» .exit))) (now (log .exit)) (now (count .exit))) (now (buf .exit)) (now (line .exit)) (now (out .exit)) r ⌝ }
+    requires { ⌜ (PlaceFits p) × ((0 < p .steps) × (length (now out) ≡ bufferSize)) ⌝ }
+    ensures { λ r. ⌜ (let w : Bench = benchOf (lent (now (a .entry)) (now («a_page» .entry))) (lent (now (b .entry)) (now («b_page» .entry))) (now (log .entry)) (now (count .entry)) in
+        let w′ : Bench = benchOf (lent (now (a .exit)) (now («a_page» .exit))) (lent (now (b .exit)) (now («b_page» .exit))) (now (log .exit)) (now (count .exit)) in
+        Stepped bothEnds answerRoom w (now (buf .entry)) (now (line .entry)) (now (out .entry)) p w′ (now (buf .exit)) (now (line .exit)) (now (out .exit)) r) ⌝ }
 {
     let q = line_io::next(buf, line, out, bench_answer::ANSWER_ROOM, p);
     if q.lines == 0 {
         return q;
     }
-    let n = answer(
+    let filled = q.filled;
+    let n = bench_answer::answer(
         a,
         b,
         a_page,
@@ -62,8 +42,7 @@ fn step(
         log,
         count,
         line_io::ready(buf, line, q),
-        out,
-        q.filled,
+        &mut out[filled..],
     );
     line_io::answered(q, n)
 }
@@ -82,7 +61,8 @@ fn run(
 ) -> Place
     requires { ⌜ (now «a_page» ≡ freshBench .a .page) × (now «b_page» ≡ freshBench .b .page) ⌝ }
     requires { ⌜ (now log ≡ freshBench .log) × (now count ≡ freshBench .count) ⌝ }
-    ensures { λ r. ⌜ (Ran bothEnds answerRoom freshBench (benchOf (lent (now (a .exit)) (now («a_page» .exit))) (lent (now (b .exit)) (now («b_page» .exit))) (now (log .exit)) (now (count .exit))) (now (buf .exit)) (now (line .exit)) (now (out .exit)) r) × (r .steps ≡ 0) ⌝ }
+    ensures { λ r. ⌜ (let w : Bench = benchOf (lent (now (a .exit)) (now («a_page» .exit))) (lent (now (b .exit)) (now («b_page» .exit))) (now (log .exit)) (now (count .exit)) in
+        (Ran bothEnds answerRoom freshBench w (now (buf .exit)) (now (line .exit)) (now (out .exit)) r) × (r .steps ≡ 0)) ⌝ }
 {
     link::restart(a, a_page);
     link::restart(b, b_page);

@@ -1,17 +1,16 @@
 -- From what a bench line answers to its text.
-use Prim.Native.Nat.{ℕ, _+_, _-_, _*_, _≤_, _<_}
+use Prim.Native.Nat.{ℕ, _+_, _-_, _*_, _≤_}
 use mathlib.Core.Path.{_≡_, refl, sym, subst, ap, _∙_}
 use mathlib.Core.Bool.{Bool, true, false}
 use mathlib.Core.List.{List, [], _∷_, _++_}
 use native.Mathlib.Omega.{arith}
-use borrow.Author.Tests.{le-leb, lt-leb}
 use lib.Dec.{ltb, eqb}
 use lib.ListN.{length, take, drop, replicate, length-take}
 use Rattle.frame.specs.Frame.{Block}
 use Rattle.protocol.specs.Table.{Step}
 use Rattle.octets.specs.Sizes.{longestFrame, longestBlock}
-use Rattle.octets.specs.Test.{when, inRange, first, Outcome, refused, ok, outcome, mapped, andThen}
-use Rattle.octets.specs.Octets.{field, left}
+use Rattle.octets.specs.Test.{when, inRange, first, Outcome, refused, ok, outcome, andThen}
+use Rattle.octets.specs.Octets.{field}
 use Rattle.octets.proofs.Test.{if-eq, within}
 use Rattle.octets.proofs.Outcomes.{after-question}
 use Rattle.hex.specs.Line.{unhex}
@@ -25,18 +24,14 @@ use Rattle.link.specs.Record.{format}
 use Rattle.link.proofs.Answers.{sent-fits, sent-taken, received-short, collected-short}
 use Rattle.bench_log.specs.Log.{placeSize, senderAt, lengthAt, frameLogged, holds}
 use Rattle.bench_log.proofs.Log.{held}
-use Rattle.answer_text.specs.declared.Output.{Output}
-use Rattle.answer_text.specs.declared.Output.the-variants as output
-use Rattle.answer_text.specs.Text.{textOf, outputOf, StartsWith}
-use Rattle.answer_text.proofs.Outputs.{output-fits}
+use Rattle.answer_text.specs.Text.{textOf, StartsWith}
 use Rattle.bench_spec.specs.Bench.{Bench, benchOf, lentAt, At, delivery, octetsAsk, restartAsk, lineAsks, comes, endOf, endNamed, requestOfA, requestOfB, deliver, restartKind}
 use Rattle.bench_call.specs.declared.BenchAnswer.{BenchAnswer}
 use Rattle.bench_call.specs.Answer.{benchBlockAt, benchAnswerOf}
 use Rattle.bench_call.proofs.Does.{with-14}
 use Rattle.bench_call.proofs.Restarts.{restart-step}
 use Rattle.bench_order.specs.Performed.{Performed}
-use Rattle.bench_answer.specs.Text.{lead, benchText, answerRoom, askedWith, benchIn, BenchAnswered}
-use Rattle.bench_answer.specs.Internal.{BenchGives}
+use Rattle.bench_answer.specs.Text.{lead, benchText, BenchAnswered}
 
 -- the block of an outcome has at most 64 octets
 abbrev Short : Outcome Step → Type 0
@@ -147,27 +142,6 @@ module _ {w : Bench} {q : Outcome At} {start : ℕ} {a b : Lent} {log frame up :
   told-is = ap (λ (x : BenchAnswer). x .status) (p .answer)
 
   pub gives : {block : Block} → block ≡ benchBlockAt (r .at) (r .block) log up → {out out′ : List ℕ} {k : ℕ} → StartsWith (lead (r .end) ++ textOf (r .status) block (take (r .sent) frame)) out out′ k
-      → BenchGives w q out a b log (r .count) out′ k
+      → BenchAnswered w q out (benchOf a b log (r .count)) out′ k
   unfolding benchText
   gives e g = record { begins = rw (end-is, told-is, e, p .handed, sent-taken frames (comes w q) (p .buffer) sent-is) at g; bench = p .bench }
-
--- the whole answer, without room for it and with
-module _ (w : Bench) (line out : List ℕ) where
-  gives-answer : (o : Outcome (Outcome At)) → askedWith w line out ≡ o → {a b : Lent} {log out′ : List ℕ} {count : ℕ} {r : Output} → r ≡ outputOf (mapped (benchText w) o)
-      → out′ ≡ left (mapped (benchText w) o) out → benchOf a b log count ≡ benchIn w o → BenchAnswered w line out a b log count out′ r
-  gives-answer o e x y z = record { answer = rw e x; buffer = rw e y; bench = rw e z }
-
-  pub no-room : length out < answerRoom → BenchAnswered w line out (w .a) (w .b) (w .log) (w .count) out (output.Refused 11)
-  unfolding askedWith first when outcome mapped outputOf left benchIn
-  no-room h = gives-answer (refused 11) (rw (lt-leb answerRoom (length out) h) refl) refl refl refl
-
-  pub with-text : answerRoom ≤ length out → {a b : Lent} {log out′ : List ℕ} {count r : ℕ} → BenchGives w (lineAsks w line (rooms longestFrame longestBlock)) out a b log count out′ r
-      → BenchAnswered w line out a b log count out′ (output.Written r)
-  unfolding askedWith first when outcome mapped outputOf left benchIn
-  with-text h g =
-      gives-answer (ok (lineAsks w line (rooms longestFrame longestBlock))) (rw (le-leb answerRoom (length out) h) refl) (ap output.Written (g .begins .count)) (g .begins .buffer) (g .bench)
-
--- an answer has room in its buffer
-pub written-fits : {w : Bench} {line out : List ℕ} {a b : Lent} {log out′ : List ℕ} {count n : ℕ} → BenchAnswered w line out a b log count out′ (output.Written n) → length out′ ≡ length out
-    → n ≤ length out
-written-fits {out = out} x l = output-fits out _ (x .answer) (x .buffer) l

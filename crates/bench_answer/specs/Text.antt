@@ -2,20 +2,15 @@
 use Prim.Native.Nat.{ℕ, _+_}
 use mathlib.Core.Path.{_≡_}
 use mathlib.Core.List.{List, [], _∷_, _++_}
-use lib.Dec.{leb}
-use lib.ListN.{length}
 use Rattle.octets.specs.Sizes.{longestFrame, longestBlock}
-use Rattle.octets.specs.Test.{first, Outcome, refused, ok, outcome, mapped}
-use Rattle.octets.specs.Octets.{left}
+use Rattle.octets.specs.Test.{Outcome}
 use Rattle.hex.specs.Line.{hex}
 use Rattle.call_spec.specs.Calls.{rooms, wire}
-use Rattle.call_spec.specs.Claim.{Lent}
 use Rattle.call_spec.specs.Answers.{sentIn, blockOf}
 use Rattle.link.specs.Lent.{statusOf}
-use Rattle.answer_text.specs.declared.Output.{Output}
-use Rattle.answer_text.specs.Text.{textOf, outputOf}
+use Rattle.answer_text.specs.Text.{textOf, StartsWith}
 use Rattle.answer_text.specs.Text as oneEnd
-use Rattle.bench_spec.specs.Bench.{Bench, benchOf, At, lentAt, lineAsks, comes, endOf, benchAfter, requestOfA}
+use Rattle.bench_spec.specs.Bench.{Bench, At, lentAt, lineAsks, comes, endOf, benchAfter, requestOfA}
 
 -- 50 for A, 51 for B (hexadecimal)
 unfoldable pub lead : ℕ → List ℕ
@@ -29,16 +24,11 @@ benchText w q = lead (endOf q) ++ textOf (statusOf (lentAt (endOf q) w .rec) (co
 abbrev pub answerRoom : ℕ
 answerRoom = oneEnd.answerRoom + 2
 
--- A line's answer into a buffer: without room for it, nothing is asked of the bench.
-unfoldable pub askedWith : Bench → List ℕ → List ℕ → Outcome (Outcome At)
-askedWith w line out = outcome (first ((11, leb answerRoom (length out)) ∷ [])) (lineAsks w line (rooms longestFrame longestBlock))
+-- what a line asks, with room for the longest frame and the longest block
+abbrev pub asked : Bench → List ℕ → Outcome At
+asked w line = lineAsks w line (rooms longestFrame longestBlock)
 
-unfoldable pub benchIn : Bench → Outcome (Outcome At) → Bench
-benchIn w (refused n) = w
-benchIn w (ok q) = benchAfter (endOf q) w (comes w q)
-
--- What the answer to a line is, and every octet that it leaves.
-pub record BenchAnswered (w : Bench) (line out : List ℕ) (a b : Lent) (log : List ℕ) (count : ℕ) (out′ : List ℕ) (r : Output) : Type 0 where
-  pub answer : r ≡ outputOf (mapped (benchText w) (askedWith w line out))
-  pub buffer : out′ ≡ left (mapped (benchText w) (askedWith w line out)) out
-  pub bench : benchOf a b log count ≡ benchIn w (askedWith w line out)
+-- What the answer to a line that asks q is, and every octet that it leaves: its text at the start of out, and the bench as the line leaves it.
+pub record BenchAnswered (w : Bench) (q : Outcome At) (out : List ℕ) (w′ : Bench) (out′ : List ℕ) (n : ℕ) : Type 0 where
+  pub begins : StartsWith (benchText w q) out out′ n
+  pub bench : w′ ≡ benchAfter (endOf q) w (comes w q)

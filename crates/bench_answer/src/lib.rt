@@ -1,19 +1,15 @@
 // The bench asked by lines of text: a line and its answer.
-use answer_text::Output;
 use bench_call::BenchAnswer;
-use octets::refusal;
 ghost use mathlib.Core.Path.{_≡_};
 ghost use mathlib.Core.List.{_++_};
 ghost use Prim.Native.Nat.{_≤_};
 ghost use lib.ListN.{length, take};
 ghost use Rattle.octets.specs.Sizes.{longestFrame, longestBlock};
 ghost use Rattle.answer_text.specs.Text.{textOf, StartsWith};
-ghost use Rattle.call_spec.specs.Calls.{rooms};
 ghost use Rattle.call_spec.specs.Claim.{lent};
-ghost use Rattle.bench_spec.specs.Bench.{benchOf, lineAsks};
+ghost use Rattle.bench_spec.specs.Bench.{Bench, benchOf};
 ghost use Rattle.bench_call.specs.Answer.{benchBlockAt};
-ghost use Rattle.bench_answer.specs.Text.{lead, answerRoom, BenchAnswered};
-ghost use Rattle.bench_answer.specs.Internal.{BenchGives};
+ghost use Rattle.bench_answer.specs.Text.{lead, answerRoom, asked, BenchAnswered};
 
 // Room for an answer: what one end's answer needs, and two characters before it.
 pub const ANSWER_ROOM: usize = answer_text::ANSWER_ROOM + 2;
@@ -50,8 +46,9 @@ fn tell(r: BenchAnswer, block: &[u8], frame: &[u8], out: &mut [u8]) -> usize
     n + 2
 }
 
-// Plays a line and writes its answer.
-fn write(
+// Answers a line, which is given without its line feed, on the bench with the records a and b and their pages, the log and so many places of it in
+// use: the answer line and, if a frame is sent, its line go to the start of out, which has room for ANSWER_ROOM characters; how many they are.
+pub fn answer(
     a: &mut [u8],
     b: &mut [u8],
     a_page: &mut [u8],
@@ -62,31 +59,12 @@ fn write(
     out: &mut [u8],
 ) -> usize
     requires { ⌜ answerRoom ≤ length (now out) ⌝ }
-    ensures { λ r. ⌜ BenchGives (benchOf (lent (now (a .entry)) (now («a_page» .entry))) (lent (now (b .entry)) (now («b_page» .entry))) (now (log .entry)) (now (count .entry))) (lineAsks (benchOf (lent (now (a .entry)) (now («a_page» .entry))) (lent (now (b .entry)) (now («b_page» .entry))) (now (log .entry)) (now (count .entry))) (now (line .entry)) (rooms longestFrame longestBlock)) (now (out .entry)) (lent (now (a .exit)) (now («a_page» .exit))) (lent (now (b .exit)) (now («b_page» .exit))) (now (log .exit)) (now (count .exit)) (now (out .exit)) r ⌝ }
+    ensures { λ r. ⌜ (let w : Bench = benchOf (lent (now (a .entry)) (now («a_page» .entry))) (lent (now (b .entry)) (now («b_page» .entry))) (now (log .entry)) (now (count .entry)) in
+        BenchAnswered w (asked w (now (line .entry))) (now (out .entry)) (benchOf (lent (now (a .exit)) (now («a_page» .exit))) (lent (now (b .exit)) (now («b_page» .exit))) (now (log .exit)) (now (count .exit))) (now (out .exit)) r) ⌝ }
 {
     let mut frame = [0u8; octets::LONGEST_FRAME];
     let mut up = [0u8; octets::LONGEST_BLOCK];
     let r = bench_line::perform(a, b, a_page, b_page, log, *count, line, &mut frame, &mut up);
     *count = r.count;
     tell(r, block_of(r.at, r.block, log, &up), &frame, out)
-}
-
-// Answers a line, which is given without its line feed, on the bench with the records a and b and their pages, the log and so many places of it in
-// use: the answer line and, if a frame is sent, its line go to the start of out, which needs room for ANSWER_ROOM characters.
-pub fn answer(
-    a: &mut [u8],
-    b: &mut [u8],
-    a_page: &mut [u8],
-    b_page: &mut [u8],
-    log: &mut [u8],
-    count: &mut usize,
-    line: &[u8],
-    out: &mut [u8],
-) -> Output
-    ensures { λ r. ⌜ BenchAnswered (benchOf (lent (now (a .entry)) (now («a_page» .entry))) (lent (now (b .entry)) (now («b_page» .entry))) (now (log .entry)) (now (count .entry))) (now (line .entry)) (now (out .entry)) (lent (now (a .exit)) (now («a_page» .exit))) (lent (now (b .exit)) (now («b_page» .exit))) (now (log .exit)) (now (count .exit)) (now (out .exit)) r ⌝ }
-{
-    if out.len() < ANSWER_ROOM {
-        return Output::Refused(refusal::SHORT_BUFFER);
-    }
-    Output::Written(write(a, b, a_page, b_page, log, count, line, out))
 }

@@ -21,17 +21,22 @@ abbrev μ-loop : tie.MeasureT-loop
 
 loop-holds : tie.Need-loop-holds Inv-loop μ-loop
 loop-holds c =
-    let s = c .before .before .before .before .before .before .before .before .before in
+    let s : tie.Start Inv-loop μ-loop = search in
+    let r : tie.After-restart Inv-loop μ-loop = search in
+    let g : tie.After-restart-arg4 Inv-loop μ-loop = search in
     let a = s .args in
-    let e = end-fresh {rec = now (a .a)} (c .before .before .before .before .before .restart .ensures) (omega (arith, c .before .before .before .before .before .before .before .before .restart-arg .given)) (s .pre .0 .0) in
-    let f = end-fresh {rec = now (a .b)} (c .before .restart2 .ensures) (omega arith) (s .pre .0 .1) in
+    let e = end-fresh {rec = now (a .a)} (r .restart .ensures) (omega (arith, r .before .before .before .restart-arg .given)) (s .pre .0 .0) in
+    let f = end-fresh {rec = now (a .b)} (c .before .restart2 .ensures) (omega (arith, g .restart-arg4 .given)) (s .pre .0 .1) in
     ran-none (now (a .buf)) (now (a .line)) (now (a .out)) (all-fresh e f (s .pre .1 .0) (s .pre .1 .1)) (c .start .ensures)
+
+step-requires : tie.Need-step-requires Inv-loop μ-loop
+step-requires c κs = let t : tie.Then1 Inv-loop μ-loop = search in (ran-fits (t .before .before .loop .inv), (t .if1 .taken, search needs))
+
+loop-again : tie.Need-loop-again Inv-loop μ-loop
+loop-again c = let t : tie.Then1 Inv-loop μ-loop = search in ran-more (t .before .before .loop .inv) (t .if1 .taken) (c .step .ensures)
 
 pub run-spec : {M : Type 1} → statement M
 run-spec =
     tie.close
-    (tie.spec Inv-loop μ-loop (λ c κs. search needs) (λ c κs. search needs) (λ c κs. search needs) loop-holds
-    (λ c κs. (ran-fits (c .before .before .before .before .before .before .before .before .before .before .before .loop .inv), c .before .before .before .before .before .before .before .before .before .if1 .taken))
-    (λ c. c .step .ensures .less)
-    (λ c. ran-more (c .before .before .before .before .before .before .before .before .before .before .before .before .loop .inv) (c .before .before .before .before .before .before .before .before .before .before .if1 .taken) (c .step .ensures))
+    (tie.spec Inv-loop μ-loop (λ c κs. search needs) (λ c κs. search needs) (λ c κs. search needs) loop-holds step-requires (λ c. c .step .ensures .less) loop-again
     (λ c. (c .before .before .loop .inv, omega arith)))
