@@ -13,9 +13,9 @@ use Rattle.answer_text.proofs.write_answer.Tie as tie
 
 -- the octets of the answer line
 fits : (c : tie.After-octets2) → (c .before .tell .result ≤ longestAnswer) × (length (c .before .tell .last .1 .1 .0) ≡ longestAnswer)
-fits c = let s = c .before .before .before .before .before in told-room (s .args .t) (now (s .args .block)) (replicate longestAnswer 0) (s .pre .0) refl (c .before .tell .ensures)
+fits c = let s : tie.Start = search in told-room (s .args .t) (now (s .args .block)) (replicate longestAnswer 0) (s .pre .0) refl (c .before .tell .ensures)
 
-octets : (c : tie.After-octets2) → take (c .before .tell .result) (c .before .tell .last .1 .1 .0) ≡ answerOctets (c .before .before .before .before .before .args .t) (now (c .before .before .before .before .before .args .block))
+octets : (c : tie.After-octets2) → let s : tie.Start = search in take (c .before .tell .result) (c .before .tell .last .1 .1 .0) ≡ answerOctets (s .args .t) (now (s .args .block))
 octets c = let w = c .before .tell .ensures in taken (replicate longestAnswer 0) _ (w .buffer) (w .count)
 
 array-share-prefix-octets : tie.Need-array-share-prefix-octets
@@ -26,11 +26,11 @@ slice-aggregate-write-line c = sym (length-take-le _ _ (omega (arith, fits (c .b
 
 write-line-requires : tie.Need-write-line-requires
 write-line-requires c κs =
-    let s = c .before .before .before .before .before .before .before in
+    let s : tie.Start = search in
     omega (arith, ap length (octets (c .before .before)), length-line (answerOctets (s .args .t) (now (s .args .block))), s .pre .1)
 
 returns : tie.Need-returns
-returns c = rw (octets (c .before .before .before .before .before)) at (c .before .before .write-line .ensures)
+returns c = let o : tie.After-octets2 = search in rw (octets o) at (c .before .before .write-line .ensures)
 
 pub write-answer-spec : {M : Type 1} → statement M
 write-answer-spec =

@@ -6,8 +6,9 @@ use Rattle.answer_text.proofs.write_line.Tie as tie
 
 returns : tie.Need-returns
 returns c =
-    let s = c .before .before .before .before .before .before .before .before .before .before in
-    line-puts (now (s .args .s)) (now (s .args .out)) (s .pre) (c .before .before .before .before .before .before .write .ensures) (c .before .before .store8 .ensures)
+    let s : tie.Start = search in
+    let w : tie.After-write = search in
+    line-puts (now (s .args .s)) (now (s .args .out)) (s .pre) (w .write .ensures) (c .before .before .store8 .ensures)
 
 pub write-line-spec : {M : Type 1} → statement M
 write-line-spec =

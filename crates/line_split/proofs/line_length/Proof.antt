@@ -16,10 +16,16 @@ abbrev μ-loop : tie.MeasureT-loop
 μ-loop s i₀ i = length s - i
 
 returns : tie.Need-returns Inv-loop μ-loop
-returns c = let l = c .before .before .before .loop in (omega (arith, l .inv .1, at-feed (now (c .before .before .before .before .args .s)) (l .i) (omega arith) (c .if1 .taken)), omega arith)
+returns c =
+    let s : tie.Start Inv-loop μ-loop = search in
+    let l = c .before .before .before .loop in
+    (omega (arith, l .inv .1, at-feed (now (s .args .s)) (l .i) (omega arith) (c .if1 .taken)), omega arith)
 
 loop-again : tie.Need-loop-again Inv-loop μ-loop
-loop-again c = let l = c .before .before .before .loop in (omega arith, omega (arith, l .inv .1, past-other (now (c .before .before .before .before .args .s)) (l .i) (omega arith) (c .if1 .left)))
+loop-again c =
+    let s : tie.Start Inv-loop μ-loop = search in
+    let l = c .before .before .before .loop in
+    (omega arith, omega (arith, l .inv .1, past-other (now (s .args .s)) (l .i) (omega arith) (c .if1 .left)))
 
 returns-2 : tie.Need-returns-2 Inv-loop μ-loop
 returns-2 c = let l = c .before .loop in (omega (arith, l .inv .1, l .inv .0, at-end (now (c .before .before .args .s)) (l .i) (omega arith)), omega arith)
