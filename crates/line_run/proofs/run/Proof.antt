@@ -7,9 +7,9 @@ use Rattle.link.proofs.Fresh.{end-fresh}
 use Rattle.answer_text.specs.Text.{answerRoom}
 use Rattle.line_io.specs.Program.{Ran}
 use Rattle.line_io.proofs.Program.{ran-none, ran-more, ran-fits}
-use Rattle.line.specs.Ends.{oneEnd}
-use Rattle.line.proofs.run.Statement.{statement}
-use Rattle.line.proofs.run.Tie as tie
+use Rattle.line_run.specs.Ends.{oneEnd}
+use Rattle.line_run.proofs.run.Statement.{statement}
+use Rattle.line_run.proofs.run.Tie as tie
 
 abbrev Inv-loop : tie.InvT-loop
 Inv-loop rec₀ page₀ buf₀ line₀ out₀ p₀ rec page buf line out p = Ran oneEnd answerRoom freshEnd (lent rec page) buf line out p

@@ -21,7 +21,7 @@ use Rattle.line_io.specs.Step.{Replied}
 use Rattle.line_io.proofs.Steps.{free, replied}
 use Rattle.line_io.proofs.Program.{program-run}
 use Rattle.line_io.specs.Claim.{WholeText, EitherCase}
-use Rattle.line.specs.Ends.{oneEnd, others, LeftOut}
+use Rattle.line_run.specs.Ends.{oneEnd, others, LeftOut}
 
 -- A line counts as what is kept of it.
 asks-alike : (rec page l : List ℕ) → readyOutcome rec page (cut l) ≡ readyOutcome rec page l

@@ -6,11 +6,11 @@ use Rattle.bench_spec.specs.Bench.{benchOf}
 use Rattle.bench_answer.specs.Text.{answerRoom}
 use Rattle.line_io.specs.Program.{Ran}
 use Rattle.line_io.proofs.Program.{ran-none, ran-more, ran-fits}
-use Rattle.bench.specs.Ends.{bothEnds, freshBench}
-use Rattle.bench.proofs.Ends.{all-fresh}
+use Rattle.bench_run.specs.Ends.{bothEnds, freshBench}
+use Rattle.bench_run.proofs.Ends.{all-fresh}
 use borrow.Author.Needs.{needs}
-use Rattle.bench.proofs.run.Statement.{statement}
-use Rattle.bench.proofs.run.Tie as tie
+use Rattle.bench_run.proofs.run.Statement.{statement}
+use Rattle.bench_run.proofs.run.Tie as tie
 
 abbrev Inv-loop : tie.InvT-loop
 Inv-loop a₀ b₀ a-page₀ b-page₀ log₀ count₀ buf₀ line₀ out₀ p₀ a b a-page b-page log count buf line out p =

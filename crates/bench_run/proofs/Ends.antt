@@ -22,7 +22,7 @@ use Rattle.line_io.proofs.Answers.{input-normal}
 use Rattle.line_io.specs.Step.{Replied}
 use Rattle.line_io.proofs.Steps.{free, replied}
 use Rattle.line_io.proofs.Program.{program-run}
-use Rattle.bench.specs.Ends.{bothEnds, freshBench}
+use Rattle.bench_run.specs.Ends.{bothEnds, freshBench}
 
 -- the end that a line restarts, as an outcome of its characters
 abbrev endIn : Outcome ℕ → ℕ
