@@ -16,7 +16,7 @@ use Rattle.octets.proofs.Outcomes.{after-question}
 use Rattle.hex.specs.Line.{unhex}
 use Rattle.frame.specs.Read.{kindOf}
 use Rattle.call_spec.specs.declared.Call.the-variants.{Request, Receive}
-use Rattle.call_spec.specs.Calls.{Rooms, rooms, given, restartedIn}
+use Rattle.call_spec.specs.Calls.{Rooms, given, restartedIn}
 use Rattle.call_spec.specs.Claim.{Lent, LentAct, call, restart, comesBy}
 use Rattle.call_spec.specs.Answers.{blockIn, blockOf}
 use Rattle.link.specs.Lent.{statusOf, sentOf}

@@ -47,7 +47,8 @@ fn tell(r: BenchAnswer, block: &[u8], frame: &[u8], out: &mut [u8]) -> usize
 }
 
 // Answers a line, which is given without its line feed, on the bench with the records a and b and their pages, the log and so many places of it in
-// use: the answer line and, if a frame is sent, its line go to the start of out, which has room for ANSWER_ROOM characters; how many they are.
+// use: the answer line and, if a frame is sent, its line go to the start of out, which has room for ANSWER_ROOM characters. The result is how many
+// it wrote.
 pub fn answer(
     a: &mut [u8],
     b: &mut [u8],

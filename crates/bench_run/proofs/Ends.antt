@@ -19,8 +19,7 @@ use Rattle.line_split.proofs.Long.{asks-cut}
 use Rattle.line_io.specs.Answering.{Cuts}
 use Rattle.line_io.specs.Claim.{WholeText, EitherCase}
 use Rattle.line_io.proofs.Answers.{input-normal}
-use Rattle.line_io.specs.Step.{Replied}
-use Rattle.line_io.proofs.Steps.{free, replied}
+use Rattle.line_io.proofs.Steps.{Replied, free, replied}
 use Rattle.line_io.proofs.Program.{program-run}
 use Rattle.bench_run.specs.Ends.{bothEnds, freshBench}
 

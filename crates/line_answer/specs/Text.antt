@@ -21,7 +21,8 @@ text rec o = textOf (statusOf rec o) (blockOf o) (wire (sentIn o))
 abbrev pub standing : List ℕ → List ℕ
 standing rec = text rec (ok (stands rec))
 
--- What the answer to a line that comes to o is, and every octet that it leaves: the text of o at the start of out, and the record and the page as o leaves them.
+-- What the answer to a line that comes to o is, and every octet that it leaves: the text of o at the start of out, and the record and the page as o leaves
+-- them.
 pub record LineAnswered (o : Outcome Step) (rec page out rec′ page′ out′ : List ℕ) (n : ℕ) : Type 0 where
   pub begins : StartsWith (text rec o) out out′ n
   pub end : rec′ ≡ recordAfter format rec o

@@ -62,7 +62,7 @@ pub fn stand(rec: &[u8], out: &mut [u8]) -> usize
 }
 
 // Answers a line, which is given without its line feed, at the end with the record rec and this page: the answer line and, if a frame is
-// sent, its line go to the start of out, which has room for answer_text::ANSWER_ROOM characters; how many they are.
+// sent, its line go to the start of out, which has room for answer_text::ANSWER_ROOM characters. The result is how many it wrote.
 pub fn answer(rec: &mut [u8], page: &mut [u8], line: &[u8], out: &mut [u8]) -> usize
     requires { ⌜ answerRoom ≤ length (now out) ⌝ }
     ensures { λ r. ⌜ LineAnswered (lineOutcome (now (rec .entry)) (now (page .entry)) (now (line .entry))) (now (rec .entry)) (now (page .entry)) (now (out .entry)) (now (rec .exit)) (now (page .exit)) (now (out .exit)) r ⌝ }

@@ -62,7 +62,7 @@ module _ {a : Answering} (c : Cuts a) where
   after-alike : (s : a .State) (k l : List (List ℕ)) → map cut k ≡ map cut l → stateAfter a s k ≡ stateAfter a s l
   after-alike s k l e = sym (after-cut s k) ∙ ap (stateAfter a s) e ∙ after-cut s l
 
-  -- some of the input stateAfter some
+  -- some of the input after some
   pub fed-more : {s t u : a .State} {kept kept′ kept″ x y p q : List ℕ} → Fed a s kept x t kept′ p → Fed a t kept′ y u kept″ q
       → Fed a s kept (x ++ y) u kept″ (p ++ q)
   fed-more {s = s} {kept = kept} {x = x} {y = y} f g =

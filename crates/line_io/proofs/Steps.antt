@@ -15,7 +15,7 @@ use Rattle.line_split.specs.Split.{ended, last, longestKept, cut}
 use Rattle.line_io.specs.declared.Place.{Place}
 use Rattle.line_io.specs.Answering.{Answering, Cuts, stateAfter, answers}
 use Rattle.line_io.specs.Place.{bufferSize, PlaceFits, between, readyLine, oneLess, emptied, answeredWith, Flushed, AfterRead, Taken, Refilled, Next}
-use Rattle.line_io.specs.Step.{Replied, Went, Rests, Wrote, ReadOn, Finished, Stopped, Stepped}
+use Rattle.line_io.specs.Step.{Went, Rests, Wrote, ReadOn, Finished, Stopped, Stepped}
 use Rattle.line_io.proofs.Answers.{answers-cut, after-cut}
 
 -- a write
@@ -165,6 +165,12 @@ module _ {room : ℕ} {buf line : List ℕ} {p q : Place} (f : PlaceFits p) (l :
         less = omega (arith, t .steps);
         ready = λ _ _. record { kept = t .held; begins = t .begins; stops = omega (arith, t .stops, t .end, f .read); free = omega (arith, t .filled) };
       }
+
+-- the answer to a line, after what waits already
+pub record Replied (a : Answering) (s : a .State) (line out : List ℕ) (filled : ℕ) (s′ : a .State) (out′ : List ℕ) (n : ℕ) : Type 0 where
+  pub state : s′ ≡ a .next s line
+  pub room : filled + n ≤ length out
+  pub told : take (filled + n) out′ ≡ take filled out ++ a .says s line
 
 last-some : (l : List ℕ) → length l ≢ 0 → last l ≡ l ∷ []
 unfolding last

@@ -10,13 +10,7 @@ use Rattle.line_io.specs.declared.Place.{Place}
 use Rattle.line_io.specs.Answering.{Answering, stateAfter, answers}
 use Rattle.line_io.specs.Place.{bufferSize, PlaceFits, between}
 
--- The answer to a line, stateAfter what waits already.
-pub record Replied (a : Answering) (s : a .State) (line out : List ℕ) (filled : ℕ) (s′ : a .State) (out′ : List ℕ) (n : ℕ) : Type 0 where
-  pub state : s′ ≡ a .next s line
-  pub room : filled + n ≤ length out
-  pub told : take (filled + n) out′ ≡ take filled out ++ a .says s line
-
--- Input and room for an answer are left: some of the input is used. What it ends of lines is answered, in order, stateAfter what waits already; what it begins
+-- Input and room for an answer are left: some of the input is used. What it ends of lines is answered, in order, after what waits already; what it begins
 -- is held.
 pub record Went (a : Answering) (s : a .State) (buf line out : List ℕ) (p : Place) (s′ : a .State) (buf′ line′ out′ : List ℕ) (q : Place) : Type 0 where
   pub input : buf′ ≡ buf

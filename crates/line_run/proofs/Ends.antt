@@ -17,8 +17,7 @@ use Rattle.line_split.specs.Split.{cut}
 use Rattle.line_split.proofs.Long.{asks-cut}
 use Rattle.line_io.specs.Answering.{stateAfter, Cuts}
 use Rattle.line_io.proofs.Answers.{input-normal}
-use Rattle.line_io.specs.Step.{Replied}
-use Rattle.line_io.proofs.Steps.{free, replied}
+use Rattle.line_io.proofs.Steps.{Replied, free, replied}
 use Rattle.line_io.proofs.Program.{program-run}
 use Rattle.line_io.specs.Claim.{WholeText, EitherCase}
 use Rattle.line_run.specs.Ends.{oneEnd, others, LeftOut}
