@@ -25,8 +25,8 @@ abbrev pub answerRoom : ℕ
 answerRoom = oneEnd.answerRoom + 2
 
 -- what a line asks, with room for the longest frame and the longest block
-abbrev pub asked : Bench → List ℕ → Outcome At
-asked w line = lineAsks w line (rooms longestFrame longestBlock)
+abbrev pub benchAsks : Bench → List ℕ → Outcome At
+benchAsks w line = lineAsks w line (rooms longestFrame longestBlock)
 
 -- What the answer to a line that asks q is, and every octet that it leaves: its text at the start of out, and the bench as the line leaves it.
 pub record BenchAnswered (w : Bench) (q : Outcome At) (out : List ℕ) (w′ : Bench) (out′ : List ℕ) (n : ℕ) : Type 0 where

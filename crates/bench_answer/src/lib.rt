@@ -9,7 +9,7 @@ ghost use Rattle.answer_text.specs.Text.{textOf, StartsWith};
 ghost use Rattle.call_spec.specs.Claim.{lent};
 ghost use Rattle.bench_spec.specs.Bench.{Bench, benchOf};
 ghost use Rattle.bench_call.specs.Answer.{benchBlockAt};
-ghost use Rattle.bench_answer.specs.Text.{lead, answerRoom, asked, BenchAnswered};
+ghost use Rattle.bench_answer.specs.Text.{lead, answerRoom, benchAsks, BenchAnswered};
 
 // Room for an answer: what one end's answer needs, and two characters before it.
 pub const ANSWER_ROOM: usize = answer_text::ANSWER_ROOM + 2;
@@ -61,7 +61,7 @@ pub fn answer(
 ) -> usize
     requires { ⌜ answerRoom ≤ length (now out) ⌝ }
     ensures { λ r. ⌜ (let w : Bench = benchOf (lent (now (a .entry)) (now («a_page» .entry))) (lent (now (b .entry)) (now («b_page» .entry))) (now (log .entry)) (now (count .entry)) in
-        BenchAnswered w (asked w (now (line .entry))) (now (out .entry)) (benchOf (lent (now (a .exit)) (now («a_page» .exit))) (lent (now (b .exit)) (now («b_page» .exit))) (now (log .exit)) (now (count .exit))) (now (out .exit)) r) ⌝ }
+        BenchAnswered w (benchAsks w (now (line .entry))) (now (out .entry)) (benchOf (lent (now (a .exit)) (now («a_page» .exit))) (lent (now (b .exit)) (now («b_page» .exit))) (now (log .exit)) (now (count .exit))) (now (out .exit)) r) ⌝ }
 {
     let mut frame = [0u8; octets::LONGEST_FRAME];
     let mut up = [0u8; octets::LONGEST_BLOCK];

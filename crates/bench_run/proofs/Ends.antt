@@ -13,7 +13,7 @@ use Rattle.hex.proofs.Normal.{asked-alike, unhex-normal}
 use Rattle.call_spec.specs.Claim.{Lent}
 use Rattle.link.specs.Lent.{freshEnd}
 use Rattle.bench_spec.specs.Bench.{Bench, benchOf, bufferQuestions, roomQuestions, soundQuestions, At, octetsAsk, restartedBy, restartedEnd, neither, lineAsks, comes, endOf, benchAfter}
-use Rattle.bench_answer.specs.Text.{answerRoom, benchText, asked, BenchAnswered}
+use Rattle.bench_answer.specs.Text.{answerRoom, benchText, benchAsks, BenchAnswered}
 use Rattle.line_split.specs.Split.{cut}
 use Rattle.line_split.proofs.Long.{asks-cut}
 use Rattle.line_io.specs.Answering.{Cuts}
@@ -40,7 +40,7 @@ restarts-in l = named (first (lineQuestions l)) (restartedBy (unhex l))
 restarts-cut : (l : List ℕ) → restartedEnd (cut l) ≡ restartedEnd l
 restarts-cut l = restarts-in (cut l) ∙ ap endIn (asks-cut [] tt (λ (x : List ℕ). ok (restartedBy (unhex x))) l) ∙ sym (restarts-in l)
 
-same : (w : Bench) (l : List ℕ) → asked w (cut l) ≡ asked w l
+same : (w : Bench) (l : List ℕ) → benchAsks w (cut l) ≡ benchAsks w l
 unfolding lineAsks
 same w l = rw (restarts-cut l) (asks-cut (bufferQuestions w (roomQuestions (rooms longestFrame longestBlock) (soundQuestions (restartedEnd l) w []))) tt (λ (x : List ℕ). octetsAsk w (unhex x) (rooms longestFrame longestBlock)) l)
 
@@ -52,7 +52,7 @@ cuts =
     }
 
 -- A line counts as its normal form, so an input is answered in either case with the same text.
-either-case : (w : Bench) (l : List ℕ) → asked w (normal l) ≡ asked w l
+either-case : (w : Bench) (l : List ℕ) → benchAsks w (normal l) ≡ benchAsks w l
 unfolding lineAsks restartedEnd
 either-case w l = rw (asked-alike l, unhex-normal l) refl
 
@@ -65,7 +65,7 @@ either-case-text =
 
 -- The answer to a line, in the free part of the output.
 pub replies : (w : Bench) (line out : List ℕ) (filled : ℕ) {w′ : Bench} {x : List ℕ} {n : ℕ} → filled ≤ length out
-    → BenchAnswered w (asked w line) (free out filled) w′ x n → length x ≡ length (free out filled)
+    → BenchAnswered w (benchAsks w line) (free out filled) w′ x n → length x ≡ length (free out filled)
     → Replied bothEnds w line out filled w′ (take filled out ++ (x ++ drop (length out - filled) (drop filled out))) n
 replies w line out filled h g l = replied line out filled h (g .bench) (g .begins .count) (g .begins .buffer) l
 

@@ -3,7 +3,7 @@ use lib.ListN.{replicate}
 use Rattle.link.specs.Lent.{freshEnd}
 use Rattle.bench_log.specs.Log.{logSize}
 use Rattle.bench_spec.specs.Bench.{Bench, benchOf, comes, endOf, benchAfter}
-use Rattle.bench_answer.specs.Text.{benchText, asked}
+use Rattle.bench_answer.specs.Text.{benchText, benchAsks}
 use Rattle.line_io.specs.Answering.{Answering}
 
 -- Its state is the bench. A line's text is that of what it asks.
@@ -11,8 +11,8 @@ abbrev pub bothEnds : Answering
 bothEnds =
     record {
       State = Bench;
-      next = λ w line. benchAfter (endOf (asked w line)) w (comes w (asked w line));
-      says = λ w line. benchText w (asked w line);
+      next = λ w line. benchAfter (endOf (benchAsks w line)) w (comes w (benchAsks w line));
+      says = λ w line. benchText w (benchAsks w line);
     }
 
 -- what it begins with: fresh ends on new pages, and an empty log
