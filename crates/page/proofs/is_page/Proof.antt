@@ -14,7 +14,7 @@ slice-aggregate-is-clear c =
 
 returns : tie.Need-returns
 returns c =
-    let a = c .before .before .before .before .before in
+    let a : tie.Start = search in
     rw (c .before .before .is-clear .ensures, c .are-unused .ensures) (is-at (now (a .args .page)) (a .pre .0) (a .args .used) (a .pre .1))
 
 pub is-page-spec : {M : Type 1} → statement M
