@@ -1,8 +1,9 @@
 -- What reading a line into a buffer for the longest frame says of questions 1 and 2, and of the octets read.
 use Prim.Native.Nat.{ℕ, zero, suc, _≤_}
 use mathlib.Core.Path.{_≡_, refl, sym, ap, _∙_}
-use mathlib.Core.List.{List}
+use mathlib.Core.List.{List, _∷_}
 use native.Mathlib.Omega.{arith}
+use lib.Dec.{leb}
 use lib.ListN.{length, take}
 use Rattle.octets.specs.Sizes.{longestFrame}
 use Rattle.octets.specs.Test.{when, inRange, first, Outcome, outcome}
@@ -16,6 +17,19 @@ use Rattle.hex.specs.declared.Line.the-variants.{Decoded, Refused}
 pub none-refused : EmptyRefused
 unfolding first when lengthOk inRange
 none-refused = refl
+
+-- what a call answers and leaves at its first no, and where all is yes
+module _ (line d : List ℕ) where
+  abbrev asked : ℕ
+  asked = first ((11, leb longestFrame (length d)) ∷ lineQuestions line)
+
+  pub refuses : (n : ℕ) → suc n ≡ asked → (Refused (suc n) ≡ lineOf (readInto line d)) × (d ≡ left (readInto line d) d)
+  unfolding readInto outcome lineOf left
+  refuses n h = rw (sym h) (refl, refl)
+
+  pub decodes : 0 ≡ asked → {n : ℕ} {x : List ℕ} → n ≡ length (unhex line) → x ≡ put d 0 (unhex line) → (Decoded n ≡ lineOf (readInto line d)) × (x ≡ left (readInto line d) d)
+  unfolding readInto outcome lineOf left
+  decodes h e k = rw (sym h) (ap Decoded e, k)
 
 module _ (line d : List ℕ) (l : length d ≡ longestFrame) where
   asks : readInto line d ≡ outcome (first (lineQuestions line)) (unhex line)

@@ -25,20 +25,20 @@ loop-holds c = (search needs, (search needs, put-none (now (c .before .before .a
 
 to-value-requires : tie.Need-to-value-requires Inv-loop μ-loop
 to-value-requires c κs =
-    let l = c .before .before in
-    let s = l .before .before .before in
+    let l : tie.At-loop Inv-loop μ-loop = search in
+    let s : tie.Start Inv-loop μ-loop = search in
     all-at isDigit (now (s .args .line)) (2 * l .loop .i) (s .pre .0) (omega arith)
 
 to-value-requires-2 : tie.Need-to-value-requires-2 Inv-loop μ-loop
 to-value-requires-2 c κs =
-    let l = c .before .before .before .before in
-    let s = l .before .before .before in
+    let l : tie.At-loop Inv-loop μ-loop = search in
+    let s : tie.Start Inv-loop μ-loop = search in
     all-at isDigit (now (s .args .line)) (2 * l .loop .i + 1) (s .pre .0) (omega arith)
 
 loop-again : tie.Need-loop-again Inv-loop μ-loop
 loop-again c =
-    let l = c .before .before .before .before .before in
-    let s = l .before .before .before in
+    let l : tie.At-loop Inv-loop μ-loop = search in
+    let s : tie.Start Inv-loop μ-loop = search in
     let t = now (s .args .line) in
     let i = l .loop .i in
     let n : length (unhex (take (2 * i) t)) ≡ i = length-unhex i (take (2 * i) t) (length-take-le (2 * i) t (omega arith)) in (
@@ -53,8 +53,9 @@ loop-again c =
 returns : tie.Need-returns Inv-loop μ-loop
 returns c =
     let l = c .before in
-    let s = now (l .before .before .before .args .line) in
-    let e : 2 * l .loop .i ≡ length s = omega arith in
+    let s : tie.Start Inv-loop μ-loop = search in
+    let t = now (s .args .line) in
+    let e : 2 * l .loop .i ≡ length t = omega arith in
     rw (e, take-length) at (l .loop .inv .1 .1)
 
 pub decode-spec : {M : Type 1} → statement M
