@@ -6,6 +6,7 @@ use native.Mathlib.Omega.{arith}
 use lib.ListN.{length, take, drop, getD, replicate, length-append, length-drop, List·getD-append}
 use lib.Seq.{take-at, drop-at, take-length, take-suc, take-add, take-take, drop-cons, drop-drop, drop-nil, getD-take, getD-drop, drop-append-le, length-take-le}
 use Rattle.octets.proofs.Buffers.{length-padded}
+use Rattle.octets.proofs.Parts.{length-part}
 use Rattle.octets.specs.Sizes.{longestBlock, queueSize, heldSize}
 use Rattle.octets.specs.Octets.{put, padded}
 use Rattle.frame.specs.Frame.{Block}
@@ -132,7 +133,7 @@ pub record Tidy (w : ℕ) (l b : List ℕ) : Type 0 where
 module _ (l b : List ℕ) (W : ℕ) (T : Tidy W l b) where
   pub length-block : (i : ℕ) → i < W → length (placeBlock l b i) ≡ getD l i 0
   unfolding placeBlock
-  length-block i h = length-take-le (getD l i 0) (drop (i * longestBlock) b) (rw length-drop (omega (arith, T .short i h)))
+  length-block i h = length-part b (i * longestBlock) (getD l i 0) (omega (arith, T .short i h))
 
   pub lengths-tab : (w : ℕ) → w ≤ W → lengthsOf (tab w (placeBlock l b)) ≡ take w l
   unfolding tab lengthsOf

@@ -3,12 +3,13 @@ use Prim.Native.Nat.{ℕ, _+_, _-_, _%_, _≤_, _<_}
 use mathlib.Core.Path.{_≡_, refl, sym, ap, _∙_}
 use mathlib.Core.List.{List, [], _∷_, _++_, append-assoc}
 use native.Mathlib.Omega.{arith}
-use lib.ListN.{length, take, drop, getD, length-append, length-drop, take-append-drop}
-use lib.Seq.{take-at, drop-at, take-add, drop-drop, length-take-le}
+use lib.ListN.{length, take, drop, getD, length-append}
+use lib.Seq.{take-add, drop-drop}
 use Rattle.octets.specs.Sizes.{queueSize, heldSize}
 use Rattle.endpoint.specs.View.{placesSize}
-use Rattle.octets.specs.Octets.{put, octetsOf, number, field, lay, fields, size, Octets}
+use Rattle.octets.specs.Octets.{put, octetsOf, field, lay, fields, size, Octets}
 use Rattle.octets.proofs.Octets.{width, octets-take, octets-drop, then-put, Fit, none, one, fields-lay, lay-fields, length-lay}
+use Rattle.octets.proofs.Parts.{part-between, length-part, put-part}
 use Rattle.endpoint.specs.declared.Endpoint.{Endpoint}
 use Rattle.step_rules.specs.declared.Numbers.{Numbers}
 use Rattle.endpoint.specs.Record.{acceptedAt, blocksAt, deliveredAt, heldBlocksAt, heldLengthsAt, lengthsAt, localAt, recordSize, remoteAt, waitingAt, numbersLayout, encode, decode, RecordFits}
@@ -18,12 +19,8 @@ use Rattle.endpoint.proofs.Packs.{Long}
 
 -- a number written over itself
 pub put-same : (d : List ℕ) (at : ℕ) → Octets d → at + 4 ≤ length d → d ≡ put d at (octetsOf 4 (field 4 at d))
-unfolding put field
-put-same d at o h =
-    let s : List ℕ = take 4 (drop at d) in
-    let l : length s ≡ 4 = length-take-le 4 (drop at d) (rw length-drop (omega arith)) in
-    let w : octetsOf 4 (number s) ≡ s = width 4 .writes s l (octets-take 4 (drop at d) (octets-drop at d o)) in
-    rw (w, l, ← drop-drop 4 at d, take-append-drop 4 (drop at d)) (sym (take-append-drop at d))
+unfolding field
+put-same d at o h = put-part d at 4 h ∙ ap (put d at) (sym (width 4 .writes _ (length-part d at 4 h) (octets-take 4 (drop at d) (octets-drop at d o))))
 
 byte : (v : ℕ) → v < 256 → v % 256 ≡ v
 byte v h = omega arith
@@ -77,10 +74,6 @@ fit e r =
     (one {w = 4} {v = e .delivered} (r .delivered)
     (one {w = 1} {v = e .waiting} (omega (arith, r .waiting)) none)))))
 
--- a part of what was laid out, after p
-part : (p q r : List ℕ) {s : List ℕ} {at n : ℕ} → s ≡ p ++ (q ++ r) → length p ≡ at → length q ≡ n → take n (drop at s) ≡ q
-part p q r {at = at} {n = n} e k m = rw (e, drop-at p (q ++ r) at k) (take-at q r n m)
-
 pub decode-encode : WrittenReads
 unfolding decode encode fields size
 decode-encode e d r =
@@ -96,10 +89,10 @@ decode-encode e d r =
     let t = e .lengths ++ (e .blocks ++ (e .«held_lengths» ++ (e .«held_blocks» ++ d))) in
     let whole : encode e ++ d ≡ p0 ++ t = simp append-assoc in
     let all : fields 0 numbersLayout (p0 ++ t) ≡ vs = fields-lay [] t 0 refl (fit e r) in
-    let ls : take queueSize (drop lengthsAt (p0 ++ t)) ≡ e .lengths = part p0 (e .lengths) (e .blocks ++ (e .«held_lengths» ++ (e .«held_blocks» ++ d))) {s = p0 ++ t} refl n0 (r .lengths) in
-    let bs : take placesSize (drop blocksAt (p0 ++ t)) ≡ e .blocks = part p1 (e .blocks) (e .«held_lengths» ++ (e .«held_blocks» ++ d)) {s = p0 ++ t} (simp append-assoc) n1 (r .blocks) in
-    let hls : take heldSize (drop heldLengthsAt (p0 ++ t)) ≡ e .«held_lengths» = part p2 (e .«held_lengths») (e .«held_blocks» ++ d) {s = p0 ++ t} (simp append-assoc) n2 (r .held-lengths) in
-    let hbs : take placesSize (drop heldBlocksAt (p0 ++ t)) ≡ e .«held_blocks» = part p3 (e .«held_blocks») d {s = p0 ++ t} (simp append-assoc) n3 (r .held-blocks) in
+    let ls : take queueSize (drop lengthsAt (p0 ++ t)) ≡ e .lengths = part-between p0 (e .lengths) (e .blocks ++ (e .«held_lengths» ++ (e .«held_blocks» ++ d))) {s = p0 ++ t} refl n0 (r .lengths) in
+    let bs : take placesSize (drop blocksAt (p0 ++ t)) ≡ e .blocks = part-between p1 (e .blocks) (e .«held_lengths» ++ (e .«held_blocks» ++ d)) {s = p0 ++ t} (simp append-assoc) n1 (r .blocks) in
+    let hls : take heldSize (drop heldLengthsAt (p0 ++ t)) ≡ e .«held_lengths» = part-between p2 (e .«held_lengths») (e .«held_blocks» ++ d) {s = p0 ++ t} (simp append-assoc) n2 (r .held-lengths) in
+    let hbs : take placesSize (drop heldBlocksAt (p0 ++ t)) ≡ e .«held_blocks» = part-between p3 (e .«held_blocks») d {s = p0 ++ t} (simp append-assoc) n3 (r .held-blocks) in
     ap decode whole
     ∙ (λ i. record {
       state = getD (all i) 0 0;

@@ -13,22 +13,21 @@ long c = record { lengths = search needs; blocks = search needs; held-lengths = 
 
 returns : tie.Need-returns
 returns c =
-    let c4 = c .before .before in
-    let c3 = c4 .before .before .before .before .before .before in
-    let c2 = c3 .before .before .before .before .before .before in
-    let c1 = c2 .before .before .before .before .before .before in
-    let n = c1 .before .before .before .before .before .before in
-    let s = n .before .before .before .before in
+    let m3 : tie.After-copy3 = search in
+    let m2 : tie.After-copy2 = search in
+    let m1 : tie.After-copy = search in
+    let n : tie.After-store-numbers = search in
+    let s : tie.Start = search in
     let e = s .args .e in
     encode-puts (numbersOf e) (e .lengths) (e .blocks) (e .«held_lengths») (e .«held_blocks») (now (s .args .out)) (long s) (s .pre)
-    (rw (n .before .before .numbers-of .ensures) at (n .store-numbers .ensures)) (c1 .copy .ensures) (c2 .copy2 .ensures) (c3 .copy3 .ensures) (c4 .copy4 .ensures)
+    (rw (n .before .before .numbers-of .ensures) at (n .store-numbers .ensures)) (m1 .copy .ensures) (m2 .copy2 .ensures) (m3 .copy3 .ensures) (c .before .before .copy4 .ensures)
 
 pub encode-spec : {M : Type 1} → statement M
 encode-spec =
     tie.close
     (tie.spec (λ c κs. search needs) (λ c κs. search needs)
-    (λ c. search needs) (λ c κs. omega (arith, long (c .before .before .before .before .before .before .before .before .before)))
-    (λ c. search needs) (λ c κs. omega (arith, long (c .before .before .before .before .before .before .before .before .before .before .before .before .before .before .before)))
-    (λ c. sym (long (c .before .before .before .before .before .before .before .before .before .before .before .before .before .before .before .before .before .before .before .before .before) .held-lengths)) (λ c κs. omega (arith, long (c .before .before .before .before .before .before .before .before .before .before .before .before .before .before .before .before .before .before .before .before .before)))
-    (λ c. sym (long (c .before .before .before .before .before .before .before .before .before .before .before .before .before .before .before .before .before .before .before .before .before .before .before .before .before .before .before) .held-blocks)) (λ c κs. omega (arith, long (c .before .before .before .before .before .before .before .before .before .before .before .before .before .before .before .before .before .before .before .before .before .before .before .before .before .before .before)))
+    (λ c. search needs) (λ c κs. omega (arith, long (search)))
+    (λ c. search needs) (λ c κs. omega (arith, long (search)))
+    (λ c. sym (long (search) .held-lengths)) (λ c κs. omega (arith, long (search)))
+    (λ c. sym (long (search) .held-blocks)) (λ c κs. omega (arith, long (search)))
     (λ c. search needs) returns)

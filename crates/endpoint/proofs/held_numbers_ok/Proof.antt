@@ -18,7 +18,7 @@ returns c =
     rw none refl
 
 returns-2 : tie.Need-returns-2
-returns-2 c = let a = c .before .before .before .before .args in c .is-clear .ensures ∙ ap zeros (whole (now (a .lengths)) (lastNumber - a .delivered))
+returns-2 c = let s : tie.Start = search in let a = s .args in c .is-clear .ensures ∙ ap zeros (whole (now (a .lengths)) (lastNumber - a .delivered))
 
 pub held-numbers-ok-spec : {M : Type 1} → statement M
 held-numbers-ok-spec =

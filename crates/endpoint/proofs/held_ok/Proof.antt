@@ -20,7 +20,7 @@ all-blocks c = ap zeros (take-all placesSize (now (c .args .blocks)) (omega (ari
 
 returns : tie.Need-returns
 returns c =
-    let s = c .before .before .before .before .before .before .before in
+    let s : tie.Start = search in
     let z = sym (c .before .before .before .is-clear .ensures ∙ all-lengths s) ∙ c .before .before .if1 .taken in
     c .is-clear2 .ensures
     ∙ all-blocks s
@@ -28,7 +28,7 @@ returns c =
 
 returns-2 : tie.Need-returns-2
 returns-2 c =
-    let s = c .before .before .before .before .before .before .before in
+    let s : tie.Start = search in
     let z = sym (c .before .before .before .is-clear .ensures ∙ all-lengths s) ∙ c .before .before .if1 .left in
     rw (c .before .held-numbers-ok .ensures, c .places-ok .ensures)
     (some-held (s .args .state) (s .args .delivered) (now (s .args .lengths)) (now (s .args .blocks)) (s .pre .1) (s .pre .0) z)
