@@ -6,7 +6,7 @@ use mathlib.Core.List.{List, [], _∷_}
 use lib.ListN.{length, drop}
 use lib.Dec.{leb}
 use Rattle.octets.specs.Sizes.{longestFrame}
-use Rattle.octets.specs.Test.{ifEq, first, Outcome, refused, ok, outcome, mapped, numberOf}
+use Rattle.octets.specs.Test.{ifEq, Question, first, Outcome, refused, ok, outcome, mapped, numberOf}
 use Rattle.octets.specs.Octets.{left}
 use Rattle.hex.specs.Line.{hex}
 use Rattle.frame.specs.Frame.{Block, DATA, connect, listen, endListening, close, timer, collect, send}
@@ -61,12 +61,12 @@ pub record BlockTold (o : Outcome Input) (s : List ℕ) (c c′ : ℕ) : Type 0 
   pub block : mapped (λ (i : Input). drop (length s - c′) s) o ≡ mapped blockRead o
 
 -- writing it asks for the buffer, for a frame's kind, and for the count of a DATA's block
-unfoldable pub writeFrame : Values → Block → List ℕ → Outcome (List ℕ)
-writeFrame v b out =
-    outcome
-    (first
-    ((11, leb longestFrame (length out))
+abbrev pub writeQuestions : Values → Block → List ℕ → List Question
+writeQuestions v b out =
+    (11, leb longestFrame (length out))
     ∷ (3, isFrame (v .kind))
     ∷ (5, ifEq (v .kind) DATA (countOk (length b)) true)
-    ∷ []))
-    (encode (frameWith v b))
+    ∷ []
+
+unfoldable pub writeFrame : Values → Block → List ℕ → Outcome (List ℕ)
+writeFrame v b out = outcome (first (writeQuestions v b out)) (encode (frameWith v b))

@@ -98,7 +98,8 @@ pub extern "C" fn codec_read(
     block: &mut usize,
 ) -> u8
     ensures answer { λ r. ⌜ r ≡ numberOf (readKnown known (now (s .entry))) ⌝ }
-    ensures numbers { λ _. ⌜ record { kind = now (kind .exit); sender = now (sender .exit); quoted = now (quoted .exit); number = now (number .exit) } ≡ shown (readKnown known (now (s .entry))) (record { kind = now (kind .entry); sender = now (sender .entry); quoted = now (quoted .entry); number = now (number .entry) }) ⌝ }
+    ensures numbers { λ _. ⌜ record { kind = now (kind .exit); sender = now (sender .exit); quoted = now (quoted .exit); number = now (number .exit) }
+        ≡ shown (readKnown known (now (s .entry))) (record { kind = now (kind .entry); sender = now (sender .entry); quoted = now (quoted .entry); number = now (number .entry) }) ⌝ }
     ensures block { λ _. ⌜ BlockTold (readKnown known (now (s .entry))) (now (s .entry)) (now (block .entry)) (now (block .exit)) ⌝ }
 {
     let read = read_known(known, s);

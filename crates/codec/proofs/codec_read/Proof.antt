@@ -17,10 +17,12 @@ use Rattle.codec.proofs.codec_read.Tie as tie
 returns : tie.Need-returns
 unfolding inputRead numberOf shown valuesOf
 returns c =
-    let a = c .before .before .before .before .before .before .before .args in
+    let st : tie.Start = search in
+    let m : tie.After-read-known = search in
+    let a = st .args in
     let s = now (a .s) in
     let h = c .before .before .before .read .given in
-    let e = sym (c .before .before .before .before .before .read-known .ensures) ∙ ap (λ (r : InputRead). inputRead r s) (h .1) in
+    let e = sym (m .read-known .ensures) ∙ ap (λ (r : InputRead). inputRead r s) (h .1) in
     let v = c .before .values-of .ensures (drop dataBlockAt s) in
     let k = ap (λ (x : Values). length (blockAfter (x .kind) s)) v in
     rw e (refl, (v, tells s _ (now (a .block)) refl (frame-block _ s) (c .block-length .ensures ∙ k)))
@@ -28,9 +30,11 @@ returns c =
 returns-2 : tie.Need-returns-2
 unfolding inputRead numberOf shown
 returns-2 c =
-    let a = c .before .before .before .before .before .before .before .args in
+    let st : tie.Start = search in
+    let m : tie.After-read-known = search in
+    let a = st .args in
     let s = now (a .s) in
-    let e = sym (c .before .before .before .before .before .read-known .ensures) ∙ ap (λ (r : InputRead). inputRead r s) (c .before .before .before .read2 .given .1) in
+    let e = sym (m .read-known .ensures) ∙ ap (λ (r : InputRead). inputRead r s) (c .before .before .before .read2 .given .1) in
     let q = c .before .request-number .ensures (drop sendBlockAt s) in
     let k = ap (λ (n : ℕ). length (blockAfter n s)) q in
     rw e (refl, ((λ i. record { kind = q i; sender = 0; quoted = 0; number = 0 }), tells s _ (now (a .block)) refl (request-block _ s) (c .block-length2 .ensures ∙ k)))
@@ -38,7 +42,8 @@ returns-2 c =
 returns-3 : tie.Need-returns-3
 unfolding inputRead numberOf shown
 returns-3 c =
-    let a = c .before .before .before .before .before .args in
+    let s : tie.Start = search in
+    let a = s .args in
     let e = sym (c .before .before .before .read-known .ensures) ∙ ap (λ (r : InputRead). inputRead r (now (a .s))) (c .before .read3 .given .1) in
     rw e (refl, (refl, tells-nothing (now (a .s)) (now (a .block)) refl))
 

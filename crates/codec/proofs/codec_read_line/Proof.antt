@@ -8,16 +8,18 @@ use Rattle.codec.proofs.codec_read_line.Tie as tie
 
 returns : tie.Need-returns
 returns c =
-    let st = c .before .before .before .before .before .before .before .before .before in
-    let r = c .before .before .before .before .before .read in
+    let st : tie.Start = search in
+    let m : tie.After-read = search in
+    let r = m .read in
     let o = readInto (now (st .args .line)) (now (st .args .out)) in
     let a = decoded o (now (st .args .length)) (c .before .read2 .given .0 .0) (sym (r .ensures .0) ∙ c .before .read2 .given .1) in
     record { answer = a .answer; buffer = r .ensures .1; count = a .count }
 
 returns-2 : tie.Need-returns-2
 returns-2 c =
-    let st = c .before .before .before .before .before .before .before .before .before in
-    let r = c .before .before .before .before .before .read in
+    let st : tie.Start = search in
+    let m : tie.After-read = search in
+    let r = m .read in
     let o = readInto (now (st .args .line)) (now (st .args .out)) in
     let a = declined o (now (st .args .length)) (c .before .read3 .given .0 .0) (sym (r .ensures .0) ∙ c .before .read3 .given .1) in
     record { answer = a .answer; buffer = r .ensures .1; count = a .count }

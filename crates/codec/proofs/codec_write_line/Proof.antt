@@ -20,7 +20,8 @@ returns c =
 returns-2 : tie.Need-returns-2
 unfolding writeLine first when outcome numberOf left
 returns-2 c =
-    let a = c .before .before .before .before .before .before .before .args in
+    let s : tie.Start = search in
+    let a = s .args in
     rw (le-leb (2 * length (now (a .s))) (length (now (a .out))) (omega arith)) (refl, c .before .before .write .ensures)
 
 pub codec-write-line-spec : {M : Type 1} → statement M

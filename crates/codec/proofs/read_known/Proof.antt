@@ -13,7 +13,8 @@ use Rattle.codec.proofs.read_known.Tie as tie
 returns : tie.Need-returns
 unfolding readKnown ifEq when
 returns c =
-    let a = c .before .before .before .before .args in
+    let st : tie.Start = search in
+    let a = st .args in
     let s = now (a .s) in
     let e : a .known ≡ 1 = omega arith in
     c .frame-input .ensures s ∙ rw e (ap (mapped frame) (c .before .read-frame .ensures))
@@ -21,7 +22,8 @@ returns c =
 returns-2 : tie.Need-returns-2
 unfolding readKnown ifEq when
 returns-2 c =
-    let a = c .before .before .before .before .args in
+    let st : tie.Start = search in
+    let a = st .args in
     let s = now (a .s) in
     let e : a .known ≡ 2 = omega arith in
     c .request-input .ensures s ∙ rw e (ap (mapped request) (c .before .read-request .ensures))
