@@ -4,10 +4,11 @@ use mathlib.Core.Path.{_≡_, sym, ap, _∙_}
 use mathlib.Core.List.{List, _∷_, _++_, append-assoc}
 use native.Mathlib.Nat.{add-zero}
 use native.Mathlib.Omega.{arith}
-use lib.ListN.{length, take, drop, getD, replicate, length-drop, take-append-drop, List·getD-append}
-use lib.Seq.{length-take-le, take-append-le, drop-append-le, take-append-seam, drop-append-add, getD-append-add}
+use lib.ListN.{length, take, drop, getD, replicate, take-append-drop, List·getD-append}
+use lib.Seq.{length-take-le, take-append-seam, drop-append-add, getD-append-add}
 use Rattle.octets.specs.Sizes.{longestFrame}
 use Rattle.octets.specs.Octets.{put, padded}
+use Rattle.octets.proofs.Parts.{part-left}
 use Rattle.bench_log.specs.Log.{senderAt, lengthAt, frameLogged, place, placeSize}
 
 -- what place k reads as
@@ -15,11 +16,6 @@ pub record Reads (log : List ℕ) (k i n : ℕ) (s : List ℕ) : Type 0 where
   pub sender : senderAt k log ≡ i
   pub count : lengthAt k log ≡ n
   pub octets : frameLogged k log ≡ s
-
--- a part of a list that ends before what follows
-part-front : (m n : ℕ) (p t : List ℕ) → m + n ≤ length p → take n (drop m (p ++ t)) ≡ take n (drop m p)
-part-front m n p t h =
-    rw (drop-append-le m p t (omega arith)) (take-append-le n (drop m p) t (rw length-drop (omega arith)))
 
 -- places that two lists share
 shared : (k : ℕ) (p t u : List ℕ) → k * placeSize + placeSize ≤ length p → lengthAt k (p ++ u) ≤ longestFrame
@@ -32,7 +28,7 @@ shared k p t u h short =
     record {
       sender = at (k * placeSize) (omega arith);
       count = n;
-      octets = ap (λ (x : ℕ). take x (drop (k * placeSize + 2) (p ++ t))) n ∙ part-front (k * placeSize + 2) m p t (omega arith) ∙ sym (part-front (k * placeSize + 2) m p u (omega arith));
+      octets = ap (λ (x : ℕ). take x (drop (k * placeSize + 2) (p ++ t))) n ∙ part-left p t (k * placeSize + 2) m (omega arith) ∙ sym (part-left p u (k * placeSize + 2) m (omega arith));
     }
 
 -- a place before the one that is entered

@@ -15,7 +15,8 @@ part-result-end c = omega (arith, c .wide .ensures .0, c .before .before .before
 returns : tie.Need-returns
 unfolding lengthAt frameLogged
 returns c =
-    let a = c .before .before .before .before .args in
+    let s : tie.Start = search in
+    let a = s .args in
     let at = a .n * placeSize + 2 in
     let n : at + c .before .wide .result - at ≡ lengthAt (a .n) (now (a .log)) = omega (arith, c .before .wide .ensures .0) in
     ap (λ (k : ℕ). take k (drop at (now (a .log)))) n
