@@ -36,7 +36,9 @@ pub extern "C" fn dock_request(
     sent: &mut usize,
     block: &mut usize,
 ) -> u8
-    ensures { λ r. ⌜ CalledLent Request (now (rec .entry)) (now (page .entry)) (now (s .entry)) (now (out .entry)) (now (up .entry)) (now (rec .exit)) (now (page .exit)) (now (out .exit)) (now (up .exit)) (answerIn r (now (state .exit)) (now (notice .exit)) (now (local .exit)) (now (remote .exit)) (now (sent .exit)) (now (block .exit))) ⌝ }
+    ensures { λ r. ⌜ CalledLent Request (now (rec .entry)) (now (page .entry)) (now (s .entry)) (now (out .entry)) (now (up .entry))
+        (now (rec .exit)) (now (page .exit)) (now (out .exit)) (now (up .exit))
+        (answerIn r (now (state .exit)) (now (notice .exit)) (now (local .exit)) (now (remote .exit)) (now (sent .exit)) (now (block .exit))) ⌝ }
 {
     let a = link::perform(Call::Request, rec, page, s, out, up);
     let told = a.status;
@@ -64,7 +66,9 @@ pub extern "C" fn dock_receive(
     sent: &mut usize,
     block: &mut usize,
 ) -> u8
-    ensures { λ r. ⌜ Called Receive (lentOutcome Receive (now (rec .entry)) (now (page .entry)) (now (s .entry)) (now (out .entry)) []) (now (rec .entry)) (now (s .entry)) (now (out .entry)) [] (now (rec .exit)) (now (out .exit)) [] (answerIn r (now (state .exit)) (now (notice .exit)) (now (local .exit)) (now (remote .exit)) (now (sent .exit)) (now (block .exit))) ⌝ }
+    ensures { λ r. ⌜ Called Receive (lentOutcome Receive (now (rec .entry)) (now (page .entry)) (now (s .entry)) (now (out .entry)) [])
+        (now (rec .entry)) (now (s .entry)) (now (out .entry)) [] (now (rec .exit)) (now (out .exit)) []
+        (answerIn r (now (state .exit)) (now (notice .exit)) (now (local .exit)) (now (remote .exit)) (now (sent .exit)) (now (block .exit))) ⌝ }
 {
     let mut number: u8 = 0;
     let up = link::receive(

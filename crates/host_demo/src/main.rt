@@ -7,6 +7,8 @@ ghost use mathlib.Core.Path.{_≡_};
 ghost use Prim.Native.Nat.{_≤_};
 ghost use lib.ListN.{length};
 ghost use Rattle.octets.specs.Sizes.{longestFrame, longestBlock};
+ghost use Rattle.octets.specs.Test.{Outcome};
+ghost use Rattle.protocol.specs.Table.{Step};
 ghost use Rattle.call_spec.specs.Calls.{given, rooms, pageAfter};
 ghost use Rattle.endpoint_step.specs.Calls.{outcomeOf, stepAnswerOf};
 
@@ -30,7 +32,7 @@ fn tell(a: StepAnswer, block: &[u8], sent: &[u8])
 // One call: writes what it answers, and gives the record that it leaves.
 fn perform(call: Call, e: Endpoint, page: &mut [u8], s: &[u8]) -> Endpoint
     requires { ⌜ length (now s) ≤ longestFrame ⌝ }
-    ensures { λ r. ⌜ (r ≡ stepAnswerOf e (outcomeOf e (now (page .entry)) (given call (now (s .entry)) (rooms longestFrame longestBlock))) .endpoint) × (now (page .exit) ≡ pageAfter (now (page .entry)) (outcomeOf e (now (page .entry)) (given call (now (s .entry)) (rooms longestFrame longestBlock)))) ⌝ }
+    ensures { λ r. ⌜ (let o : Outcome Step = outcomeOf e (now (page .entry)) (given call (now (s .entry)) (rooms longestFrame longestBlock)) in (r ≡ stepAnswerOf e o .endpoint) × (now (page .exit) ≡ pageAfter (now (page .entry)) o)) ⌝ }
 {
     let mut frame = [0u8; Endpoint::LONGEST_FRAME];
     let mut up = [0u8; Endpoint::LONGEST_BLOCK];

@@ -3,7 +3,9 @@ use Rattle.c_end.proofs.dock_request.Statement.{statement}
 use Rattle.c_end.proofs.dock_request.Tie as tie
 
 returns : tie.Need-returns
-returns c = c .before .before .before .before .before .before .before .before .before .perform .ensures
+returns c =
+    let m : tie.After-perform = search in
+    m .perform .ensures
 
 pub dock-request-spec : {M : Type 1} → statement M
 dock-request-spec =

@@ -20,24 +20,25 @@ call-of c = given (c .args .call) (now (c .args .s)) (rooms longestFrame longest
 fits : (c : tie.After-frame2) → (length (c .before .before .before .lend .last .1 .1 .1 .1 .0) ≡ longestFrame) × (c .before .before .before .lend .result .sent ≤ longestFrame)
 fits c =
     let l : length (c .before .before .before .lend .last .1 .1 .1 .1 .0) ≡ longestFrame = search needs in
-    (l, frame-fits _ (call-of (c .before .before .before .before .before .before .before .before .before)) (c .before .before .before .lend .ensures) l)
+    (l, frame-fits _ (call-of (search)) (c .before .before .before .lend .ensures) l)
 
 block-part-requires : tie.Need-block-part-requires
 block-part-requires c κs =
-    block-there _ (call-of (c .before .before .before .before .before .before .before .before .before .before .before .before))
-    (c .before .before .before .before .before .before .lend .ensures)
+    let m : tie.After-lend = search in
+    block-there _ (call-of (search)) (m .lend .ensures)
 
 array-share-prefix-frame : tie.Need-array-share-prefix-frame
-array-share-prefix-frame c = omega (arith, fits (c .before .before .before .before))
+array-share-prefix-frame c = omega (arith, fits (search))
 
 slice-aggregate-tell : tie.Need-slice-aggregate-tell
-slice-aggregate-tell c = sym (length-take-le _ _ (omega (arith, fits (c .before .before .before .before .before))))
+slice-aggregate-tell c = sym (length-take-le _ _ (omega (arith, fits (search))))
 
 tell-requires : tie.Need-tell-requires
 tell-requires c κs =
-    let f = fits (c .before .before .before .before .before) in
-    let l = c .before .before .before .before .before .before .before .before .lend in
-    let s = c .before .before .before .before .before .before .before .before .before .before .before .before .before .before in
+    let m : tie.After-lend = search in
+    let f = fits (search) in
+    let l = m .lend in
+    let s : tie.Start = search in
     let u : length (l .last .1 .1 .1 .1 .1 .0) ≡ longestBlock = search needs in (
       rw (c .before .block-part .ensures) (block-short (s .args .call) (now (s .args .s)) (l .last .1 .1 .1 .1 .1 .0) (l .result .block) (s .pre) (omega (arith, u))),
       omega (arith, f, length-take-le (l .result .sent) (l .last .1 .1 .1 .1 .0) (omega (arith, f))),
@@ -45,7 +46,8 @@ tell-requires c κs =
 
 returns : tie.Need-returns
 returns c =
-    let a = c .before .before .before .before .before .before .before .before .before .lend .ensures in
+    let m : tie.After-lend = search in
+    let a = m .lend .ensures in
     (ap (λ (r : StepAnswer). r .endpoint) (a .answer), a .page-octets)
 
 pub perform-spec : {M : Type 1} → statement M
