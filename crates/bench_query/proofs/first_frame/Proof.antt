@@ -25,28 +25,28 @@ abbrev bench : tie.Start Inv-loop μ-loop → Bench
 bench c = benchOf (lent (now (c .args .a)) (now (c .args .a-page))) (lent (now (c .args .b)) (now (c .args .b-page))) (now (c .args .log)) (c .args .count)
 
 -- all is asked of the records, the pages, the log and the count
-asks : (c : tie.After-ready Inv-loop μ-loop) → c .ready .result ≡ first (queryQuestions (bench (c .before .before .before .before .before .before)))
+asks : (c : tie.After-ready Inv-loop μ-loop) → c .ready .result ≡ first (queryQuestions (bench (search)))
 unfolding first when
 asks c = c .ready .ensures
 
-passed : (c : tie.Else1 Inv-loop μ-loop) → first (queryQuestions (bench (c .before .before .before .before .before .before .before))) ≡ 0
+passed : (c : tie.Else1 Inv-loop μ-loop) → first (queryQuestions (bench (search))) ≡ 0
 passed c = sym (asks (c .before)) ∙ c .if1 .left
 
 ready-requires : tie.Need-ready-requires Inv-loop μ-loop
 ready-requires c κs = search needs
 
 returns : tie.Need-returns Inv-loop μ-loop
-returns c = refuses (bench (c .before .before .before .before .before .before .before)) (asks (c .before)) (c .if1 .taken)
+returns c = refuses (bench (search)) (asks (c .before)) (c .if1 .taken)
 
 loop-holds : tie.Need-loop-holds Inv-loop μ-loop
-loop-holds c = let f = ready (bench (c .before .before .before .before .before .before .before)) (passed c) .few in (f, (omega arith, all-left _ _))
+loop-holds c = let f = ready (bench (search)) (passed c) .few in (f, (omega arith, all-left _ _))
 
 would-change-requires : tie.Need-would-change-requires Inv-loop μ-loop
-would-change-requires c κs = let s = c .before .before .before .before .before .before .before .before .before in (now (s .args .a-page), (now (s .args .b-page), passed (c .before .before)))
+would-change-requires c κs = let s : tie.Start Inv-loop μ-loop = search in (now (s .args .a-page), (now (s .args .b-page), passed (c .before .before)))
 
 -- what it tells of frame i, with these pages
-tells : (c : tie.After-would-change Inv-loop μ-loop) → c .would-change .result ≡ wouldChange (bench (c .before .before .before .before .before .before .before .before .before .before)) (c .before .before .loop .i)
-tells c = let s = c .before .before .before .before .before .before .before .before .before .before in c .would-change .ensures (now (s .args .a-page)) (now (s .args .b-page)) (passed (c .before .before .before))
+tells : (c : tie.After-would-change Inv-loop μ-loop) → c .would-change .result ≡ wouldChange (bench (search)) (c .before .before .loop .i)
+tells c = let s : tie.Start Inv-loop μ-loop = search in c .would-change .ensures (now (s .args .a-page)) (now (s .args .b-page)) (passed (c .before .before .before))
 
 add-i : tie.Need-add-i Inv-loop μ-loop
 add-i c = search needs
@@ -61,12 +61,12 @@ loop-again c =
 
 returns-2 : tie.Need-returns-2 Inv-loop μ-loop
 returns-2 c =
-    names (bench (c .before .before .before .before .before .before .before .before .before)) (passed (c .before .before))
+    names (bench (search)) (passed (c .before .before))
     (sym (c .before .loop .inv .1 .1) ∙ none-left _ _ _ (omega (arith, c .if2 .taken)))
 
 returns-3 : tie.Need-returns-3 Inv-loop μ-loop
 returns-3 c =
-    names (bench (c .before .before .before .before .before .before .before .before .before .before .before)) (passed (c .before .before .before .before))
+    names (bench (search)) (passed (search))
     (sym (c .before .before .before .loop .inv .1 .1) ∙ here _ _ _ (omega (arith, c .before .before .if2 .left)) (sym (tells (c .before)) ∙ c .if3 .taken))
 
 pub first-frame-spec : {M : Type 1} → statement M
