@@ -11,6 +11,7 @@ use Rattle.octets.specs.Sizes.{longestFrame, longestBlock, queueSize, heldSize}
 use Rattle.octets.specs.Test.{when, ifEq, first, Outcome, refused, ok, refusing, mapped, numberOf}
 use Rattle.octets.specs.Octets.{put, left, Octets}
 use Rattle.octets.proofs.Test.{by-eq, eq-yes, eq-no}
+use Rattle.octets.proofs.Parts.{length-part}
 use Rattle.page.specs.Page.{reserving}
 use Rattle.octets.proofs.Buffers.{put-fits, taken}
 use Rattle.octets.proofs.Outcomes.{after-question, is-refused}
@@ -139,10 +140,10 @@ module _ (rec : List ℕ) (long : recordSize ≤ length rec) where
   pub decode-long : Long (decode rec)
   unfolding decode
   decode-long = record {
-    lengths = length-take-le queueSize (drop lengthsAt rec) (rw length-drop (omega arith));
-    blocks = length-take-le placesSize (drop blocksAt rec) (rw length-drop (omega arith));
-    held-lengths = length-take-le heldSize (drop heldLengthsAt rec) (rw length-drop (omega arith));
-    held-blocks = length-take-le placesSize (drop heldBlocksAt rec) (rw length-drop (omega arith));
+    lengths = length-part rec lengthsAt queueSize (omega arith);
+    blocks = length-part rec blocksAt placesSize (omega arith);
+    held-lengths = length-part rec heldLengthsAt heldSize (omega arith);
+    held-blocks = length-part rec heldBlocksAt placesSize (omega arith);
   }
 
   -- what a plan's store leaves of the page

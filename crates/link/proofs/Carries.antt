@@ -1,14 +1,14 @@
 -- A plan that is carried out where the record lies leaves the octets of the record after it.
 use Prim.Native.Nat.{ℕ, _+_, _-_, _≤_}
 use mathlib.Core.Path.{_≡_, refl, sym, ap, _∙_}
-use mathlib.Core.List.{List, [], _∷_, _++_, append-assoc}
+use mathlib.Core.List.{List, [], _∷_, _++_}
 use native.Mathlib.Omega.{arith}
-use lib.ListN.{length, take, drop, replicate, length-append, length-drop, length-replicate, take-append-drop}
-use lib.Seq.{drop-at, drop-drop, length-take-le}
+use lib.ListN.{length, take, drop, replicate, length-replicate}
 use Rattle.octets.specs.Sizes.{longestBlock, queueSize, heldSize}
 use Rattle.endpoint.specs.View.{placesSize}
 use Rattle.octets.specs.Octets.{put}
 use Rattle.octets.proofs.Octets.{length-put, then-put}
+use Rattle.octets.proofs.Parts.{length-part, part-back, part-same, after-put}
 use Rattle.frame.specs.Frame.{Block}
 use Rattle.step_plan.specs.declared.Plan.{Plan}
 use Rattle.step_plan.specs.declared.Places.{Places}
@@ -20,43 +20,34 @@ use Rattle.endpoint.proofs.Record.{numbers-long, encode-puts}
 use Rattle.endpoint_places.specs.Internal.{InEight, PlanFits, lengthsAfter, blocksAfter, placesAfter, carried}
 use Rattle.endpoint_places.proofs.Places.{length-after, for-lengths, for-blocks}
 
--- a part that is lent and comes back is a write
-lent : (x s : List ℕ) (at n : ℕ) → length s ≡ n → take at x ++ (s ++ drop n (drop at x)) ≡ put x at s
-unfolding put
-lent x s at n h = rw (drop-drop n at x, ← h) refl
-
--- what follows a write stays
-after-put : (x s : List ℕ) (at m : ℕ) → at + length s ≡ m → m ≤ length x → drop m (put x at s) ≡ drop m x
-unfolding put
-after-put x s at m e h =
-    let p : List ℕ = take at x ++ s in
-    let l : length p ≡ m = length-append (take at x) s ∙ rw (length-take-le at x (omega arith)) e in
-    rw (e, ← append-assoc (take at x) s (drop m x)) (drop-at p (drop m x) m l)
-
 -- the n octets of x from at on are lent, and come back as s
 abbrev back : List ℕ → ℕ → ℕ → List ℕ → List ℕ
 back x at n s = take at x ++ (s ++ drop n (drop at x))
 
--- what follows them stays as it is in rec, and so does the length
-module _ (rec x s : List ℕ) (at n m : ℕ) (e : at + n ≡ m) (k : length s ≡ n) (l : length x ≡ length rec) (h : m ≤ length rec) (same : drop at x ≡ drop at rec) where
-  later : drop m (back x at n s) ≡ drop m rec
-  later =
-      ap (drop m) (lent x s at n k) ∙ after-put x s at m (omega arith) (omega arith)
-      ∙ ap (λ (i : ℕ). drop i x) (sym e) ∙ sym (drop-drop n at x) ∙ ap (drop n) same ∙ drop-drop n at rec ∙ ap (λ (i : ℕ). drop i rec) e
+-- x has as many octets as rec, and from the octet at on the same
+record SameFrom (at : ℕ) (rec x : List ℕ) : Type 0 where
+  as-long : length x ≡ length rec
+  same : (m : ℕ) → at ≤ m → drop m x ≡ drop m rec
 
-  as-long : length (back x at n s) ≡ length rec
-  as-long = ap length (lent x s at n k) ∙ length-put x s at (omega arith) ∙ l
+-- what follows the part that comes back stays
+behind : {at : ℕ} {rec x : List ℕ} → SameFrom at rec x → (s : List ℕ) (n m : ℕ) → length s ≡ n → at + n ≡ m → m ≤ length rec → SameFrom m rec (back x at n s)
+behind {at} {rec} {x} r s n m k e h =
+    let w = part-back x s at n k in
+    record {
+      as-long = ap length w ∙ length-put x s at (omega (arith, r .as-long)) ∙ r .as-long;
+      same = λ i g. ap (drop i) w ∙ after-put x s at i (omega arith) (omega (arith, r .as-long)) ∙ r .same i (omega arith);
+    }
 
 -- the lengths and the blocks of eight places are as many after a plan
 module _ (b : Block) (k : Places) (f : InEight k × (length b ≤ longestBlock)) (x : List ℕ) (at : ℕ) where
   lengths-kept : at + queueSize ≤ length x → {l : List ℕ} → l ≡ lengthsAfter k b (take queueSize (drop at x)) → length l ≡ queueSize
   lengths-kept h e =
-      let d = length-take-le queueSize (drop at x) (rw length-drop (omega arith)) in
+      let d = length-part x at queueSize h in
       ap length e ∙ length-after k 1 (length b ∷ []) (take queueSize (drop at x)) (for-lengths b (f .1) k (f .0) _ d) ∙ d
 
   blocks-kept : at + placesSize ≤ length x → {l : List ℕ} → l ≡ blocksAfter k b (take placesSize (drop at x)) → length l ≡ placesSize
   blocks-kept h e =
-      let d = length-take-le placesSize (drop at x) (rw length-drop (omega arith)) in
+      let d = length-part x at placesSize h in
       ap length e ∙ length-after k longestBlock b (take placesSize (drop at x)) (for-blocks b (f .1) k (f .0) _ d) ∙ d
 
 -- a record has as many octets once its numbers are stored
@@ -79,50 +70,40 @@ module _ (rec : List ℕ) (p : Plan) (b : Block) (long : recordSize ≤ length r
     (ec : c ≡ blocksAfter (p .queue) b (take placesSize (drop blocksAt (x1 x l c hl))))
     (ehl : hl ≡ lengthsAfter (p .held) b (take heldSize (drop heldLengthsAt (x2 x l c hl))))
     (ehc : hc ≡ blocksAfter (p .held) b (take placesSize (drop heldBlocksAt (x3 x l c hl)))) (fits : PlanFits p b) where
-  length-x : length x ≡ length rec
-  length-x = as-many rec p long ex
-
-  same-x : drop lengthsAt x ≡ drop lengthsAt rec
-  same-x = ap (drop lengthsAt) ex ∙ after-put rec (numbersIn (p .numbers)) 0 lengthsAt (omega (arith, numbers-long (p .numbers))) (omega arith)
+  s0 : SameFrom lengthsAt rec x
+  s0 =
+      let n = numbersIn (p .numbers) in
+      record { as-long = as-many rec p long ex; same = λ m h. ap (drop m) ex ∙ after-put rec n 0 m (omega (arith, numbers-long (p .numbers))) (omega arith) }
 
   l8 : length l ≡ queueSize
-  l8 = lengths-kept b (p .queue) (fits .0 .0, fits .1) x lengthsAt (omega (arith, length-x)) el
+  l8 = lengths-kept b (p .queue) (fits .0 .0, fits .1) x lengthsAt (omega (arith, s0 .as-long)) el
 
-  length-1 : length (x1 x l c hl) ≡ length rec
-  length-1 = as-long rec x l lengthsAt queueSize blocksAt refl l8 length-x (omega arith) same-x
-
-  same-1 : drop blocksAt (x1 x l c hl) ≡ drop blocksAt rec
-  same-1 = later rec x l lengthsAt queueSize blocksAt refl l8 length-x (omega arith) same-x
+  s1 : SameFrom blocksAt rec (x1 x l c hl)
+  s1 = behind s0 l queueSize blocksAt l8 refl (omega arith)
 
   c512 : length c ≡ placesSize
-  c512 = blocks-kept b (p .queue) (fits .0 .0, fits .1) (x1 x l c hl) blocksAt (omega (arith, length-1)) ec
+  c512 = blocks-kept b (p .queue) (fits .0 .0, fits .1) (x1 x l c hl) blocksAt (omega (arith, s1 .as-long)) ec
 
-  length-2 : length (x2 x l c hl) ≡ length rec
-  length-2 = as-long rec (x1 x l c hl) c blocksAt placesSize heldLengthsAt refl c512 length-1 (omega arith) same-1
-
-  same-2 : drop heldLengthsAt (x2 x l c hl) ≡ drop heldLengthsAt rec
-  same-2 = later rec (x1 x l c hl) c blocksAt placesSize heldLengthsAt refl c512 length-1 (omega arith) same-1
+  s2 : SameFrom heldLengthsAt rec (x2 x l c hl)
+  s2 = behind s1 c placesSize heldLengthsAt c512 refl (omega arith)
 
   hl8 : length hl ≡ heldSize
-  hl8 = lengths-kept b (p .held) (fits .0 .1, fits .1) (x2 x l c hl) heldLengthsAt (omega (arith, length-2)) ehl
+  hl8 = lengths-kept b (p .held) (fits .0 .1, fits .1) (x2 x l c hl) heldLengthsAt (omega (arith, s2 .as-long)) ehl
 
-  length-3 : length (x3 x l c hl) ≡ length rec
-  length-3 = as-long rec (x2 x l c hl) hl heldLengthsAt heldSize heldBlocksAt refl hl8 length-2 (omega arith) same-2
+  s3 : SameFrom heldBlocksAt rec (x3 x l c hl)
+  s3 = behind s2 hl heldSize heldBlocksAt hl8 refl (omega arith)
 
   hc512 : length hc ≡ placesSize
-  hc512 = blocks-kept b (p .held) (fits .0 .1, fits .1) (x3 x l c hl) heldBlocksAt (omega (arith, length-3)) ehc
-
-  same-3 : drop heldBlocksAt (x3 x l c hl) ≡ drop heldBlocksAt rec
-  same-3 = later rec (x2 x l c hl) hl heldLengthsAt heldSize heldBlocksAt refl hl8 length-2 (omega arith) same-2
+  hc512 = blocks-kept b (p .held) (fits .0 .1, fits .1) (x3 x l c hl) heldBlocksAt (omega (arith, s3 .as-long)) ehc
 
   new : recordOf (p .numbers) l c hl hc ≡ carried p b (decode rec)
   unfolding carried decode
   new =
       let n = p .numbers in
-      let e1 = el ∙ ap (λ (z : List ℕ). lengthsAfter (p .queue) b (take queueSize z)) same-x in
-      let e2 = ec ∙ ap (λ (z : List ℕ). blocksAfter (p .queue) b (take placesSize z)) same-1 in
-      let e3 = ehl ∙ ap (λ (z : List ℕ). lengthsAfter (p .held) b (take heldSize z)) same-2 in
-      let e4 = ehc ∙ ap (λ (z : List ℕ). blocksAfter (p .held) b (take placesSize z)) same-3 in
+      let e1 = el ∙ ap (λ (z : List ℕ). lengthsAfter (p .queue) b (take queueSize z)) (s0 .same lengthsAt (omega arith)) in
+      let e2 = ec ∙ ap (λ (z : List ℕ). blocksAfter (p .queue) b (take placesSize z)) (s1 .same blocksAt (omega arith)) in
+      let e3 = ehl ∙ ap (λ (z : List ℕ). lengthsAfter (p .held) b (take heldSize z)) (s2 .same heldLengthsAt (omega arith)) in
+      let e4 = ehc ∙ ap (λ (z : List ℕ). blocksAfter (p .held) b (take placesSize z)) (s3 .same heldBlocksAt (omega arith)) in
       λ i. record {
         state = n .state;
         local = n .local;
@@ -139,13 +120,10 @@ module _ (rec : List ℕ) (p : Plan) (b : Block) (long : recordSize ≤ length r
   pub carried-out : back (x3 x l c hl) heldBlocksAt placesSize hc ≡ put rec 0 (encode (carried p b (decode rec)))
   carried-out =
       encode-puts (p .numbers) l c hl hc rec (record { lengths = l8; blocks = c512; held-lengths = hl8; held-blocks = hc512 }) long ex
-      (lent x l lengthsAt queueSize l8) (lent (x1 x l c hl) c blocksAt placesSize c512) (lent (x2 x l c hl) hl heldLengthsAt heldSize hl8) (lent (x3 x l c hl) hc heldBlocksAt placesSize hc512)
+      (part-back x l lengthsAt queueSize l8) (part-back (x1 x l c hl) c blocksAt placesSize c512) (part-back (x2 x l c hl) hl heldLengthsAt heldSize hl8) (part-back (x3 x l c hl) hc heldBlocksAt placesSize hc512)
       ∙ ap (λ (e : Endpoint). put rec 0 (encode e)) new
 
 -- Where every place stays, it is as though each array had been lent and had come back as it was.
-lent-same : (x : List ℕ) (at n : ℕ) → x ≡ back x at n (take n (drop at x))
-lent-same x at n = sym (rw (take-append-drop n (drop at x)) (take-append-drop at x))
-
 kept-same : {k : Places} (w : ℕ) (s d : List ℕ) → k ≡ Keep → d ≡ placesAfter k w s d
 unfolding placesAfter
 kept-same w s d e = rw e refl
@@ -160,7 +138,7 @@ kept rec p b long q h fits {x} ex =
     let hl : List ℕ = take heldSize (drop heldLengthsAt y2) in
     let y3 : List ℕ = back y2 heldLengthsAt heldSize hl in
     let hc : List ℕ = take placesSize (drop heldBlocksAt y3) in
-    lent-same x lengthsAt queueSize ∙ lent-same y1 blocksAt placesSize ∙ lent-same y2 heldLengthsAt heldSize ∙ lent-same y3 heldBlocksAt placesSize
+    part-same x lengthsAt queueSize ∙ part-same y1 blocksAt placesSize ∙ part-same y2 heldLengthsAt heldSize ∙ part-same y3 heldBlocksAt placesSize
     ∙ carried-out rec p b long {x = x} {l = l} {c = c} {hl = hl} {hc = hc} ex (kept-same 1 (length b ∷ []) l q) (kept-same longestBlock b c q) (kept-same 1 (length b ∷ []) hl h) (kept-same longestBlock b hc h) fits
 
 -- Where every place is written afresh, the arrays are one run of zeros.
@@ -168,7 +146,7 @@ abbrev runSize : ℕ
 runSize = recordSize - lengthsAt
 
 zeros : (d : List ℕ) (at n : ℕ) → at + n ≤ length d → replicate {A = ℕ} (length (take n (drop at d))) 0 ≡ replicate n 0
-zeros d at n h = ap (λ (k : ℕ). replicate k 0) (length-take-le n (drop at d) (rw length-drop (omega arith)))
+zeros d at n h = ap (λ (k : ℕ). replicate k 0) (length-part d at n h)
 
 module _ (rec : List ℕ) (p : Plan) (b : Block) (long : recordSize ≤ length rec) (q : p .queue ≡ Clear) (h : p .held ≡ Clear) where
   all-zeros : encode (carried p b (decode rec)) ≡ numbersIn (p .numbers) ++ replicate runSize 0
@@ -186,5 +164,5 @@ module _ (rec : List ℕ) (p : Plan) (b : Block) (long : recordSize ≤ length r
       let n = p .numbers in
       let l : length x ≡ length rec = as-many rec p long ex in
       let e : z ≡ replicate runSize 0 = ez ∙ zeros x lengthsAt runSize (omega arith) in
-      then-put rec (numbersIn n) z lengthsAt (numbers-long n) (omega arith) ex (lent x z lengthsAt runSize (ap length e ∙ length-replicate {A = ℕ} runSize 0))
+      then-put rec (numbersIn n) z lengthsAt (numbers-long n) (omega arith) ex (part-back x z lengthsAt runSize (ap length e ∙ length-replicate {A = ℕ} runSize 0))
       ∙ ap (put rec 0) (ap (λ (s : List ℕ). numbersIn n ++ s) e ∙ sym all-zeros)

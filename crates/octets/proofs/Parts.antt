@@ -1,9 +1,9 @@
--- A part of a buffer: where it stands in lists one after the other, and what it comes back as when it is lent.
-use Prim.Native.Nat.{ℕ, _+_, _≤_}
+-- A part of a buffer: where it stands in lists one after the other, what it comes back as when it is lent, and what a write leaves.
+use Prim.Native.Nat.{ℕ, _+_, _-_, _≤_}
 use mathlib.Core.Path.{_≡_, refl, sym, _∙_}
-use mathlib.Core.List.{List, _++_}
+use mathlib.Core.List.{List, _++_, append-assoc}
 use native.Mathlib.Omega.{arith}
-use lib.ListN.{length, take, drop, length-drop, take-append-drop}
+use lib.ListN.{length, take, drop, length-append, length-drop, take-append-drop}
 use lib.Seq.{length-take-le, take-append-le, drop-append-le, take-at, drop-at, drop-drop}
 use Rattle.octets.specs.Octets.{put}
 
@@ -28,3 +28,13 @@ part-same d at n = sym (rw (take-append-drop n (drop at d)) (take-append-drop at
 -- written over itself
 pub put-part : (d : List ℕ) (at n : ℕ) → at + n ≤ length d → d ≡ put d at (take n (drop at d))
 put-part d at n h = part-same d at n ∙ part-back d (take n (drop at d)) at n (length-part d at n h)
+
+-- what follows a write stays
+pub after-put : (d s : List ℕ) (at m : ℕ) → at + length s ≤ m → at ≤ length d → drop m (put d at s) ≡ drop m d
+unfolding put
+after-put d s at m h g =
+    let n = at + length s in
+    let p = take at d ++ s in
+    let l : length p ≡ n = length-append (take at d) s ∙ rw (length-take-le at d g) refl in
+    let e : n + (m - n) ≡ m = omega arith in
+    rw (← e, ← append-assoc (take at d) s (drop n d), ← drop-drop (m - n) n (p ++ drop n d), drop-at p (drop n d) n l) (drop-drop (m - n) n d)
