@@ -21,7 +21,7 @@ use Rattle.call_spec.specs.Claim.{Lent, LentAct, call, restart, comesBy}
 use Rattle.call_spec.specs.Answers.{blockIn, blockOf}
 use Rattle.link.specs.Lent.{statusOf, sentOf}
 use Rattle.link.specs.Record.{format}
-use Rattle.link.proofs.Answers.{sent-fits, sent-taken, received-short, collected-short}
+use Rattle.link.proofs.Answers.{sent-fits, sent-taken, block-short}
 use Rattle.bench_log.specs.Log.{placeSize, senderAt, lengthAt, frameLogged, holds}
 use Rattle.bench_log.proofs.Log.{held}
 use Rattle.answer_text.specs.Text.{textOf, StartsWith}
@@ -86,7 +86,7 @@ module _ (w : Bench) where
       fine-outcome (holds (w .count) n (w .log)) _ (λ z.
       let i = 1 - senderAt n (w .log) in
       fine-act i (call (given Receive (frameLogged n (w .log)) room)) (omega arith)
-      (received-short (lentAt i w .rec) (lentAt i w .page) (frameLogged n (w .log)) room (frame-short n (held (w .count) n (w .log) z .short))))
+      (block-short (lentAt i w .rec) (lentAt i w .page) (given Receive (frameLogged n (w .log)) room)))
 
   fine-restarting : (s : List ℕ) → Fine (restartAsk w s)
   unfolding restartAsk

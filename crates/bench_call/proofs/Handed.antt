@@ -7,6 +7,8 @@ use native.Mathlib.Omega.{arith}
 use lib.ListN.{length, take, drop}
 use lib.Seq.{drop-drop}
 use Rattle.frame.specs.Layout.{dataBlockAt}
+use Rattle.frame.specs.Read.{cutBlock}
+use Rattle.frame.proofs.Blocks.{frame-block}
 use Rattle.octets.specs.Sizes.{longestFrame}
 use Rattle.octets.specs.Test.{when, ifEq, Outcome, refused, ok}
 use Rattle.octets.proofs.Test.{by-eq, eq-yes, eq-no}
@@ -18,7 +20,7 @@ use Rattle.call_spec.specs.Answers.{noticeOf, blockOf}
 use Rattle.step_plan.specs.Internal.{blockBy}
 use Rattle.link.specs.Record.{format}
 use Rattle.link.specs.Lent.{sentOf}
-use Rattle.link.proofs.Answers.{hands-it-up}
+use Rattle.link.proofs.Answers.{hands-it-up, hears-frame}
 use Rattle.bench_log.specs.Log.{placeSize, places, logSize, lengthAt, frameLogged, place, placeHead}
 use Rattle.bench_log.proofs.Places.{stays}
 use Rattle.bench_spec.specs.Bench.{sends, callOutcome, logAfter}
@@ -34,7 +36,11 @@ unfolding blockOf blockBy
 call-from l count s room =
     let h = sym (hands-it-up (l .rec) (l .page) s room) in
     with-14 (λ (o : Outcome Step). From s (blockOf o)) (λ n. inl refl) l count (call (given Receive s room))
-    (by-eq (noticeOf (performed format (l .rec) (l .page) (given Receive s room))) 5 (λ z. inr (h ∙ eq-yes _ _ _ _ z)) (λ z. inl (h ∙ eq-no _ _ _ _ z)))
+    (by-eq (noticeOf (performed format (l .rec) (l .page) (given Receive s room))) 5
+    (λ z.
+    let b = h ∙ eq-yes _ _ _ _ z in
+    ⊎-elim (λ (e : cutBlock s ≡ []). inl (b ∙ e)) (λ (e : cutBlock s ≡ drop dataBlockAt s). inr (b ∙ e)) (frame-block s (hears-frame (l .rec) (l .page) s room z)))
+    (λ z. inl (h ∙ eq-no _ _ _ _ z)))
 
 -- the frame received stays in its place, since what is sent goes to a later one
 keeps-sent : (i : ℕ) (log : List ℕ) (count n : ℕ) (x : Step) (s : Sent) → x .sent ≡ s → (sentOf (ok x) ≢ 0 → count < places) → n < count → logSize ≤ length log

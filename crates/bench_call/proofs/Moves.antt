@@ -19,7 +19,7 @@ use Rattle.step_plan.specs.declared.Reply.the-variants as reply
 use Rattle.call_spec.specs.Answers.{sentIn}
 use Rattle.step_plan.specs.Internal.{sentBy}
 use Rattle.endpoint.specs.Record.{recordSize, decode}
-use Rattle.endpoint_step.specs.Internal.{Plans}
+use Rattle.endpoint_plan.specs.Internal.{Plans}
 use Rattle.link.specs.Record.{format, ends}
 use Rattle.link.specs.Lent.{sentOf}
 use Rattle.link.proofs.Answers.{enough}
@@ -53,7 +53,7 @@ by-reply (ok x) (reply.Frame h) b count e = sending-logs count x _ (sym e)
 module _ (l : Lent) (long : recordSize ≤ length (l .rec)) (count : ℕ) (c : Arguments) {p : Plan} (w : Plans (decode (l .rec)) (l .page) c p) where
   pub by-plan : callOutcome l count (call c) ≡ when (hasPlace (p .reply) count) (performed format (l .rec) (l .page) c) (refused 14)
   unfolding callOutcome
-  by-plan = by-reply (performed format (l .rec) (l .page) c) (p .reply) _ count (w .sent ∙ sym (ap sentIn (enough (l .rec) long (l .page) c)))
+  by-plan = by-reply (performed format (l .rec) (l .page) c) (p .reply) _ count (w .comes .sent ∙ sym (ap sentIn (enough (l .rec) long (l .page) c)))
 
 -- what is sent has a place in the log
 by-test : (b : Bool) (x : Step) → sentOf (when b (ok x) (refused 14)) ≢ 0 → b ≡ true

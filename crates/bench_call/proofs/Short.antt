@@ -31,7 +31,7 @@ use Rattle.call_spec.specs.Calls.{Arguments, reads, does, asked, wire, performe
 use Rattle.call_spec.specs.Claim.{Lent}
 use Rattle.call_spec.specs.Claim as act
 use Rattle.call_spec.proofs.Lift.{read-sized}
-use Rattle.endpoint_step.proofs.Ready.{all-passed}
+use Rattle.endpoint_plan.proofs.Ready.{all-passed}
 use Rattle.endpoint.specs.Record.{recordSize, decode}
 use Rattle.endpoint.proofs.Sounds.{view-sound}
 use Rattle.link.specs.Record.{format}

@@ -10,6 +10,9 @@ ghost use mathlib.Core.Logic.{_≢_};
 ghost use mathlib.Core.List.{List};
 ghost use lib.ListN.{length, take};
 ghost use Rattle.octets.specs.Sizes.{longestFrame};
+ghost use Rattle.octets.specs.Test.{Outcome};
+ghost use Rattle.frame.specs.Read.{cutBlock};
+ghost use Rattle.protocol.specs.Table.{Step};
 ghost use Rattle.call_spec.specs.declared.Call.the-variants.{Request, Receive};
 ghost use Rattle.call_spec.specs.Calls.{pageAfter};
 ghost use Rattle.call_spec.specs.Claim.{lent};
@@ -39,7 +42,8 @@ fn call_end(
     up: &mut [u8],
 ) -> Answer
     requires { ⌜ CallReady (lent (now rec) (now page)) (now out) (now up) ⌝ }
-    ensures { λ r. ⌜ Called call (outcomeAt (lent (now (rec .entry)) (now (page .entry))) count (lentCall call (now (s .entry)) (now (out .entry)) (now (up .entry)))) (now (rec .entry)) (now (s .entry)) (now (out .entry)) (now (up .entry)) (now (rec .exit)) (now (out .exit)) (now (up .exit)) r × (now (page .exit) ≡ pageAfter (now (page .entry)) (outcomeAt (lent (now (rec .entry)) (now (page .entry))) count (lentCall call (now (s .entry)) (now (out .entry)) (now (up .entry))))) ⌝ }
+    ensures { λ r. ⌜ (let o : Outcome Step = outcomeAt (lent (now (rec .entry)) (now (page .entry))) count (lentCall call (now (s .entry)) (now (out .entry)) (now (up .entry))) in
+        Called call o (now (rec .entry)) (cutBlock (now (s .entry))) (now (out .entry)) (now (up .entry)) (now (rec .exit)) (now (out .exit)) (now (up .exit)) r × (now (page .exit) ≡ pageAfter (now (page .entry)) o)) ⌝ }
 {
     let p = link::plan_sound(call, rec, s);
     let reply = p.reply;
@@ -47,7 +51,7 @@ fn call_end(
         return link::refuse(rec, refusal::LOG_FULL);
     }
     link::reserve(p, page);
-    link::finish(call, p, page, rec, s, out, up)
+    link::finish(call, p, page, rec, frame_read::cut_block(s), out, up)
 }
 
 // Enters what was sent in the next place of the log, and counts it; nothing where nothing was sent.

@@ -5,7 +5,7 @@ use mathlib.Core.Logic.{_≢_}
 use mathlib.Core.Bool.{true, false, not, _&&_, false≢true}
 use mathlib.Core.List.{List, [], _∷_}
 use native.Mathlib.Omega.{arith}
-use borrow.Author.Tests.{eqb-true, eq-eqb}
+use borrow.Author.Tests.{eqb-true, eq-eqb, le-leb}
 use lib.Dec.{eqb}
 use lib.ListN.{length, getD, set, drop, length-append, length-drop, drop-of-length-le}
 use lib.Seq.{getD-set-same}
@@ -15,6 +15,7 @@ use Rattle.octets.specs.Octets.{put, left, Octets}
 use Rattle.octets.proofs.Test.{both, joined}
 use Rattle.octets.proofs.Each.{alike}
 use Rattle.frame.specs.Frame.{Block}
+use Rattle.frame.specs.Read.{cutBlock}
 use Rattle.protocol.specs.Endpoint as abstract
 use Rattle.protocol.specs.Table.{Step, firstCopy, heldAt}
 use Rattle.call_spec.specs.declared.Call.the-variants.{Receive}
@@ -27,7 +28,7 @@ use Rattle.step_plan.specs.declared.Places.{Places}
 use Rattle.step_plan.specs.declared.Places.the-variants.{Keep, Join, Release, Clear}
 use Rattle.call_spec.specs.Answers.{endpointAfter}
 use Rattle.call_spec.proofs.Sequence.{has-room}
-use Rattle.step_plan.specs.Internal.{queueAfter, heldAfter, Room, HeldRoom, Comes}
+use Rattle.step_plan.specs.Internal.{queueAfter, heldAfter, Room, HeldRoom, Comes, sameNumbers, staying, leavesAlone}
 use Rattle.endpoint.specs.declared.Endpoint.{Endpoint}
 use Rattle.endpoint.specs.View.{pack, placeBlock, view}
 use Rattle.endpoint.specs.Sound.{sound}
@@ -36,9 +37,9 @@ use Rattle.endpoint.specs.Record as endpoint
 use Rattle.endpoint.specs.Internal.{numbersOf}
 use Rattle.endpoint.proofs.Packs.{count, length-tab, pack-view}
 use Rattle.endpoint.proofs.Sounds.{tidy, tidy-held}
-use Rattle.endpoint_step.specs.Calls.{outcomeOf}
-use Rattle.endpoint_step.specs.Internal.{joinsQueue, joinsHeld, Plans, PlansAny}
-use Rattle.endpoint_step.proofs.Ready.{ready}
+use Rattle.endpoint_plan.specs.Calls.{outcomeOf}
+use Rattle.endpoint_plan.specs.Internal.{Plans, PlansAny}
+use Rattle.endpoint_plan.proofs.Ready.{ready}
 use Rattle.endpoint_step.proofs.Laws.{leaves}
 use Rattle.link.specs.Record.{format, pagedFor}
 use Rattle.link.proofs.Answers.{rewritten, enough, decode-long}
@@ -48,7 +49,6 @@ use Rattle.bench_spec.specs.Bench.{logged, callOutcome}
 use Rattle.bench_call.specs.Internal.{outcomeAt, hasPlace}
 use Rattle.bench_call.proofs.Moves.{by-plan}
 use Rattle.bench_query.specs.Found.{equal, changes}
-use Rattle.bench_query.specs.Internal.{sameNumbers, staying}
 use Rattle.bench_query.proofs.Lowest.{equal-so, so-equal}
 
 -- the test of the numbers
@@ -162,18 +162,15 @@ module _ (rec : List ℕ) (long : recordSize ≤ length rec) (fine : sound (deco
     made = outcomeAt (lent rec page) count-used call
 
     module _ {p : Plan} (h : PlansAny end Receive s p) where
-      abbrev joins : Block
-      joins = joinsQueue p s
-
-      abbrev early : Block
-      early = joinsHeld p s
+      abbrev b : Block
+      b = cutBlock s
 
       plans : Plans end page call p
       unfolding view
-      plans = h page (rooms longestFrame longestBlock) (omega arith) (has-room Receive longestBlock (omega arith)) page-long goes
+      plans = h page (rooms longestFrame longestBlock) (joined (le-leb longestFrame longestFrame (omega arith)) (has-room Receive longestBlock (omega arith))) page-long goes
 
-      planned : Comes (numbersOf end) (view end .queue) (view end .held) joins early (placeBlock (end .lengths) (end .blocks) 0) hears p
-      planned = rw ready-is at plans
+      planned : Comes (numbersOf end) (view end .queue) (view end .held) b (placeBlock (end .lengths) (end .blocks) 0) hears p
+      planned = rw ready-is at (plans .comes)
 
       by-14 : outcomeAt (lent rec page) count-used call ≡ when (hasPlace (p .reply) count-used) (performed format rec page call) (refused 14)
       by-14 = by-plan (lent rec page) long count-used call {p = p} plans
@@ -197,8 +194,8 @@ module _ (rec : List ℕ) (long : recordSize ≤ length rec) (fine : sound (deco
       unfolding view
       unchanged k t =
           let w = sym (planned .counted) ∙ ap (λ (x : Numbers). x .waiting) k ∙ sym (count end) in
-          let q = stays (p .queue) joins (view end .queue) (planned .room) w in
-          let d = held-stay (p .held) early (view end .held) t in
+          let q = stays (p .queue) b (view end .queue) (planned .room) w in
+          let d = held-stay (p .held) b (view end .held) t in
           sym (planned .endpoint) ∙ (λ i. holding (k i) (q i) (d i))
 
       -- and the other way round
@@ -212,11 +209,11 @@ module _ (rec : List ℕ) (long : recordSize ≤ length rec) (fine : sound (deco
       same-held : endpointAfter (view end) hears ≡ view end → staying (p .held) ≡ true
       unfolding view
       same-held g =
-          held-stayed (p .held) early (view end .held) (length-tab heldSize (placeBlock (end .«held_lengths») (end .«held_blocks»))) (planned .place)
+          held-stayed (p .held) b (view end .held) (length-tab heldSize (placeBlock (end .«held_lengths») (end .«held_blocks»))) (planned .place)
           (ap (λ (x : abstract.Endpoint). x .held) (planned .endpoint ∙ g))
 
       pub tells : {n : Numbers} → n ≡ numbersOf end → Octets rec → Octets s → hasPlace (p .reply) count-used ≡ true
-          → not (sameNumbers (p .numbers) n && staying (p .held)) ≡ changes rec made
+          → not (leavesAlone p n) ≡ changes rec made
       tells {n} e oc os t =
           ap not
           (alike (sameNumbers (p .numbers) n && staying (p .held)) (equal (recordAfter format rec hears) rec)

@@ -1,7 +1,5 @@
 // The question of the bench: the first frame in the log whose delivery now would be accepted and change the receiver's record.
 use call_spec::Call;
-use step_plan::Places;
-use step_rules::Numbers;
 ghost use mathlib.Core.Path.{_≡_};
 ghost use mathlib.Core.Bool.{true};
 ghost use mathlib.Core.List.{List};
@@ -16,7 +14,7 @@ ghost use Rattle.link.specs.Record.{format, pagedFor};
 ghost use Rattle.bench_spec.specs.Bench.{benchOf};
 ghost use Rattle.bench_call.specs.Internal.{outcomeAt};
 ghost use Rattle.bench_query.specs.Found.{changes, wouldChange, firstFrame};
-ghost use Rattle.bench_query.specs.Internal.{sameNumbers, staying, BenchReady};
+ghost use Rattle.bench_query.specs.Internal.{BenchReady};
 
 // What the question answers: a frame's number, none, or the number of a refusal.
 pub enum Found {
@@ -25,32 +23,8 @@ pub enum Found {
     Refused(u8),
 }
 
-// All six are compared without a branch between them.
-fn same(n: Numbers, m: Numbers) -> bool
-    ensures { λ r. ⌜ r ≡ sameNumbers n m ⌝ }
-{
-    (n.state == m.state)
-        & ((n.local == m.local)
-            & ((n.remote == m.remote)
-                & ((n.accepted == m.accepted)
-                    & ((n.delivered == m.delivered) & (n.waiting == m.waiting)))))
-}
-
-// Whether the held blocks stay.
-fn stays(held: Places) -> bool
-    ensures { λ r. ⌜ r ≡ staying held ⌝ }
-{
-    match held {
-        Places::Keep => true,
-        Places::Join(_) => false,
-        Places::Release(_) => false,
-        Places::Clear => false,
-    }
-}
-
-// Whether receiving s would be accepted, by 14 too, and change the record. The plan for it tells: the waiting blocks change only
-// with their count, and the held ones where the plan says so, so that only the numbers are compared, and nothing is copied. It is the same
-// for every page that goes with the record.
+// Whether receiving s would be accepted, by 14 too, and change the record. The plan for it tells, and nothing is copied. It is the same for every page
+// that goes with the record.
 fn changes(rec: &[u8], s: &[u8], count: usize) -> bool
     requires { ⌜ (recordSize ≤ length (now rec)) × (format .sound (now rec) ≡ true) ⌝ }
     ensures { λ r. ⌜ ((page : List ℕ) → pageSize ≤ length page → pagedFor (now (rec .entry)) page ≡ true → r ≡ changes (now (rec .entry)) (outcomeAt (lent (now (rec .entry)) page) count (given Receive (now (s .entry)) (rooms longestFrame longestBlock)))) ⌝ }
@@ -64,9 +38,7 @@ fn changes(rec: &[u8], s: &[u8], count: usize) -> bool
     if !bench_call::has_place(reply, count) {
         return false;
     }
-    let m = p.numbers;
-    let held = p.held;
-    !(same(m, n) & stays(held))
+    !step_plan::leaves_alone(p, n)
 }
 
 // Whether the delivery of frame n would, with any pages by which 15 is passed. It goes to the end that did not send it.

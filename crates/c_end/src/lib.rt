@@ -5,6 +5,7 @@ use call_spec::Call;
 ghost use mathlib.Core.Path.{_≡_};
 ghost use mathlib.Core.List.{[]};
 ghost use Rattle.octets.specs.Test.{numberOf};
+ghost use Rattle.frame.specs.Read.{cutBlock};
 ghost use Rattle.call_spec.specs.declared.Call.the-variants.{Request, Receive};
 ghost use Rattle.call_spec.specs.Calls.{restartedIn, recordAfter};
 ghost use Rattle.link.specs.Record.{format};
@@ -67,7 +68,7 @@ pub extern "C" fn dock_receive(
     block: &mut usize,
 ) -> u8
     ensures { λ r. ⌜ Called Receive (lentOutcome Receive (now (rec .entry)) (now (page .entry)) (now (s .entry)) (now (out .entry)) [])
-        (now (rec .entry)) (now (s .entry)) (now (out .entry)) [] (now (rec .exit)) (now (out .exit)) []
+        (now (rec .entry)) (cutBlock (now (s .entry))) (now (out .entry)) [] (now (rec .exit)) (now (out .exit)) []
         (answerIn r (now (state .exit)) (now (notice .exit)) (now (local .exit)) (now (remote .exit)) (now (sent .exit)) (now (block .exit))) ⌝ }
 {
     let mut number: u8 = 0;

@@ -11,7 +11,7 @@ use lib.Dec.{leb}
 use lib.ListN.{length, getD, drop, replicate}
 use lib.Seq.{take-all, take-at}
 use Rattle.octets.specs.Sizes.{longestFrame, longestBlock, queueSize, heldSize, lastNumber, pageSize, numbersEach, lastIncarnation}
-use Rattle.octets.specs.Test.{first, Outcome, refused, ok, mapped, refusing, numberOf}
+use Rattle.octets.specs.Test.{when, first, Outcome, refused, ok, mapped, refusing, numberOf}
 use Rattle.octets.specs.Octets.{put, left, padded}
 use Rattle.octets.proofs.Test.{both, joined, by-eq, eq-yes, eq-no, passing}
 use Rattle.octets.proofs.Octets.{put-none}
@@ -31,7 +31,7 @@ use Rattle.protocol.proofs.Calls.{Next, same-number}
 use Rattle.protocol.proofs.Sound.{length-at}
 use Rattle.call_spec.specs.declared.Call.{Call}
 use Rattle.call_spec.specs.declared.Call.the-variants as call
-use Rattle.call_spec.specs.Calls.{Arguments, Rooms, does, ownQuestions, asked, wire, bufferAfter, pageAfter, blockRoomOk}
+use Rattle.call_spec.specs.Calls.{Arguments, Rooms, given, does, ownQuestions, asked, wire, bufferAfter, pageAfter, blockRoomOk}
 use Rattle.call_spec.specs.Answers.{noticeOf, sentIn, blockOf, blockPart, blockBufferAfter, endpointAfter}
 use Rattle.step_rules.specs.Internal.{holding}
 use Rattle.step_plan.specs.declared.Plan.{Plan}
@@ -50,7 +50,7 @@ use Rattle.endpoint.proofs.Sounds.{by-lt, tidy, tidy-held, lengths-held, facts}
 use Rattle.endpoint_places.specs.Internal.{placesAfter, InEight, PlanFits, lengthsAfter, blocksAfter, carried, blockFrom, Handy, handedTo, HandsUp}
 use Rattle.endpoint_places.proofs.HeldPlaces.{zeros-padded, held-lengths-after, held-blocks-after}
 use Rattle.endpoint_plan.specs.Calls.{outcomeOf}
-use Rattle.endpoint_plan.specs.Internal.{inputOf, Plannable, PlannedBy, PlansFor, Plans, numberLeft, Reserved}
+use Rattle.endpoint_plan.specs.Internal.{inputOf, Plannable, PlannedBy, PlansFor, Plans, PlansAny, numberLeft, Reserved}
 use Rattle.endpoint_plan.proofs.Messages.{reads-as, carries-it, number-fits, accepted-short}
 use Rattle.endpoint_plan.proofs.Numbers.{local-after, receive-local}
 use Rattle.endpoint_plan.proofs.Ready.{accepted-by, Passes, all-passed, passes}
@@ -370,6 +370,15 @@ module _ (e : Endpoint) (long : Long e) (page : List ℕ) (c : Arguments) where
         is-sound = λ z. passed z .is-fine;
         short = λ z. accepted-short (c .call) (c .octets) (view e) (accepted-by questions _ (sym (k .number) ∙ z) .1);
       }
+
+-- where 11, 12 and 15 are passed, it is the same for every page and all rooms
+pub plans-any : (e : Endpoint) → Long e → sound e ≡ true → (c : Call) (s : List ℕ) (m : Message) → meant m (cutBlock s) ≡ inputOf c s → {p : Plan}
+    → PlannedBy m (numbersOf e) (e .«held_lengths») p → PlansAny e c s p
+unfolding first when refusing
+plans-any e long fine c s m h w page r k l g =
+    let room = both (leb longestFrame (r .frame)) (blockRoomOk c (r .block)) k in
+    let z : first (ownQuestions (sound e) (e .local) page (given c s r)) ≡ 0 = rw (room .0, room .1, le-leb pageSize (length page) l, fine, g) refl in
+    plans e long page (given c s r) m (h ∙ ap (λ (n : ℕ). refusing n (inputOf c s)) (sym z)) w
 
 module _ (e : Endpoint) (long : Long e) (page : List ℕ) (c : Arguments) {p : Plan} (w : Plans e page c p) where
   abbrev o : Outcome Step

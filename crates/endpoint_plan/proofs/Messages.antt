@@ -68,7 +68,11 @@ unfolding outcome mapped andThen numberOf
 lands f zero x g h = refl
 lands f (suc n) x g h = absurd (omega arith)
 
+pub accepted-frame : (s : List ℕ) (e : Endpoint) → numberOf (does call.Receive s e) ≡ 0 → readFrame s ≡ ok (frameAt (kindOf s) (afterHead s))
+unfolding does reads readFrame
+accepted-frame s e h = lands deliver (first (readQuestions isFrame (kindOf s) (afterHead s))) (frameAt (kindOf s) (afterHead s)) _ h
+
 pub accepted-short : (c : Call) (s : List ℕ) (e : Endpoint) → numberOf (does c s e) ≡ 0 → length (cutBlock s) ≤ longestBlock
-unfolding does reads readRequest readFrame
+unfolding does reads readRequest
 accepted-short call.Request s e h = request-short s (lands ask (first (readQuestions isRequest (kindOf s) (afterHead s))) (requestAt (kindOf s) (afterHead s)) _ h)
-accepted-short call.Receive s e h = frame-short s (lands deliver (first (readQuestions isFrame (kindOf s) (afterHead s))) (frameAt (kindOf s) (afterHead s)) _ h)
+accepted-short call.Receive s e h = frame-short s (accepted-frame s e h)

@@ -5,9 +5,9 @@ use mathlib.Core.Bool.{Bool, true, _&&_}
 use mathlib.Core.List.{List, [], _∷_}
 use lib.Dec.{leb}
 use lib.ListN.{length, getD}
-use Rattle.octets.specs.Sizes.{longestFrame, longestBlock, heldSize, lastNumber, numbersEach}
+use Rattle.octets.specs.Sizes.{longestFrame, longestBlock, heldSize, lastNumber, pageSize, numbersEach}
 use Rattle.octets.specs.Test.{ifEq, Outcome, refused, mapped}
-use Rattle.page.specs.Page.{count, newPage}
+use Rattle.page.specs.Page.{count, goesWith, newPage}
 use Rattle.frame.specs.Frame.{Block, DATA, CONNECT}
 use Rattle.frame.specs.Read.{cutBlock, readFrame, readRequest, Input, frame, request}
 use Rattle.frame.specs.Answer.{frameOf, requestOf}
@@ -76,6 +76,11 @@ pub record PlansFor (c : Call) (r : Rooms) (e : Endpoint) (b : Block) (o : Outco
 -- of a call with this page
 abbrev pub Plans : Endpoint → List ℕ → Arguments → Plan → Type 0
 Plans e page c p = PlansFor (c .call) (rooms (c .room) (c .blockRoom)) e (cutBlock (c .octets)) (outcomeOf e page c) p
+
+-- and of every call of e with these octets, room enough, and a page that goes with it
+abbrev pub PlansAny : Endpoint → Call → List ℕ → Plan → Type 0
+PlansAny e c s p =
+    (page : List ℕ) (room : Rooms) → roomsOk c room ≡ true → pageSize ≤ length page → goesWith (e .local) page ≡ true → Plans e page (given c s room) p
 
 -- the number that p leaves; 0, which no page has to reserve, where p refuses
 unfoldable pub numberLeft : Plan → ℕ

@@ -29,7 +29,8 @@ use Rattle.endpoint.specs.Sound.{sound}
 use Rattle.endpoint.specs.Record.{recordSize, encode}
 use Rattle.endpoint.proofs.Held.{held, pack-sound}
 use Rattle.endpoint_step.specs.declared.StepAnswer.{StepAnswer}
-use Rattle.endpoint_step.specs.Calls.{outcomeOf, stepAnswerOf, Advances}
+use Rattle.endpoint_plan.specs.Calls.{outcomeOf}
+use Rattle.endpoint_step.specs.Calls.{stepAnswerOf, Advances}
 use Rattle.link.specs.Record.{format}
 use Rattle.link.specs.Record as link
 use Rattle.link.proofs.Demand.{lawful}

@@ -17,7 +17,8 @@ use Rattle.call_spec.specs.Calls.{Arguments, said, restarting, performed, resta
 use Rattle.call_spec.specs.Claim.{DueOctets, cutSays}
 use Rattle.endpoint.specs.declared.Endpoint.{Endpoint}
 use Rattle.endpoint.specs.View.{pack}
-use Rattle.endpoint_step.specs.Calls.{outcomeOf, stepAnswerOf}
+use Rattle.endpoint_plan.specs.Calls.{outcomeOf}
+use Rattle.endpoint_step.specs.Calls.{stepAnswerOf}
 use Rattle.link.specs.Record.{format}
 
 -- what a host holds of an end

@@ -3,20 +3,21 @@ use Prim.Native.Nat.{ℕ, _≤_}
 use mathlib.Core.Path.{_≡_, refl, sym, ap, _∙_}
 use native.Mathlib.Omega.{arith}
 use mathlib.Core.List.{List}
-use lib.ListN.{length, drop, length-take, length-drop}
-use Rattle.frame.specs.Layout.{dataBlockAt}
+use lib.ListN.{length}
+use Rattle.frame.specs.Read.{cutBlock}
 use Rattle.octets.proofs.Buffers.{put-fits}
-use Rattle.octets.specs.Sizes.{longestFrame, longestBlock}
+use Rattle.octets.specs.Sizes.{longestBlock}
 use Rattle.octets.specs.Test.{Outcome, refused, ok, mapped}
 use Rattle.octets.specs.Octets.{left}
 use Rattle.protocol.specs.Table.{Step}
-use Rattle.call_spec.specs.declared.Call.{Call}
-use Rattle.call_spec.specs.declared.Call.the-variants.{Request, Receive}
 use Rattle.call_spec.specs.Calls.{Arguments, wire, bufferAfter}
 use Rattle.call_spec.specs.Answers.{blockOf, blockPart}
 use Rattle.endpoint.specs.declared.Endpoint.{Endpoint}
+use Rattle.endpoint.proofs.Packs.{Long}
+use Rattle.endpoint_plan.proofs.Short.{up-short}
 use Rattle.endpoint_step.specs.declared.StepAnswer.{StepAnswer}
-use Rattle.endpoint_step.specs.Calls.{outcomeOf, stepAnswerOf, Advances}
+use Rattle.endpoint_plan.specs.Calls.{outcomeOf}
+use Rattle.endpoint_step.specs.Calls.{stepAnswerOf, Advances}
 
 sent-fits : (e : Endpoint) (o : Outcome Step) (d : List ℕ) {x : List ℕ} → x ≡ bufferAfter d o → length x ≡ length d → stepAnswerOf e o .sent ≤ length d
 unfolding stepAnswerOf bufferAfter mapped left
@@ -32,10 +33,8 @@ module _ (e : Endpoint) (c : Arguments) {page out up page′ out′ up′ : List
   pub frame-fits : length out′ ≡ length out → r .sent ≤ length out
   frame-fits l = rw (a .answer) (sent-fits e (outcomeOf e page c) out (a .octets) l)
 
-  pub block-there : length (blockPart (c .call) (c .octets) up′ (r .block)) ≡ r .block
+  pub block-there : length (blockPart (c .call) (cutBlock (c .octets)) up′ (r .block)) ≡ r .block
   block-there = ap (λ (b : List ℕ). length b) (a .block) ∙ block-is e (outcomeOf e page c) ∙ sym (ap (λ (r : StepAnswer). r .block) (a .answer))
 
-pub block-short : (c : Call) (s up : List ℕ) (n : ℕ) → length s ≤ longestFrame → length up ≤ longestBlock → length (blockPart c s up n) ≤ longestBlock
-unfolding blockPart
-block-short Request s up n h g = omega (arith, length-take n up)
-block-short Receive s up n h g = omega (arith, length-take n (drop dataBlockAt s), length-drop dataBlockAt s)
+  pub block-short : Long e → length (blockPart (c .call) (cutBlock (c .octets)) up′ (r .block)) ≤ longestBlock
+  block-short l = rw (a .block) (up-short e l page c)

@@ -10,7 +10,8 @@ ghost use Rattle.octets.specs.Sizes.{longestFrame, longestBlock};
 ghost use Rattle.octets.specs.Test.{Outcome};
 ghost use Rattle.protocol.specs.Table.{Step};
 ghost use Rattle.call_spec.specs.Calls.{given, rooms, pageAfter};
-ghost use Rattle.endpoint_step.specs.Calls.{outcomeOf, stepAnswerOf};
+ghost use Rattle.endpoint_plan.specs.Calls.{outcomeOf};
+ghost use Rattle.endpoint_step.specs.Calls.{stepAnswerOf};
 
 // Writes what a call or a restart answers.
 fn tell(a: StepAnswer, block: &[u8], sent: &[u8])
@@ -38,7 +39,7 @@ fn perform(call: Call, e: Endpoint, page: &mut [u8], s: &[u8]) -> Endpoint
     let mut up = [0u8; Endpoint::LONGEST_BLOCK];
     let a = host::lend(call, e, page, s, &mut frame, &mut up);
     let after = a.endpoint;
-    let block = step_plan::block_part(call, s, &up, a.block);
+    let block = step_plan::block_part(call, frame_read::cut_block(s), &up, a.block);
     tell(a, block, &frame[..a.sent]);
     after
 }

@@ -24,11 +24,11 @@ room = replicate longestFrame 0
 abbrev pub blockRoom : List ℕ
 blockRoom = replicate longestBlock 0
 
-pub gives : {c : Call} (o : Outcome Step) (rec page s out : List ℕ) {rec′ page′ frame up out′ : List ℕ} {a : Answer} {r : ℕ} {b : Block}
-    → Called c o rec s room blockRoom rec′ frame up a → page′ ≡ pageAfter page o → b ≡ blockOf o → StartsWith (textOf (a .status) b (take (a .sent) frame)) out out′ r
+pub gives : {c : Call} (o : Outcome Step) (rec page : List ℕ) (x : Block) (out : List ℕ) {rec′ page′ frame up out′ : List ℕ} {a : Answer} {r : ℕ} {b : Block}
+    → Called c o rec x room blockRoom rec′ frame up a → page′ ≡ pageAfter page o → b ≡ blockOf o → StartsWith (textOf (a .status) b (take (a .sent) frame)) out out′ r
     → LineAnswered o rec page out rec′ page′ out′ r
 unfolding text answerOf
-gives o rec page s out l g h w =
+gives o rec page x out l g h w =
     let e = l .answer in
     record { begins = rw (ap (λ (x : Answer). x .status) e, h, sent-taken room o (l .buffer) (ap (λ (x : Answer). x .sent) e)) at w; end = l .end; paged = g }
 

@@ -34,13 +34,14 @@ fn ask(rec: &mut [u8], page: &mut [u8], s: &[u8], out: &mut [u8]) -> usize
     let mut frame = [0u8; octets::LONGEST_FRAME];
     let mut up = [0u8; octets::LONGEST_BLOCK];
     let call = call_in(s);
+    let block = frame_read::cut_block(s);
     let p = link::plan_sound(call, rec, s);
     link::reserve(p, page);
-    let a = link::finish(call, p, page, rec, s, &mut frame, &mut up);
+    let a = link::finish(call, p, page, rec, block, &mut frame, &mut up);
     let told = a.status;
     let sent = a.sent;
-    let block = step_plan::block_part(call, s, &up, a.block);
-    answer_text::write_text(told, block, &frame[..sent], out)
+    let handed = step_plan::block_part(call, block, &up, a.block);
+    answer_text::write_text(told, handed, &frame[..sent], out)
 }
 
 fn refuse(rec: &[u8], number: u8, out: &mut [u8]) -> usize

@@ -16,7 +16,7 @@ use Rattle.page.specs.Page.{reserving}
 use Rattle.octets.proofs.Buffers.{put-fits, taken}
 use Rattle.octets.proofs.Outcomes.{after-question, is-refused}
 use Rattle.frame.specs.Frame.{Block}
-use Rattle.frame.specs.Read.{cutBlock}
+use Rattle.frame.specs.Read.{kindOf, afterHead, cutBlock, frameAt, readFrame}
 use Rattle.protocol.specs.Endpoint as abstract
 use Rattle.protocol.specs.Table.{Step}
 use Rattle.call_spec.specs.declared.Call.{Call}
@@ -32,13 +32,14 @@ use Rattle.endpoint.specs.View.{placesSize, placeBlock, pack, view}
 use Rattle.endpoint.specs.Record.{recordSize, encode, decode, lengthsAt, blocksAt, heldLengthsAt, heldBlocksAt}
 use Rattle.endpoint.specs.Sound.{sound}
 use Rattle.endpoint.proofs.Packs.{Long}
-use Rattle.endpoint.proofs.Sounds.{by-lt, facts}
+use Rattle.endpoint.proofs.Sounds.{by-lt}
 use Rattle.endpoint.proofs.Record.{encode-decode}
 use Rattle.endpoint_places.specs.Internal.{carried, blockFrom, HandsUp}
 use Rattle.endpoint_plan.specs.Calls.{outcomeOf}
 use Rattle.endpoint_plan.specs.Internal.{PlansFor, Plans}
-use Rattle.endpoint_plan.proofs.Messages.{accepted-short}
-use Rattle.endpoint_plan.proofs.Ready.{accepted-by, passes}
+use Rattle.endpoint_plan.proofs.Messages.{accepted-frame}
+use Rattle.endpoint_plan.proofs.Ready.{accepted-by}
+use Rattle.endpoint_plan.proofs.Short.{five, up-short}
 use Rattle.endpoint_plan.proofs.Carries.{same, leaves, hands-up, stands, hands-is, sends, sends-is, is-turned-down, reserves, reserves-none}
 use Rattle.link.specs.declared.Answer.{Answer}
 use Rattle.link.specs.Record.{format, callQuestions}
@@ -215,53 +216,19 @@ module _ (rec page s : List ℕ) (r : Rooms) where
   unfolding source
   hands-it-up = up.told (shown rec page (given Receive s r))
 
--- a call with notice 5 is accepted
-five : (o : Outcome Step) → noticeOf o ≡ 5 → numberOf o ≡ 0
-unfolding noticeOf numberOf
-five (refused n) h = absurd (omega arith)
-five (ok x) h = refl
-
--- the first of the held blocks of a record that a call was accepted of has at most 64 octets
-held-fits : (rec page : List ℕ) (c : Arguments) → numberOf (performed format rec page c) ≡ 0 → 1 ≤ length (getD (format .holds rec .held) 0 [])
-    → length (getD (format .holds rec .held) 0 []) ≤ longestBlock
-unfolding outcomeOf numberOf
-held-fits rec page c h n =
-    by-lt (length rec) recordSize (λ s. absurd (omega (arith, sym h ∙ ap numberOf (too-short rec page c s))))
+-- a frame whose block is handed up was read
+pub hears-frame : (rec page s : List ℕ) (r : Rooms) → noticeOf (performed format rec page (given Receive s r)) ≡ 5 → readFrame s ≡ ok (frameAt (kindOf s) (afterHead s))
+unfolding outcomeOf asked view noticeOf
+hears-frame rec page s r h =
+    let c = given Receive s r in
+    by-lt (length rec) recordSize (λ k. absurd (omega (arith, sym h ∙ ap noticeOf (too-short rec page c k))))
     (λ l.
-    let f = passes (sound (decode rec)) page (view (decode rec)) c (sym (ap numberOf (enough rec l page c)) ∙ h) .is-fine in
-    facts (decode rec) f (decode-long rec l) .fitting 0 n .0)
+    let z = five (outcomeOf (decode rec) page c) (sym (ap noticeOf (enough rec l page c)) ∙ h) in
+    accepted-frame s (view (decode rec)) (accepted-by (first (ownQuestions (sound (decode rec)) (decode rec .local) page c)) _ z .1))
 
--- and so has the block of a frame that a call was accepted of
-received-fits : (rec page s : List ℕ) (r : Rooms) → numberOf (performed format rec page (given Receive s r)) ≡ 0 → length (cutBlock s) ≤ longestBlock
-unfolding outcomeOf asked view numberOf
-received-fits rec page s r h =
-    let c = given Receive s r in
-    by-lt (length rec) recordSize (λ k. absurd (omega (arith, sym h ∙ ap numberOf (too-short rec page c k))))
-    (λ l. accepted-short Receive s (view (decode rec)) (accepted-by (first (ownQuestions (sound (decode rec)) (decode rec .local) page c)) _ (sym (ap numberOf (enough rec l page c)) ∙ h) .1))
-
--- A block handed up has at most 64 octets: one received since its frame was read, one collected since the record is sound.
-pub received-short : (rec page s : List ℕ) (r : Rooms) → length (blockOf (performed format rec page (given Receive s r))) ≤ longestBlock
-unfolding source outcomeOf asked view
-received-short rec page s r =
-    let c = given Receive s r in
-    let o = performed format rec page c in
-    let w = shown rec page c in
-    by-eq (noticeOf o) 5
-    (λ z. omega (arith, ap length (w .some z), received-fits rec page s r (five o z)))
-    (λ z. omega (arith, ap length (w .nothing z)))
-
-pub collected-short : (rec page s : List ℕ) (r : Rooms) → length (blockOf (performed format rec page (given Request s r))) ≤ longestBlock
-unfolding source
-collected-short rec page s r =
-    let c = given Request s r in
-    let w = shown rec page c in
-    by-eq (noticeOf (performed format rec page c)) 5
-    (λ z. by-eq (length (blockOf (performed format rec page c))) 0 (λ y. omega arith) (λ y. let e = w .some z in omega (arith, ap length e, held-fits rec page c (five (performed format rec page c) z) (omega (arith, ap length e)))))
-    (λ z. omega (arith, ap length (w .nothing z)))
-
-block-short-by : (rec page : List ℕ) (c : Call) (s : List ℕ) (r : Rooms) → length (blockOf (performed format rec page (given c s r))) ≤ longestBlock
-block-short-by rec page Request s r = collected-short rec page s r
-block-short-by rec page Receive s r = received-short rec page s r
-
+-- a block handed up has at most 64 octets
 pub block-short : (rec page : List ℕ) (c : Arguments) → length (blockOf (performed format rec page c)) ≤ longestBlock
-block-short rec page c = block-short-by rec page (c .call) (c .octets) (rooms (c .room) (c .blockRoom))
+unfolding blockOf
+block-short rec page c =
+    by-lt (length rec) recordSize (λ s. rw (too-short rec page c s) (omega arith))
+    (λ l. rw (enough rec l page c) (up-short (decode rec) (decode-long rec l) page c))

@@ -29,7 +29,7 @@ ghost use Rattle.call_spec.specs.Answers.{blockOf};
 ghost use Rattle.endpoint.specs.Record.{recordSize, encode, decode};
 ghost use Rattle.endpoint.specs.Internal.{numbersOf};
 ghost use Rattle.endpoint_places.specs.Internal.{PlanFits, carried};
-ghost use Rattle.endpoint_plan.specs.Internal.{inputOf, Plannable, PlannedBy, PlansFor, Plans, Reserved};
+ghost use Rattle.endpoint_plan.specs.Internal.{inputOf, Plannable, PlannedBy, PlansFor, Plans, PlansAny, Reserved};
 ghost use Rattle.link.specs.Record.{format, pagedFor, recordQuestions, callQuestions};
 ghost use Rattle.link.specs.Lent.{statusOf, stands, answerOf, Called, lentOutcome, CalledLent, Restarted, answerIn};
 
@@ -182,12 +182,21 @@ fn message(call: Call, rec: &[u8], page: &[u8], s: &[u8], room: usize, block_roo
 }
 
 // The plan of a message at a record, whose numbers and held lengths are read where they lie. Nothing is stored.
-pub fn plan(m: Message, rec: &[u8]) -> Plan
+fn plan(m: Message, rec: &[u8]) -> Plan
     requires { ⌜ (recordSize ≤ length (now rec)) × Plannable m (numbersOf (decode (now rec))) (decode (now rec) .«held_lengths») ⌝ }
     ensures { λ r. ⌜ PlannedBy m (numbersOf (decode (now (rec .entry)))) (decode (now (rec .entry)) .«held_lengths») r ⌝ }
 {
     let n = endpoint::load_numbers(rec);
     endpoint_plan::plan(m, n, &rec[HELD_LENGTHS_AT..HELD_BLOCKS_AT])
+}
+
+// The plan of a call where 11, 12 and 15 are passed.
+pub fn plan_sound(call: Call, rec: &[u8], s: &[u8]) -> Plan
+    requires { ⌜ (recordSize ≤ length (now rec)) × (format .sound (now rec) ≡ true) ⌝ }
+    ensures { λ r. ⌜ PlansAny (decode (now (rec .entry))) call (now (s .entry)) r ⌝ }
+{
+    let m = endpoint_plan::read(call, s);
+    plan(m, rec)
 }
 
 // The plan of a call of a lent record that is long enough.

@@ -34,11 +34,11 @@ returns-3 c = λ page l g.
     let m3 : tie.After-has-place = search in
     let m2 : tie.After-plan-sound = search in
     let m1 : tie.After-load-numbers = search in
-    rw (c .before .same .ensures, c .stays .ensures)
+    rw (c .leaves-alone .ensures)
     (tells (now (s .args .rec)) (s .pre .0) (s .pre .1) page l g (now (s .args .s)) (s .args .count) (m2 .plan-sound .ensures) (m1 .load-numbers .ensures)
     (octets-rec (search)) (octets-s (search)) (said-yes (m3 .has-place .ensures) (search)))
 
 pub changes-spec : {M : Type 1} → statement M
 changes-spec =
     tie.close
-    (tie.spec (λ c κs. search needs) (λ c κs. search needs) returns (λ c κs. search needs) returns-2 (λ c κs. search needs) (λ c κs. search needs) returns-3)
+    (tie.spec (λ c κs. search needs) (λ c κs. search needs) returns (λ c κs. search needs) returns-2 (λ c κs. search needs) returns-3)

@@ -5,6 +5,7 @@ use lib.ListN.{length}
 use lib.Seq.{length-take-le}
 use Rattle.octets.specs.Sizes.{longestFrame, longestBlock}
 use Rattle.call_spec.specs.Calls.{Arguments, given, rooms}
+use Rattle.endpoint.proofs.Packs.{Long}
 use Rattle.endpoint_step.specs.declared.StepAnswer.{StepAnswer}
 use Rattle.host_demo.proofs.Fits.{frame-fits, block-there, block-short}
 use native.Mathlib.Omega.{arith}
@@ -16,6 +17,9 @@ use Rattle.host_demo.proofs.perform.Tie as tie
 abbrev call-of : tie.Start → Arguments
 call-of c = given (c .args .call) (now (c .args .s)) (rooms longestFrame longestBlock)
 
+long : (c : tie.Start) → Long (c .args .e)
+long c = record { lengths = search needs; blocks = search needs; held-lengths = search needs; held-blocks = search needs }
+
 -- the frame sent has room
 fits : (c : tie.After-frame2) → (length (c .before .before .before .lend .last .1 .1 .1 .1 .0) ≡ longestFrame) × (c .before .before .before .lend .result .sent ≤ longestFrame)
 fits c =
@@ -25,7 +29,7 @@ fits c =
 block-part-requires : tie.Need-block-part-requires
 block-part-requires c κs =
     let m : tie.After-lend = search in
-    block-there _ (call-of (search)) (m .lend .ensures)
+    rw (c .before .cut-block .ensures) (block-there _ (call-of (search)) (m .lend .ensures))
 
 array-share-prefix-frame : tie.Need-array-share-prefix-frame
 array-share-prefix-frame c = omega (arith, fits (search))
@@ -39,8 +43,8 @@ tell-requires c κs =
     let f = fits (search) in
     let l = m .lend in
     let s : tie.Start = search in
-    let u : length (l .last .1 .1 .1 .1 .1 .0) ≡ longestBlock = search needs in (
-      rw (c .before .block-part .ensures) (block-short (s .args .call) (now (s .args .s)) (l .last .1 .1 .1 .1 .1 .0) (l .result .block) (s .pre) (omega (arith, u))),
+    let b : tie.After-block-part = search in (
+      rw (b .block-part .ensures, b .before .before .cut-block .ensures) (block-short (s .args .e) (call-of s) (l .ensures) (long s)),
       omega (arith, f, length-take-le (l .result .sent) (l .last .1 .1 .1 .1 .0) (omega (arith, f))),
     )
 
@@ -53,5 +57,5 @@ returns c =
 pub perform-spec : {M : Type 1} → statement M
 perform-spec =
     tie.close
-    (tie.spec (λ c. search needs) (λ c. search needs) (λ c κs. search needs) (λ c. search needs) block-part-requires array-share-prefix-frame
+    (tie.spec (λ c. search needs) (λ c. search needs) (λ c κs. search needs) (λ c κs. search needs) (λ c. search needs) block-part-requires array-share-prefix-frame
     slice-aggregate-tell tell-requires (λ c. search needs) returns)
