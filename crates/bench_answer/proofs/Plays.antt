@@ -4,17 +4,13 @@ use mathlib.Core.Path.{_≡_, refl, sym, subst, ap, _∙_}
 use mathlib.Core.Bool.{Bool, true, false}
 use mathlib.Core.List.{List, [], _∷_, _++_}
 use native.Mathlib.Omega.{arith}
-use lib.Dec.{ltb, eqb}
 use lib.ListN.{length, take, drop, replicate, length-take}
 use Rattle.frame.specs.Frame.{Block}
 use Rattle.protocol.specs.Table.{Step}
 use Rattle.octets.specs.Sizes.{longestFrame, longestBlock}
-use Rattle.octets.specs.Test.{when, inRange, first, Outcome, refused, ok, outcome, andThen}
-use Rattle.octets.specs.Octets.{field}
-use Rattle.octets.proofs.Test.{if-eq, within}
+use Rattle.octets.specs.Test.{when, first, Outcome, refused, ok, outcome, andThen}
 use Rattle.octets.proofs.Outcomes.{after-question}
 use Rattle.hex.specs.Line.{unhex}
-use Rattle.frame.specs.Read.{kindOf}
 use Rattle.call_spec.specs.declared.Call.the-variants.{Request, Receive}
 use Rattle.call_spec.specs.Calls.{Rooms, given, restartedIn}
 use Rattle.call_spec.specs.Claim.{Lent, LentAct, call, restart, comesBy}
@@ -25,7 +21,10 @@ use Rattle.link.proofs.Answers.{sent-fits, sent-taken, block-short}
 use Rattle.bench_log.specs.Log.{placeSize, senderAt, lengthAt, frameLogged, holds}
 use Rattle.bench_log.proofs.Log.{held}
 use Rattle.answer_text.specs.Text.{textOf, StartsWith}
-use Rattle.bench_spec.specs.Bench.{Bench, benchOf, lentAt, At, delivery, octetsAsk, restartAsk, lineAsks, comes, endOf, endNamed, requestOfA, requestOfB, deliver, restartKind}
+use Rattle.bench_spec.specs.declared.Order.{Order}
+use Rattle.bench_spec.specs.declared.Order.the-variants as order
+use Rattle.bench_spec.specs.Bench.{Bench, benchOf, lentAt, At, delivery, orderOf, orderAsks, octetsAsk, lineAsks, comes, endOf}
+use Rattle.bench_spec.proofs.Orders.{AtEnd, at-end}
 use Rattle.bench_call.specs.declared.BenchAnswer.{BenchAnswer}
 use Rattle.bench_call.specs.Answer.{benchBlockAt, benchAnswerOf}
 use Rattle.bench_call.proofs.Does.{with-14}
@@ -73,13 +72,6 @@ module _ (w : Bench) where
   fine-outcome true x h = h refl
   fine-outcome false x h = fine-refused 13
 
-  fine-named : (b c d : Bool) (x : At) → (c ≡ true → Fine (ok x)) → Fine (outcome (first ((4, b) ∷ (3, c) ∷ (4, d) ∷ [])) x)
-  unfolding first when outcome
-  fine-named false c d x h = fine-refused 4
-  fine-named true false d x h = fine-refused 3
-  fine-named true true false x h = fine-refused 4
-  fine-named true true true x h = h refl
-
   fine-delivery : (n : ℕ) (room : Rooms) → Fine (delivery w n room)
   unfolding delivery
   fine-delivery n room =
@@ -88,19 +80,16 @@ module _ (w : Bench) where
       fine-act i (call (given Receive (frameLogged n (w .log)) room)) (omega arith)
       (block-short (lentAt i w .rec) (lentAt i w .page) (given Receive (frameLogged n (w .log)) room)))
 
-  fine-restarting : (s : List ℕ) → Fine (restartAsk w s)
-  unfolding restartAsk
-  fine-restarting s =
-      fine-named (ltb 1 (length s)) (inRange requestOfA requestOfB (endNamed s)) (eqb (length s) 2) _ (λ z.
-      fine-restart (endNamed s - requestOfA) (lentAt (endNamed s - requestOfA) w .rec) (omega (arith, within requestOfA requestOfB (endNamed s) z)))
+  fine-order : (s : List ℕ) (room : Rooms) (o : Order) → AtEnd o → Fine (orderAsks w s room o)
+  unfolding orderAsks
+  fine-order s room (order.Request i) h = fine-request i (drop 1 s) room h
+  fine-order s room (order.Deliver n) h = fine-delivery n room
+  fine-order s room (order.Restart i) h = fine-restart i (lentAt i w .rec) h
+  fine-order s room (order.Refused n) h = fine-refused n
 
   fine-octets : (s : List ℕ) (room : Rooms) → Fine (octetsAsk w s room)
   unfolding octetsAsk
-  fine-octets s room =
-      if-eq Fine (kindOf s) requestOfA (λ _. fine-request 0 (drop 1 s) room (omega arith)) (λ _.
-      if-eq Fine (kindOf s) requestOfB (λ _. fine-request 1 (drop 1 s) room (omega arith)) (λ _.
-      if-eq Fine (kindOf s) deliver (λ _. after-question Fine fine-refused _ _ (fine-delivery (field 2 1 s) room)) (λ _.
-      if-eq Fine (kindOf s) restartKind (λ _. fine-restarting s) (λ _. fine-refused 3))))
+  fine-octets s room = fine-order s room (orderOf s) (at-end s)
 
   pub fine : (line : List ℕ) (room : Rooms) → Fine (lineAsks w line room)
   unfolding lineAsks

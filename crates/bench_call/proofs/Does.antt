@@ -12,22 +12,20 @@ use Rattle.octets.proofs.Outcomes.{of-value, after-value}
 use Rattle.frame.specs.Frame.{Frame}
 use Rattle.frame.specs.Layout.{encode}
 use Rattle.protocol.specs.Table.{Step, Sent, nothing, frame}
+use Rattle.call_spec.specs.declared.Call.{Call}
 use Rattle.call_spec.specs.declared.Call.the-variants.{Request}
-use Rattle.call_spec.specs.Calls.{Arguments, wire, pageAfter}
-use Rattle.call_spec.specs.Claim.{Lent, lent, LentAct, call, comesBy}
+use Rattle.call_spec.specs.Calls.{wire, pageAfter}
+use Rattle.call_spec.specs.Claim.{Lent, lent, LentAct, comesBy}
 use Rattle.call_spec.specs.Answers.{sentIn, blockOf, blockPart}
-use Rattle.endpoint.specs.Record.{recordSize}
 use Rattle.link.specs.declared.Answer.{Answer}
 use Rattle.link.specs.Record.{format}
 use Rattle.link.specs.Lent.{sentOf, answerOf, Called}
 use Rattle.link.proofs.Answers.{sent-fits, sent-taken}
-use Rattle.bench_log.specs.Log.{places}
+use Rattle.bench_log.specs.Log.{places, logSize}
 use Rattle.bench_spec.specs.Bench.{sends, logged, callOutcome, logAfter, countAfter}
 use Rattle.bench_call.specs.declared.BenchAnswer.{BenchAnswer}
 use Rattle.bench_call.specs.Answer.{benchBlockAt, benchAnswerOf}
 use Rattle.bench_call.specs.Internal.{noted, notedCount, blockPlace, answerFrom, Does}
-use Rattle.bench_call.proofs.Moves.{has-place}
-use Rattle.bench_call.proofs.Short.{sent-short}
 
 pub some-octets : (f : Frame) → length (encode f) ≢ 0
 unfolding encode
@@ -87,25 +85,21 @@ unfolding blockPart answerOf
 collects log {up′ = up′} w =
     collected-stands log up′ _ (ap (λ (n : ℕ). take n up′) (sym (ap (λ (x : Answer). x .block) (w .answer))) ∙ w .block)
 
-module _ (i : ℕ) (l : Lent) (log : List ℕ) (count start : ℕ) (c : Arguments) {s out up rec′ out′ up′ : List ℕ} {m : Answer}
-    (w : Called (c .call) (callOutcome l count (call c)) (l .rec) s out up rec′ out′ up′ m) where
-  abbrev o : Outcome Step
-  o = callOutcome l count (call c)
-
+module _ (i : ℕ) (l : Lent) (log : List ℕ) (count start : ℕ) (c : Call) (o : Outcome Step) {s out up rec′ out′ up′ : List ℕ} {m : Answer}
+    (w : Called c o (l .rec) s out up rec′ out′ up′ m) where
   sent-is : m .sent ≡ sentOf o
   unfolding answerOf
   sent-is = ap (λ (x : Answer). x .sent) (w .answer)
 
   -- what is sent can be logged
-  pub loggable : recordSize ≤ length (l .rec) → length out′ ≡ length out → (m .sent ≤ length out′) × ((m .sent ≤ longestFrame) × (m .sent ≢ 0 → count < places))
-  loggable h e = (
-    omega (arith, sent-fits out o (w .buffer) e sent-is, e),
-    (omega (arith, sent-is, sent-short l count c h), λ z. has-place l count (call c) (λ y. z (sent-is ∙ y))),
-  )
+  pub loggable : sentOf o ≤ longestFrame → (sentOf o ≢ 0 → (count < places) × (logSize ≤ length log)) → length out′ ≡ length out
+      → (m .sent ≤ length out′) × ((m .sent ≤ longestFrame) × (m .sent ≢ 0 → (count < places) × (logSize ≤ length log)))
+  loggable short h e =
+      (omega (arith, sent-fits out o (w .buffer) e sent-is, e), (omega (arith, sent-is, short), λ z. h (λ y. z (sent-is ∙ y))))
 
   pub does : Stands start (logAfter i log count o) up′ (blockOf o) → {page′ : List ℕ} → page′ ≡ pageAfter (l .page) o → {log′ : List ℕ} {r : BenchAnswer}
       → r ≡ answerFrom i m start count → log′ ≡ noted i log count (take (m .sent) out′)
-      → Does i l log count start (c .call) o out up (lent rec′ page′) log′ out′ up′ r
+      → Does i l log count start c o out up (lent rec′ page′) log′ out′ up′ r
   unfolding benchAnswerOf
   does h g e k =
       let a = e ∙ ap (λ (x : Answer). answerFrom i x start count) (w .answer) ∙ tells i (l .rec) count start o in

@@ -81,7 +81,7 @@ block-part n log =
     let e : drop dataBlockAt y ≡ drop (n * placeSize + (placeHead + dataBlockAt)) log = drop-drop dataBlockAt (n * placeSize + placeHead) log ∙ ap (λ (k : ℕ). drop k log) m in
     rw (drop-part dataBlockAt (lengthAt n log) y, e) (again (lengthAt n log - dataBlockAt) (drop (n * placeSize + (placeHead + dataBlockAt)) log))
 
-none-stands : (start : ℕ) (log up b : List ℕ) → length b ≡ 0 → Stands start log up b
+pub none-stands : (start : ℕ) (log up b : List ℕ) → length b ≡ 0 → Stands start log up b
 unfolding benchBlockAt ifEq when
 none-stands start log up [] h = refl
 none-stands start log up (x ∷ b) h = absurd (omega arith)

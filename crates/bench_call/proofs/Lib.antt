@@ -3,3 +3,4 @@ pub mod Short
 pub mod Does
 pub mod Handed
 pub mod Restarts
+pub mod Orders

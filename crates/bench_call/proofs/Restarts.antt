@@ -1,9 +1,10 @@
--- The restart of an end of the bench: nothing is sent, and the log and the page stay.
+-- The restart of an end of the bench: nothing is sent, and the page stays.
 use Prim.Native.Nat.{ℕ, _*_}
 use mathlib.Core.Path.{_≡_, refl, sym, ap, subst}
 use mathlib.Core.List.{List}
 use native.Mathlib.Omega.{arith}
-use Rattle.octets.specs.Test.{when, ifEq, Outcome, refused, ok, mapped, andThen}
+use lib.ListN.{length}
+use Rattle.octets.specs.Test.{Outcome, refused, ok, mapped, andThen}
 use Rattle.octets.specs.Sizes.{numbersEach}
 use Rattle.octets.specs.Octets.{left}
 use Rattle.octets.proofs.Octets.{put-none}
@@ -14,14 +15,12 @@ use Rattle.protocol.specs.Restart.{restarted}
 use Rattle.protocol.specs.Table.{none, Step, quiet}
 use Rattle.call_spec.specs.declared.Call.the-variants.{Receive}
 use Rattle.call_spec.specs.Calls.{wire, restarting, restartedIn, recordAfter, bufferAfter, pageAfter}
-use Rattle.call_spec.specs.Claim.{lent}
-use Rattle.call_spec.specs.Answers.{blockIn, blockOf, blockBufferAfter}
+use Rattle.call_spec.specs.Claim.{lent, restart}
+use Rattle.call_spec.specs.Answers.{blockIn, blockOf, blockPart, blockBufferAfter}
 use Rattle.link.specs.declared.Answer.{Answer}
 use Rattle.link.specs.Record.{format}
-use Rattle.link.specs.Lent.{sentOf, answerOf, Restarted}
-use Rattle.bench_spec.specs.Bench.{sends, callOutcome, logAfter, countAfter}
-use Rattle.bench_call.specs.Answer.{benchBlockAt, benchAnswerOf}
-use Rattle.bench_call.specs.Internal.{restartAt, Does}
+use Rattle.link.specs.Lent.{sentOf, answerOf, Called, Restarted}
+use Rattle.bench_spec.specs.Bench.{callOutcome}
 use Rattle.bench_call.proofs.Moves.{quiet-logs}
 
 -- the step that a restart takes, if it is accepted
@@ -29,43 +28,49 @@ pub restart-step : (rec page : List ℕ) {y : Step} → restartedIn format rec p
 unfolding restartedIn restarting
 restart-step rec page {y} h = let k : ok (quiet (restarted (count page)) none) ≡ ok y = passing _ (passing _ h .1) .1 in cc
 
--- what a quiet outcome leaves, whatever it comes to
-module _ (i : ℕ) (rec page : List ℕ) (n : ℕ) where
+module _ (rec page : List ℕ) (n : ℕ) where
+  abbrev restartAt : Outcome Step
+  restartAt = callOutcome (lent rec page) n (restart rec)
+
   -- 14 is not asked of a step that sends nothing
-  same : (o : Outcome Step) → restartedIn format rec page ≡ o → restartAt (lent rec page) n ≡ o
+  same : (o : Outcome Step) → restartedIn format rec page ≡ o → restartAt ≡ o
   unfolding callOutcome andThen
   same (refused k) h = rw h refl
   same (ok y) h = rw h (quiet-logs n y (ap (λ (x : Step). x .sent) (sym (restart-step rec page h))))
 
+  -- nothing is sent, and no block handed up
+  abbrev Quiet : Outcome Step → Type 0
+  Quiet o = (sentOf o ≡ 0) × (length (blockOf o) ≡ 0)
+
+  is-quiet : (o : Outcome Step) → restartedIn format rec page ≡ o → Quiet o
+  unfolding sentOf blockOf blockIn wire
+  is-quiet (refused k) h = (refl, refl)
+  is-quiet (ok y) h = subst (λ (x : Step). Quiet (ok x)) (restart-step rec page h) (refl, refl)
+
+  pub restarts-quietly : Quiet restartAt
+  restarts-quietly = rw (same (restartedIn format rec page) refl) (is-quiet (restartedIn format rec page) refl)
+
   -- what is told of an outcome, and what it leaves
   abbrev Leaves : Outcome Step → Type 0
   Leaves o =
-      (rec′ : List ℕ) (r : Answer) → r ≡ answerOf rec o → rec′ ≡ recordAfter format rec o → (log out up : List ℕ) (start : ℕ)
-      → Does i (lent rec page) log n start Receive o out up (lent rec′ page) log out up
-      (record { end = i; status = r .status; sent = r .sent; at = 0; block = r .block; count = n })
+      (s out up rec′ : List ℕ) (r : Answer) → r ≡ answerOf rec o → rec′ ≡ recordAfter format rec o
+      → Called Receive o rec s out up rec′ out up r × (page ≡ pageAfter page o)
 
   refused-leaves : (k : ℕ) → Leaves (refused k)
-  unfolding pageAfter logAfter countAfter bufferAfter blockBufferAfter benchAnswerOf answerOf sentOf blockOf benchBlockAt mapped left ifEq when
-  refused-leaves k rec′ r a e log out up start =
-      record { answer = rw a refl; end = λ j. lent (e j) page; entered = refl; buffer = refl; block-buffer = refl; handed = rw a refl }
+  unfolding answerOf blockOf blockPart pageAfter bufferAfter blockBufferAfter mapped left
+  refused-leaves k s out up rec′ r a e = (record { answer = a; end = e; buffer = refl; block-buffer = refl; block = rw a refl }, refl)
 
   restarted-leaves : Leaves (ok (quiet (restarted (count page)) none))
-  unfolding pageAfter logAfter countAfter bufferAfter blockBufferAfter benchAnswerOf answerOf sentOf blockOf blockIn benchBlockAt sends wire mapped left ifEq when
-  restarted-leaves rec′ r a e log out up start =
-      record {
-        answer = rw a refl;
-        end = λ j. lent (e j) (sym (stays (numbersEach * count page) page (omega arith)) j);
-        entered = refl;
-        buffer = put-none out 0;
-        block-buffer = refl;
-        handed = rw a refl;
-      }
+  unfolding answerOf blockOf blockIn blockPart pageAfter bufferAfter blockBufferAfter wire mapped left
+  restarted-leaves s out up rec′ r a e = (
+    record { answer = a; end = e; buffer = put-none out 0; block-buffer = refl; block = rw a refl },
+    sym (stays (numbersEach * count page) page (omega arith)),
+  )
 
   leaves : (o : Outcome Step) → restartedIn format rec page ≡ o → Leaves o
   leaves (refused k) h = refused-leaves k
   leaves (ok y) h = subst (λ (x : Step). Leaves (ok x)) (restart-step rec page h) restarted-leaves
 
-  pub restarts : {rec′ : List ℕ} {r : Answer} → Restarted rec page rec′ r → (log out up : List ℕ) (start : ℕ)
-      → Does i (lent rec page) log n start Receive (restartAt (lent rec page) n) out up (lent rec′ page) log out up
-      (record { end = i; status = r .status; sent = r .sent; at = 0; block = r .block; count = n })
-  restarts {rec′} {r} w log out up start = rw (same (restartedIn format rec page) refl) (leaves (restartedIn format rec page) refl rec′ r (w .answer) (w .end) log out up start)
+  pub restarts : (s out up : List ℕ) {rec′ : List ℕ} {r : Answer} → Restarted rec page rec′ r
+      → Called Receive restartAt rec s out up rec′ out up r × (page ≡ pageAfter page restartAt)
+  restarts s out up {rec′} {r} w = rw (same (restartedIn format rec page) refl) (leaves (restartedIn format rec page) refl s out up rec′ r (w .answer) (w .end))

@@ -1,3 +1,3 @@
 pub mod Asked
-pub mod Declines
+pub mod Plays
 pub mod Refused

@@ -1,11 +1,22 @@
--- What the octets of a line come to. No entry point's contract needs this.
+-- What is made of a line that was read. No entry point's contract needs this.
+use Prim.Native.Nat.{ℕ, _≤_}
 use mathlib.Core.List.{List}
-use Prim.Native.Nat.{ℕ}
-use Rattle.octets.specs.Test.{first, Outcome, refusing}
-use Rattle.call_spec.specs.Calls.{Rooms}
-use Rattle.bench_spec.specs.Bench.{Bench, At, octetsAsk, restartedBy}
-use Rattle.bench_checks.specs.Ready.{readyQuestions}
+use lib.ListN.{length}
+use Rattle.hex.specs.declared.Line.{Line}
+use Rattle.hex.specs.declared.Line.the-variants as line
+use Rattle.bench_spec.specs.declared.Order.{Order}
+use Rattle.bench_spec.specs.declared.Order.the-variants as order
+use Rattle.bench_spec.specs.Bench.{orderOf}
 
--- 11, 12 and 15, then what they order
-unfoldable pub readAsks : Bench → List ℕ → Rooms → Outcome At
-readAsks w s room = refusing (first (readyQuestions (restartedBy s) w room)) (octetsAsk w s room)
+unfoldable pub lengthIn : Line → ℕ
+lengthIn (line.Decoded n) = n
+lengthIn (line.Refused n) = 0
+
+unfoldable pub orderIn : Line → List ℕ → Order
+orderIn (line.Decoded n) s = orderOf s
+orderIn (line.Refused n) s = order.Refused n
+
+-- a line that was read has an octet
+abbrev pub Ordered : Line → List ℕ → Type 0
+Ordered (line.Decoded n) s = 1 ≤ length s
+Ordered (line.Refused n) s = Unit {0}

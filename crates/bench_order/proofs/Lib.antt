@@ -1,2 +1,2 @@
+pub mod Orders
 pub mod Plays
-pub mod Restarted

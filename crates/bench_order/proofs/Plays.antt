@@ -1,165 +1,194 @@
--- What an order comes to, from what its parts answer.
-use Prim.Native.Nat.{ℕ, _+_, _-_, _*_, _≤_, _<_}
-use mathlib.Core.Path.{_≡_, refl, ap, _∙_}
+-- What an order comes to, from what carries it out.
+use Prim.Native.Nat.{ℕ, zero, suc, _≤_}
+use mathlib.Core.Path.{_≡_, refl, sym, _∙_}
 use mathlib.Core.Logic.{_≢_}
-use mathlib.Core.Bool.{true, false}
-use mathlib.Core.List.{List, [], _∷_}
+use mathlib.Core.Bool.{Bool, true, false}
+use mathlib.Core.List.{List}
 use native.Mathlib.Omega.{arith}
-use lib.Dec.{eqb}
-use lib.ListN.{length, drop, getD}
-use borrow.Author.Tests.{eq-eqb, ne-eqb, lt-ltb, le-ltb}
-use Rattle.octets.specs.Test.{when, ifEq, inRange, first, Outcome, refused, ok, outcome, refusing, mapped, andThen}
-use Rattle.octets.specs.Octets.{field, left}
-use Rattle.octets.proofs.Test.{if-eq, eq-yes, eq-no, in-range}
-use Rattle.octets.proofs.Octets.{field-more, field-one}
-use Rattle.frame.specs.Read.{kindOf}
-use Rattle.call_spec.specs.declared.Call.the-variants.{Request}
-use Rattle.call_spec.specs.Calls.{Rooms, rooms, given, recordAfter, bufferAfter, pageAfter}
-use Rattle.call_spec.specs.Claim.{Lent, LentAct, call, restart}
-use Rattle.call_spec.specs.Answers.{blockOf, blockBufferAfter}
-use Rattle.bench_spec.specs.Bench.{Bench, benchOf, lentAt, At, delivery, octetsAsk, restartAsk, restartedBy, neither, endNamed, callOutcome, comes, endOf, logAfter, countAfter, benchAfter, requestOfA, requestOfB, deliver, restartKind}
-use Rattle.link.specs.Lent.{answerOf}
-use Rattle.link.specs.declared.Answer.{Answer}
-use Rattle.bench_checks.proofs.Passed.{Fit, Passed}
+use lib.ListN.{length}
+use borrow.Author.Tests.{eq-eqb, ne-eqb}
+use Rattle.octets.specs.Test.{when, ifEq, first, Outcome, refused, ok, refusing, andThen}
+use Rattle.protocol.specs.Table.{Step}
+use Rattle.call_spec.specs.declared.Call.the-variants.{Receive}
+use Rattle.call_spec.specs.Calls.{Rooms, rooms}
+use Rattle.call_spec.specs.Claim.{Lent, LentAct, restart}
+use Rattle.call_spec.specs.Answers.{blockOf}
+use Rattle.link.specs.Lent.{lentAfter}
+use Rattle.bench_log.specs.Log.{holds}
+use Rattle.bench_log.proofs.Log.{held}
+use Rattle.bench_spec.specs.declared.Order.{Order}
+use Rattle.bench_spec.specs.declared.Order.the-variants as order
+use Rattle.bench_spec.specs.Bench.{Bench, benchOf, lentAt, At, orderAsks, endRestarted, callOutcome, comes, endOf, logAfter, countAfter, benchAfter}
+use Rattle.bench_spec.proofs.Delivery.{no-frame, goes}
+use Rattle.bench_checks.specs.Ready.{readyQuestions}
+use Rattle.bench_checks.proofs.Passed.{Fit, Passed, passed}
 use Rattle.bench_call.specs.declared.BenchAnswer.{BenchAnswer}
-use Rattle.bench_call.specs.Answer.{blockStart, benchBlockAt, benchAnswerOf}
-use Rattle.bench_call.specs.Internal.{CallReady, Does}
-use Rattle.bench_order.specs.Performed.{lineStart, callBy, callOf, Performed}
+use Rattle.bench_call.specs.Answer.{blockStart, startOf, benchAnswerOf}
+use Rattle.bench_call.specs.Internal.{taskOf, taskOutcome, octetsIn, orderOutcome, CallReady, OrderReady, Does}
+use Rattle.bench_call.specs.Internal as carried
+use Rattle.bench_order.specs.Performed.{callBy, callOf, Performed}
+use Rattle.bench_order.specs.Internal.{asksReady, Asked, found, Findable, unless, decided, endFor, EndKnown}
 
--- where 11, 12 and 15 of a line are passed, so are those of a call at either end
-module _ {w : Bench} (out up : List ℕ) (y : Passed w (rooms (length out) (length up))) where
-  at-end : {l : Lent} → Fit l → CallReady l out up
-  at-end f = (((f .long, f .is-sound), (f .page-long, f .goes)), (y .enough, y .enough-block))
+passed-finds : (w : Bench) (room : Rooms) (x : Order) → first (readyQuestions (endRestarted x) w room) ≡ 0 → Findable x (w .log) (w .count)
+unfolding endRestarted
+passed-finds w room (order.Request i) e = tt
+passed-finds w room (order.Deliver n) e = let p = passed w room e in (p .long-log, p .few)
+passed-finds w room (order.Restart i) e = tt
+passed-finds w room (order.Refused n) e = tt
 
-  pub ready-a : CallReady (w .a) out up
-  ready-a = at-end (y .fit-a)
+-- the number of 11, 12 and 15, which leave out the end that the order restarts
+module _ (w : Bench) (room : Rooms) (x : Order) {k n : ℕ} (e : k ≡ endRestarted x) (h : n ≡ first (readyQuestions k w room)) where
+  asked : n ≡ first (readyQuestions (endRestarted x) w room)
+  asked = rw e at h
 
-  pub ready-b : CallReady (w .b) out up
-  ready-b = at-end (y .fit-b)
+  -- where they are passed, 13 can be asked
+  pub findable : n ≡ 0 → Findable x (w .log) (w .count)
+  findable z = passed-finds w room x (sym asked ∙ z)
 
--- a refusal tells of A's record
-pub told : (rec : List ℕ) (number count start : ℕ) {m : Answer} → m ≡ answerOf rec (refused number)
-    → record { end = 0; status = m .status; sent = m .sent; at = 0; block = m .block; count = count } ≡ benchAnswerOf 0 rec count start (refused number)
-unfolding benchAnswerOf answerOf countAfter blockOf ifEq when
-told rec number count start e = rw e refl
+  pub decides : {d : Order} → d ≡ unless n (found (w .log) (w .count) x) → d ≡ decided w room x
+  unfolding decided
+  decides f = rw (sym asked) f
 
-module _ (a b : Lent) (log : List ℕ) (count : ℕ) where
+-- a refused line tells nothing of a block, so it does not matter where that would stand
+pub any-start : {w : Bench} {q : Outcome At} {k : ℕ} → q ≡ refused k → (start start′ : ℕ) {out up : List ℕ} {a b : Lent} {log out′ up′ : List ℕ} {r : BenchAnswer}
+    → Performed w q start out up a b log out′ up′ r → Performed w q start′ out up a b log out′ up′ r
+unfolding comes endOf andThen benchAnswerOf blockOf ifEq when
+any-start e start start′ p =
+    rw e
+    (let z = rw e at p in record { answer = z .answer; bench = z .bench; buffer = z .buffer; block-buffer = z .block-buffer; handed = z .handed })
+
+module _ (a b : Lent) (log : List ℕ) (count : ℕ) (s out up : List ℕ) where
   abbrev w : Bench
   w = benchOf a b log count
 
-  -- a refused line leaves all as it is
-  pub declines : {q : Outcome At} (start k : ℕ) (out up : List ℕ) {r : BenchAnswer} → q ≡ refused k → r ≡ benchAnswerOf 0 (a .rec) count start (refused k)
-      → Performed w q start out up a b log out up r
-  unfolding comes endOf callOf andThen lentAt benchAfter benchAnswerOf recordAfter pageAfter bufferAfter blockBufferAfter mapped left logAfter countAfter blockOf benchBlockAt ifEq when
-  declines start k out up e h =
-      rw e (record { answer = h; bench = λ i. benchOf a b log (h i .count); buffer = refl; block-buffer = refl; handed = rw h refl })
+  abbrev room : Rooms
+  room = rooms (length out) (length up)
 
-  -- a call at an end leaves the other as it is
-  pub at-a : {q : Outcome At} (start : ℕ) (c : LentAct) (out up : List ℕ) {a′ : Lent} {log′ out′ up′ : List ℕ} {r : BenchAnswer} → q ≡ ok (0, c)
-      → Does 0 a log count start (callBy c) (callOutcome a count c) out up a′ log′ out′ up′ r → Performed w q start out up a′ b log′ out′ up′ r
-  unfolding comes endOf callOf andThen lentAt benchAfter benchAnswerOf ifEq when
-  at-a start c out up e d =
-      rw e
-      (record {
-        answer = d .answer;
-        bench = λ i. benchOf (d .end i) b (d .entered i) (d .answer i .count);
-        buffer = d .buffer;
-        block-buffer = d .block-buffer;
-        handed = d .handed;
-      })
+  -- what holds of an order once it is decided
+  abbrev pub Fine : Order → Type 0
+  Fine (order.Request i) = Passed w room × (1 ≤ length s)
+  Fine (order.Deliver n) = Passed w room × (holds count n log ≡ true)
+  Fine (order.Restart i) = Unit {0}
+  Fine (order.Refused n) = Unit {0}
 
-  pub at-b : {q : Outcome At} (start : ℕ) (c : LentAct) (out up : List ℕ) {b′ : Lent} {log′ out′ up′ : List ℕ} {r : BenchAnswer} → q ≡ ok (1, c)
-      → Does 1 b log count start (callBy c) (callOutcome b count c) out up b′ log′ out′ up′ r → Performed w q start out up a b′ log′ out′ up′ r
-  unfolding comes endOf callOf andThen lentAt benchAfter benchAnswerOf ifEq when
-  at-b start c out up e d =
-      rw e
-      (record {
-        answer = d .answer;
-        bench = λ i. benchOf a (d .end i) (d .entered i) (d .answer i .count);
-        buffer = d .buffer;
-        block-buffer = d .block-buffer;
-        handed = d .handed;
-      })
+  fine-found : (n : ℕ) (t : Bool) → holds count n log ≡ t → Passed w room → Fine (when t (order.Deliver n) (order.Refused 13))
+  unfolding when
+  fine-found n true h p = (p, h)
+  fine-found n false h p = tt
 
-  -- what a line's octets ask, by their kind
-  module _ (s : List ℕ) (room : Rooms) where
-    pub asks-a : kindOf s ≡ requestOfA → octetsAsk w s room ≡ ok (0, call (given Request (drop 1 s) room))
-    unfolding octetsAsk
-    asks-a h = eq-yes (kindOf s) requestOfA _ _ h
+  fine-unless : (m : ℕ) (x : Order) → first (readyQuestions (endRestarted x) w room) ≡ m → Asked x s → Fine (unless m (found log count x))
+  unfolding unless found endRestarted
+  fine-unless zero (order.Request i) e h = (passed w room e, h)
+  fine-unless zero (order.Deliver n) e h = fine-found n (holds count n log) refl (passed w room e)
+  fine-unless zero (order.Restart i) e h = tt
+  fine-unless zero (order.Refused n) e h = tt
+  fine-unless (suc m) x e h = tt
 
-    pub asks-b : kindOf s ≢ requestOfA → kindOf s ≡ requestOfB → octetsAsk w s room ≡ ok (1, call (given Request (drop 1 s) room))
-    unfolding octetsAsk
-    asks-b x h = eq-no (kindOf s) requestOfA _ _ x ∙ eq-yes (kindOf s) requestOfB _ _ h
+  pub end-known : (d : Order) → Fine d → EndKnown d log
+  end-known (order.Request i) h = tt
+  end-known (order.Deliver n) h = let k = held count n log (h .1) in ((h .0 .long-log, omega (arith, k .below, h .0 .few)), k .sender)
+  end-known (order.Restart i) h = tt
+  end-known (order.Refused n) h = tt
 
-    pub asks-restart : kindOf s ≡ restartKind → octetsAsk w s room ≡ restartAsk w s
-    unfolding octetsAsk
-    asks-restart h =
-        eq-no (kindOf s) requestOfA _ _ (λ z. omega (arith, h, z)) ∙ eq-no (kindOf s) requestOfB _ _ (λ z. omega (arith, h, z))
-        ∙ eq-no (kindOf s) deliver _ _ (λ z. omega (arith, h, z)) ∙ eq-yes (kindOf s) restartKind _ _ h
+  -- 11, 12 and 15 of the line are those of a call at either end
+  at-end : {l : Lent} → (Passed w room → Fit l) → Passed w room → CallReady l out up
+  at-end fit p = let f = fit p in (((f .long, f .is-sound), (f .page-long, f .goes)), (p .enough, p .enough-block))
 
-    pub asks-none : kindOf s ≢ requestOfA → kindOf s ≢ requestOfB → kindOf s ≢ restartKind → kindOf s ≢ deliver → octetsAsk w s room ≡ refused 3
-    unfolding octetsAsk
-    asks-none x y k h = eq-no (kindOf s) requestOfA _ _ x ∙ eq-no (kindOf s) requestOfB _ _ y ∙ eq-no (kindOf s) deliver _ _ h ∙ eq-no (kindOf s) restartKind _ _ k
+  pub is-ready : (d : Order) → Fine d → {l : Lent} → (Passed w room → Fit l) → OrderReady d l s log count out up
+  is-ready (order.Request i) h fit = (at-end fit (h .0), (h .0 .long-log, h .1))
+  is-ready (order.Deliver n) h fit = let k = held count n log (h .1) in (at-end fit (h .0), (h .0 .long-log, ((k .below, h .0 .few), k .short)))
+  is-ready (order.Restart i) h fit = tt
+  is-ready (order.Refused n) h fit = tt
 
-    fetches : kindOf s ≡ deliver → octetsAsk w s room ≡ refusing (first ((4, eqb (length s) 3) ∷ [])) (delivery w (field 2 1 s) room)
-    unfolding octetsAsk
-    fetches h =
-        eq-no (kindOf s) requestOfA _ _ (λ z. omega (arith, h, z)) ∙ eq-no (kindOf s) requestOfB _ _ (λ z. omega (arith, h, z)) ∙ eq-yes (kindOf s) deliver _ _ h
+  pub fine : (x : Order) {d : Order} → d ≡ decided w room x → Asked x s → Fine d
+  unfolding decided
+  fine x e h = rw e (fine-unless (first (readyQuestions (endRestarted x) w room)) x refl h)
 
-    pub asks-short : kindOf s ≡ deliver → length s ≢ 3 → octetsAsk w s room ≡ refused 4
-    unfolding first when refusing
-    asks-short h x = fetches h ∙ rw (ne-eqb (length s) 3 x) refl
+  -- what a decided order asks is what the order asked
+  asks-found : (n : ℕ) (t : Bool) → holds count n log ≡ t → orderAsks w s room (when t (order.Deliver n) (order.Refused 13)) ≡ orderAsks w s room (order.Deliver n)
+  unfolding orderAsks when
+  asks-found n true h = refl
+  asks-found n false h = sym (no-frame w n room h)
 
-    pub asks-frame : kindOf s ≡ deliver → length s ≡ 3 → {n : ℕ} → n ≡ field 2 1 s → octetsAsk w s room ≡ delivery w n room
-    unfolding first when refusing
-    asks-frame h x e = rw e (fetches h ∙ rw (eq-eqb (length s) 3 x) refl)
+  asks-unless : (m : ℕ) (x : Order) → orderAsks w s room (unless m (found log count x)) ≡ refusing m (orderAsks w s room x)
+  unfolding unless found refusing orderAsks
+  asks-unless zero (order.Request i) = refl
+  asks-unless zero (order.Deliver n) = asks-found n (holds count n log) refl
+  asks-unless zero (order.Restart i) = refl
+  asks-unless zero (order.Refused n) = refl
+  asks-unless (suc m) x = refl
 
-  -- line 53: its end, and nothing more
-  module _ (s : List ℕ) where
-    pub restart-short : length s < 2 → restartAsk w s ≡ refused 4
-    unfolding restartAsk outcome first when
-    restart-short h = rw (le-ltb 1 (length s) (omega arith)) refl
+  -- and where a block of it stands, if it is not refused
+  abbrev Starts : Order → ℕ → Type 0
+  Starts (order.Request i) start = start ≡ 0
+  Starts (order.Deliver n) start = start ≡ blockStart n
+  Starts (order.Restart i) start = start ≡ 0
+  Starts (order.Refused n) start = Unit {0}
 
-    module _ (l : 2 ≤ length s) where
-      pub restart-unknown : inRange requestOfA requestOfB (endNamed s) ≡ false → restartAsk w s ≡ refused 3
-      unfolding restartAsk outcome first when
-      restart-unknown h = rw (lt-ltb 1 (length s) (omega arith), h) refl
+  starts-found : (n : ℕ) (t : Bool) → Starts (when t (order.Deliver n) (order.Refused 13)) (blockStart n)
+  unfolding when
+  starts-found n true = refl
+  starts-found n false = tt
 
-      pub restart-long : inRange requestOfA requestOfB (endNamed s) ≡ true → length s ≢ 2 → restartAsk w s ≡ refused 4
-      unfolding restartAsk outcome first when
-      restart-long h n = rw (lt-ltb 1 (length s) (omega arith), h, ne-eqb (length s) 2 n) refl
+  starts : (m : ℕ) (x : Order) → Starts (unless m (found log count x)) (startOf x)
+  unfolding unless found startOf
+  starts zero (order.Request i) = refl
+  starts zero (order.Deliver n) = starts-found n (holds count n log)
+  starts zero (order.Restart i) = refl
+  starts zero (order.Refused n) = tt
+  starts (suc m) x = tt
 
-      restarts : inRange requestOfA requestOfB (endNamed s) ≡ true → length s ≡ 2
-          → restartAsk w s ≡ ok (endNamed s - requestOfA, restart (lentAt (endNamed s - requestOfA) w .rec))
-      unfolding restartAsk outcome first when
-      restarts h e = rw (lt-ltb 1 (length s) (omega arith), h, eq-eqb (length s) 2 e) refl
+  -- The end i has the record and page l, and an outcome there leaves the other as it is: new-a and new-b say what both are then.
+  pub record Place (i : ℕ) (l : Lent) (new-a new-b : Lent → Lent) : Type 0 where
+    pub here : lentAt i w ≡ l
+    pub after : (o : Outcome Step) → benchAfter i w o ≡ benchOf (new-a (lentAfter l o)) (new-b (lentAfter l o)) (logAfter i log count o) (countAfter count o)
 
-      pub restarts-a : length s ≡ 2 → endNamed s ≡ requestOfA → restartAsk w s ≡ ok (0, restart (a .rec))
-      unfolding lentAt ifEq when
-      restarts-a e z =
-          restarts (in-range requestOfA requestOfB (endNamed s) (omega arith) (omega arith)) e
-          ∙ ap (λ (n : ℕ). ok (n - requestOfA, restart (lentAt (n - requestOfA) w .rec))) z
+  pub place-a : {i : ℕ} → i ≡ 0 → Place i a (λ x. x) (λ x. b)
+  unfolding lentAt benchAfter ifEq when
+  place-a {i} z = record { here = rw (eq-eqb i 0 z) refl; after = λ o. rw (eq-eqb i 0 z) refl }
 
-      pub restarts-b : length s ≡ 2 → endNamed s ≡ requestOfB → restartAsk w s ≡ ok (1, restart (b .rec))
-      unfolding lentAt ifEq when
-      restarts-b e z =
-          restarts (in-range requestOfA requestOfB (endNamed s) (omega arith) (omega arith)) e
-          ∙ ap (λ (n : ℕ). ok (n - requestOfA, restart (lentAt (n - requestOfA) w .rec))) z
+  pub place-b : {i : ℕ} → i ≢ 0 → Place i b (λ x. a) (λ x. x)
+  unfolding lentAt benchAfter ifEq when
+  place-b {i} z = record { here = rw (ne-eqb i 0 z) refl; after = λ o. rw (ne-eqb i 0 z) refl }
 
--- a line of another kind restarts neither end
-pub restarts-neither : (s : List ℕ) → kindOf s ≢ restartKind → restartedBy s ≡ neither
-unfolding restartedBy
-restarts-neither s h = if-eq (λ (n : ℕ). n ≡ neither) _ _ (λ _. eq-no _ _ _ _ h) (λ _. refl)
+  module _ {l : Lent} {new-a new-b : Lent → Lent} {l′ : Lent} {log′ out′ up′ : List ℕ} {r : BenchAnswer} where
+    at : {i : ℕ} → Place i l new-a new-b → {start : ℕ} (c : LentAct) → Does i l log count start (callBy c) (callOutcome l count c) out up l′ log′ out′ up′ r
+        → Performed w (ok (i, c)) start out up (new-a l′) (new-b l′) log′ out′ up′ r
+    unfolding comes endOf callOf andThen benchAnswerOf
+    at {i} p {start} c d =
+        record {
+          answer = rw (p .here) (d .answer);
+          bench = rw (p .here) ((λ j. benchOf (new-a (d .end j)) (new-b (d .end j)) (d .entered j) (d .answer j .count)) ∙ sym (p .after (callOutcome l count c)));
+          buffer = rw (p .here) (d .buffer);
+          block-buffer = rw (p .here) (d .block-buffer);
+          handed = rw (p .here) (d .handed);
+        }
 
--- where the block of what a line delivers stands
-pub starts-none : (s : List ℕ) → kindOf s ≢ deliver → lineStart s ≡ 0
-unfolding lineStart
-starts-none s h = eq-no (kindOf s) deliver _ _ h
+    refuses : {k : ℕ} → Place 0 l new-a new-b → (start : ℕ) → Does 0 l log count 0 Receive (refused k) out up l′ log′ out′ up′ r
+        → Performed w (refused k) start out up (new-a l′) (new-b l′) log′ out′ up′ r
+    unfolding comes endOf callOf andThen benchAnswerOf blockOf ifEq when
+    refuses {k} p start d =
+        record {
+          answer = rw (p .here) (d .answer);
+          bench = (λ j. benchOf (new-a (d .end j)) (new-b (d .end j)) (d .entered j) (d .answer j .count)) ∙ sym (p .after (refused k));
+          buffer = d .buffer;
+          block-buffer = d .block-buffer;
+          handed = d .handed;
+        }
 
-pub starts-at : (s : List ℕ) → kindOf s ≡ deliver → lineStart s ≡ blockStart (field 2 1 s)
-unfolding lineStart
-starts-at s h = eq-yes (kindOf s) deliver _ _ h
+    by-order : (d : Order) → Fine d → Place (endFor d log) l new-a new-b → (start : ℕ) → Starts d start
+        → Does (endFor d log) l log count (startOf d) (carried.callBy (taskOf d)) (orderOutcome d l log count s room) out up l′ log′ out′ up′ r
+        → Performed w (orderAsks w s room d) start out up (new-a l′) (new-b l′) log′ out′ up′ r
+    unfolding endFor startOf taskOf carried.callBy callBy taskOutcome octetsIn orderAsks
+    by-order (order.Request i) h p start e y = rw e (at p _ y)
+    by-order (order.Deliver n) h p start e y = rw (e, goes w n room (h .1)) (at p _ y)
+    by-order (order.Restart i) h p start e y = rw e (at p (restart (lentAt i w .rec)) (rw (p .here) y))
+    by-order (order.Refused n) h p start e y = refuses p start y
 
--- the number of 2 octets
-pub number-of : (s : List ℕ) → length s ≡ 3 → field 2 1 s ≡ getD s 1 0 * 256 + getD s 2 0
-number-of s h = field-more 1 1 s (omega arith) ∙ ap (λ (x : ℕ). x * 256 + getD s 2 0) (field-one 1 s (omega arith))
+    pub plays : (x : Order) {d : Order} → d ≡ decided w room x → Asked x s → {i : ℕ} → i ≡ endFor d log → Place i l new-a new-b
+        → Does i l log count (startOf d) (carried.callBy (taskOf d)) (orderOutcome d l log count s room) out up l′ log′ out′ up′ r
+        → Performed w (asksReady w s room x) (startOf x) out up (new-a l′) (new-b l′) log′ out′ up′ r
+    unfolding decided asksReady
+    plays x {d} e h {i} k p y =
+        let m = first (readyQuestions (endRestarted x) w room) in
+        rw (sym (asks-unless m x)) (rw e at (by-order d (fine x e h) (rw k at p) (startOf x) (rw e (starts m x)) (rw k at y)))

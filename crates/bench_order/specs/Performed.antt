@@ -2,21 +2,19 @@
 use Prim.Native.Nat.{ℕ}
 use mathlib.Core.Path.{_≡_}
 use mathlib.Core.List.{List}
-use Rattle.octets.specs.Test.{ifEq, Outcome, refused, ok}
-use Rattle.octets.specs.Octets.{field}
-use Rattle.frame.specs.Read.{kindOf}
+use Rattle.octets.specs.Test.{Outcome, refused, ok}
 use Rattle.call_spec.specs.declared.Call.{Call}
 use Rattle.call_spec.specs.declared.Call.the-variants.{Receive}
 use Rattle.call_spec.specs.Calls.{bufferAfter}
 use Rattle.call_spec.specs.Claim.{Lent, LentAct, call, restart, cut}
 use Rattle.call_spec.specs.Answers.{blockOf, blockBufferAfter}
-use Rattle.bench_spec.specs.Bench.{Bench, benchOf, At, lentAt, comes, endOf, benchAfter, deliver}
+use Rattle.bench_spec.specs.Bench.{Bench, benchOf, At, lentAt, orderOf, comes, endOf, benchAfter}
 use Rattle.bench_call.specs.declared.BenchAnswer.{BenchAnswer}
-use Rattle.bench_call.specs.Answer.{blockStart, benchBlockAt, benchAnswerOf}
+use Rattle.bench_call.specs.Answer.{startOf, benchBlockAt, benchAnswerOf}
 
 -- where the block of the frame that a line delivers stands in the log; 0 for a line that delivers none
 unfoldable pub lineStart : List ℕ → ℕ
-lineStart s = ifEq (kindOf s) deliver (blockStart (field 2 1 s)) 0
+lineStart s = startOf (orderOf s)
 
 -- The call that a line makes. One that is refused, or restarts an end, leaves the buffer for a block alone, as receiving does.
 unfoldable pub callBy : LentAct → Call

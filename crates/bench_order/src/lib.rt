@@ -1,18 +1,12 @@
-// What the octets of a bench line order: a request at an end, the delivery of a frame, or the restart of an end.
-use bench_call::BenchAnswer;
+// What a bench line orders, and all questions up to 13 of it, decided with values: nothing is stored.
 use bench_checks::NEITHER;
+use bench_spec::Order;
 use octets::refusal;
 ghost use mathlib.Core.Path.{_≡_};
-ghost use Prim.Native.Nat.{ℕ, _≤_};
-ghost use mathlib.Core.List.{List};
+ghost use Prim.Native.Nat.{_≤_};
 ghost use lib.ListN.{length};
-ghost use Rattle.octets.specs.Test.{first, refused};
-ghost use Rattle.call_spec.specs.Calls.{rooms};
-ghost use Rattle.call_spec.specs.Claim.{lent};
-ghost use Rattle.bench_spec.specs.Bench.{benchOf, neither, delivery, restartAsk, octetsAsk, restartedBy};
-ghost use Rattle.bench_checks.specs.Ready.{readyQuestions};
-ghost use Rattle.bench_call.specs.Answer.{blockStart, benchAnswerOf};
-ghost use Rattle.bench_order.specs.Performed.{lineStart, Performed};
+ghost use Rattle.bench_spec.specs.Bench.{restartOrder, orderOf, endRestarted};
+ghost use Rattle.bench_order.specs.Internal.{found, Findable, unless, endFor, EndKnown};
 
 const REQUEST_A: u8 = 0x50;
 
@@ -22,124 +16,98 @@ const DELIVER: u8 = 0x52;
 
 const RESTART: u8 = 0x53;
 
-// A refusal that names no end is about A.
-pub fn refuse(a: &[u8], number: u8, count: usize) -> BenchAnswer
-    ensures { λ r. ⌜ ((start : ℕ) → r ≡ benchAnswerOf 0 (now (a .entry)) count start (refused number)) ⌝ }
-{
-    let told = link::refuse(a, number);
-    let status = told.status;
-    BenchAnswer {
-        end: 0,
-        status,
-        sent: told.sent,
-        at: 0,
-        block: told.block,
-        count,
-    }
-}
-
-// Delivers frame n of the log to the end that did not send it, if the log holds it.
-fn deliver(
-    a: &mut [u8],
-    b: &mut [u8],
-    a_page: &mut [u8],
-    b_page: &mut [u8],
-    log: &mut [u8],
-    count: usize,
-    n: usize,
-    out: &mut [u8],
-    up: &mut [u8],
-) -> BenchAnswer
-    requires { ⌜ first (readyQuestions neither (benchOf (lent (now a) (now «a_page»)) (lent (now b) (now «b_page»)) (now log) count) (rooms (length (now out)) (length (now up)))) ≡ 0 ⌝ }
-    ensures { λ r. ⌜ Performed (benchOf (lent (now (a .entry)) (now («a_page» .entry))) (lent (now (b .entry)) (now («b_page» .entry))) (now (log .entry)) count) (delivery (benchOf (lent (now (a .entry)) (now («a_page» .entry))) (lent (now (b .entry)) (now («b_page» .entry))) (now (log .entry)) count) n (rooms (length (now (out .entry))) (length (now (up .entry))))) (blockStart n) (now (out .entry)) (now (up .entry)) (lent (now (a .exit)) (now («a_page» .exit))) (lent (now (b .exit)) (now («b_page» .exit))) (now (log .exit)) (now (out .exit)) (now (up .exit)) r ⌝ }
-{
-    if !bench_log::holds(log, count, n) {
-        return refuse(a, refusal::NO_SUCH_FRAME, count);
-    }
-    if bench_log::sender_of(log, n) == 0 {
-        return bench_call::deliver_at(1, b, b_page, n, log, count, out, up);
-    }
-    bench_call::deliver_at(0, a, a_page, n, log, count, out, up)
-}
-
-// The end that the octets of a line restart, past 3 and 4; of any other line neither.
-pub fn restarted_by(s: &[u8]) -> u8
-    ensures { λ r. ⌜ r ≡ restartedBy (now (s .entry)) ⌝ }
-{
-    if s.len() != 2 {
-        return NEITHER;
-    }
-    if s[0] != RESTART {
-        return NEITHER;
-    }
-    if s[1] == REQUEST_A {
-        return 0;
-    }
-    if s[1] == REQUEST_B {
-        return 1;
-    }
-    NEITHER
-}
-
-// Restarts the end that the second octet of s names, whose first octet is RESTART.
-fn restart(
-    a: &mut [u8],
-    b: &mut [u8],
-    a_page: &[u8],
-    b_page: &[u8],
-    count: usize,
-    s: &[u8],
-) -> BenchAnswer
-    ensures { λ r. ⌜ ((log out up : List ℕ) (start : ℕ) → Performed (benchOf (lent (now (a .entry)) (now («a_page» .entry))) (lent (now (b .entry)) (now («b_page» .entry))) log count) (restartAsk (benchOf (lent (now (a .entry)) (now («a_page» .entry))) (lent (now (b .entry)) (now («b_page» .entry))) log count) (now (s .entry))) start out up (lent (now (a .exit)) (now («a_page» .entry))) (lent (now (b .exit)) (now («b_page» .entry))) log out up r) ⌝ }
+// What a line 53 orders: its second octet names the end.
+fn restart_order(s: &[u8]) -> Order
+    ensures { λ r. ⌜ r ≡ restartOrder (now (s .entry)) ⌝ }
 {
     if s.len() < 2 {
-        return refuse(a, refusal::BAD_SIZE, count);
+        return Order::Refused(refusal::BAD_SIZE);
     }
     let end = s[1];
     let known = (REQUEST_A <= end) & (end <= REQUEST_B);
     if !known {
-        return refuse(a, refusal::UNKNOWN_KIND, count);
+        return Order::Refused(refusal::UNKNOWN_KIND);
     }
     if s.len() != 2 {
-        return refuse(a, refusal::BAD_SIZE, count);
+        return Order::Refused(refusal::BAD_SIZE);
     }
-    if end == REQUEST_A {
-        return bench_call::restart_at(0, a, a_page, count);
-    }
-    bench_call::restart_at(1, b, b_page, count)
+    Order::Restart(end - REQUEST_A)
 }
 
-// What the octets of a line ask, where 11, 12 and 15 are passed, of an end that the line restarts as far as that asks for them.
-pub fn ask(
-    a: &mut [u8],
-    b: &mut [u8],
-    a_page: &mut [u8],
-    b_page: &mut [u8],
-    log: &mut [u8],
-    count: usize,
-    s: &[u8],
-    out: &mut [u8],
-    up: &mut [u8],
-) -> BenchAnswer
-    requires { ⌜ (1 ≤ length (now s)) × (first (readyQuestions (restartedBy (now s)) (benchOf (lent (now a) (now «a_page»)) (lent (now b) (now «b_page»)) (now log) count) (rooms (length (now out)) (length (now up)))) ≡ 0) ⌝ }
-    ensures { λ r. ⌜ Performed (benchOf (lent (now (a .entry)) (now («a_page» .entry))) (lent (now (b .entry)) (now («b_page» .entry))) (now (log .entry)) count) (octetsAsk (benchOf (lent (now (a .entry)) (now («a_page» .entry))) (lent (now (b .entry)) (now («b_page» .entry))) (now (log .entry)) count) (now (s .entry)) (rooms (length (now (out .entry))) (length (now (up .entry))))) (lineStart (now (s .entry))) (now (out .entry)) (now (up .entry)) (lent (now (a .exit)) (now («a_page» .exit))) (lent (now (b .exit)) (now («b_page» .exit))) (now (log .exit)) (now (out .exit)) (now (up .exit)) r ⌝ }
+// What the octets of a line order.
+pub fn order_of(s: &[u8]) -> Order
+    requires { ⌜ 1 ≤ length (now s) ⌝ }
+    ensures { λ r. ⌜ r ≡ orderOf (now (s .entry)) ⌝ }
 {
     let kind = s[0];
     if kind == REQUEST_A {
-        return bench_call::request_at(0, a, a_page, &s[1..], log, count, out, up);
+        return Order::Request(0);
     }
     if kind == REQUEST_B {
-        return bench_call::request_at(1, b, b_page, &s[1..], log, count, out, up);
+        return Order::Request(1);
     }
     if kind == RESTART {
-        return restart(a, b, a_page, b_page, count, s);
+        return restart_order(s);
     }
     if kind != DELIVER {
-        return refuse(a, refusal::UNKNOWN_KIND, count);
+        return Order::Refused(refusal::UNKNOWN_KIND);
     }
     if s.len() != 3 {
-        return refuse(a, refusal::BAD_SIZE, count);
+        return Order::Refused(refusal::BAD_SIZE);
     }
-    let n = octets::wide(s[1]) * 256 + octets::wide(s[2]);
-    deliver(a, b, a_page, b_page, log, count, n, out, up)
+    Order::Deliver(octets::wide(s[1]) * 256 + octets::wide(s[2]))
+}
+
+// The end that an order restarts, whose record 12 and 15 do not look at.
+pub fn end_restarted(order: Order) -> u8
+    ensures { λ r. ⌜ r ≡ endRestarted order ⌝ }
+{
+    match order {
+        Order::Request(_) => NEITHER,
+        Order::Deliver(_) => NEITHER,
+        Order::Restart(restarted) => restarted,
+        Order::Refused(_) => NEITHER,
+    }
+}
+
+// Question 13: a delivery is of a frame that the log holds.
+fn find(order: Order, log: &[u8], count: usize) -> Order
+    requires { ⌜ Findable order (now log) count ⌝ }
+    ensures { λ r. ⌜ r ≡ found (now (log .entry)) count order ⌝ }
+{
+    match order {
+        Order::Request(_) => order,
+        Order::Deliver(n) => {
+            if bench_log::holds(log, count, n) {
+                return order;
+            }
+            Order::Refused(refusal::NO_SUCH_FRAME)
+        }
+        Order::Restart(_) => order,
+        Order::Refused(_) => order,
+    }
+}
+
+// All questions up to 13, of which 11, 12 and 15 come before the order's own refusal: number is that of the first of them which refuses, or 0.
+pub fn decide(number: u8, order: Order, log: &[u8], count: usize) -> Order
+    requires { ⌜ (number ≡ 0 → Findable order (now log) count) ⌝ }
+    ensures { λ r. ⌜ r ≡ unless number (found (now (log .entry)) count order) ⌝ }
+{
+    if number != 0 {
+        return Order::Refused(number);
+    }
+    find(order, log, count)
+}
+
+// The end that a decided order is for. A frame goes to the end that did not send it; a refusal tells of A.
+pub fn end_for(order: Order, log: &[u8]) -> u8
+    requires { ⌜ EndKnown order (now log) ⌝ }
+    ensures { λ r. ⌜ r ≡ endFor order (now (log .entry)) ⌝ }
+{
+    match order {
+        Order::Request(end) => end,
+        Order::Deliver(n) => 1 - bench_log::sender_of(log, n),
+        Order::Restart(end) => end,
+        Order::Refused(_) => 0,
+    }
 }

@@ -22,7 +22,7 @@ module _ (w : Bench) (n : ℕ) (room : Rooms) where
   to i = ok (i, call (given Receive (frameLogged n (w .log)) room))
 
   module _ (h : holds (w .count) n (w .log) ≡ true) where
-    goes : delivery w n room ≡ to (1 - senderAt n (w .log))
+    pub goes : delivery w n room ≡ to (1 - senderAt n (w .log))
     unfolding delivery first when outcome
     goes = rw h refl
 

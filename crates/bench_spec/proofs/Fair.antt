@@ -1,17 +1,14 @@
 -- What an accepted line asks: a call at an end, which is due if it is a delivery.
-use Prim.Native.Nat.{ℕ, _-_, _≤_}
+use Prim.Native.Nat.{ℕ, _≤_}
 use mathlib.Core.Path.{_≡_, refl, subst}
 use mathlib.Core.Logic.{_≢_}
 use mathlib.Core.List.{List}
 use native.Mathlib.Omega.{arith}
 use borrow.Author.Tests.{leb-true}
-use lib.Dec.{leb}
 use lib.ListN.{length, drop}
-use Rattle.octets.specs.Test.{inRange, Outcome, refused, ok}
-use Rattle.octets.specs.Octets.{field}
-use Rattle.octets.proofs.Test.{if-eq, both, accepted, all-yes, passing}
+use Rattle.octets.specs.Test.{Outcome, refused, ok}
+use Rattle.octets.proofs.Test.{if-eq, accepted, all-yes, passing}
 use Rattle.hex.specs.Line.{unhex}
-use Rattle.frame.specs.Read.{kindOf}
 use Rattle.protocol.specs.World.{DueAt}
 use Rattle.call_spec.specs.declared.Call.the-variants.{Request, Receive}
 use Rattle.call_spec.specs.Calls.{Rooms, given}
@@ -19,9 +16,12 @@ use Rattle.call_spec.specs.Claim.{Lent, LentAct, call, restart, cut}
 use Rattle.link.specs.Record.{ends}
 use Rattle.bench_log.specs.Log.{logSize}
 use Rattle.bench_log.proofs.Log.{held}
-use Rattle.bench_spec.specs.Bench.{Bench, lentAt, At, delivery, restartAsk, octetsAsk, lineAsks, requestOfA, requestOfB, deliver, restartKind, endNamed}
+use Rattle.bench_spec.specs.declared.Order.{Order}
+use Rattle.bench_spec.specs.declared.Order.the-variants as order
+use Rattle.bench_spec.specs.Bench.{Bench, lentAt, At, delivery, orderOf, orderAsks, octetsAsk, lineAsks}
 use Rattle.bench_spec.specs.Run.{RunEnds, RunEntry, entry}
 use Rattle.bench_spec.proofs.Logged.{SentBy, Logged}
+use Rattle.bench_spec.proofs.Orders.{AtEnd, at-end}
 
 -- a line restarts an end with the record that it finds
 abbrev pub FromLine : Lent → LentAct → Type 0
@@ -68,23 +68,16 @@ module _ (w : Bench) (e : RunEnds) (h : Logged e (w .count) (w .log)) where
       let t = held (w .count) n (w .log) (all-yes 13 _ _ (a .0) tt .0) in
       subst Good (a .1) (gives-fair e _ _ room (h n (t .below)) (omega arith) (λ j. omega (arith, t .sender)) (λ j. omega (arith, t .sender)), tt)
 
-  restarts-so : (s : List ℕ) → IfOk (restartAsk w s)
-  unfolding restartAsk inRange
-  restarts-so s x k =
-      let a = accepted _ _ k in
-      let b = all-yes 4 _ _ (a .0) tt in
-      let c = both (leb requestOfA (endNamed s)) (leb (endNamed s) requestOfB) (all-yes 3 _ _ (b .1) tt .0) in
-      let i : endNamed s - requestOfA ≤ 1 = omega (arith, leb-true (endNamed s) requestOfB (c .1)) in
-      subst Good (a .1) (restart-fair e _ _ i, refl)
+  order-so : (s : List ℕ) (room : Rooms) (o : Order) → AtEnd o → IfOk (orderAsks w s room o)
+  unfolding orderAsks
+  order-so s room (order.Request i) h = is-ok _ (asks-fair e i (drop 1 s) room h, tt)
+  order-so s room (order.Deliver n) h = delivery-fair n room
+  order-so s room (order.Restart i) h = is-ok _ (restart-fair e i _ h, refl)
+  order-so s room (order.Refused n) h = not-ok n
 
   asks-so : (s : List ℕ) (room : Rooms) → IfOk (octetsAsk w s room)
   unfolding octetsAsk
-  asks-so s room =
-      if-eq IfOk (kindOf s) requestOfA (λ _. is-ok _ (asks-fair e 0 (drop 1 s) room (omega arith), tt))
-      (λ _. if-eq IfOk (kindOf s) requestOfB (λ _. is-ok _ (asks-fair e 1 (drop 1 s) room (omega arith), tt))
-      (λ _. if-eq IfOk (kindOf s) deliver (λ _ x k. delivery-fair (field 2 1 s) room x (passing _ k .1))
-      (λ _. if-eq IfOk (kindOf s) restartKind (λ _. restarts-so s)
-      (λ _. not-ok 3))))
+  asks-so s room = order-so s room (orderOf s) (at-end s)
 
   pub asked-fair : (line : List ℕ) (room : Rooms) (x : At) → lineAsks w line room ≡ ok x → Good x × (logSize ≤ length (w .log))
   unfolding lineAsks

@@ -5,7 +5,7 @@ use mathlib.Core.List.{List, [], _∷_}
 use lib.Dec.{ltb, leb, eqb}
 use lib.ListN.{length, drop, getD}
 use Rattle.octets.specs.Sizes.{longestFrame, longestBlock, pageSize}
-use Rattle.octets.specs.Test.{when, ifEq, inRange, Question, first, Outcome, refused, ok, outcome, refusing, andThen}
+use Rattle.octets.specs.Test.{when, ifEq, ifLt, inRange, Question, first, Outcome, refused, ok, outcome, refusing, andThen}
 use Rattle.octets.specs.Octets.{put, field}
 use Rattle.hex.specs.Line.{unhex, lineQuestions}
 use Rattle.frame.specs.Read.{kindOf}
@@ -17,6 +17,8 @@ use Rattle.page.specs.Page.{runs}
 use Rattle.link.specs.Record.{format, pagedFor}
 use Rattle.link.specs.Lent.{lentAfter}
 use Rattle.bench_log.specs.Log.{placeSize, places, logSize, senderAt, frameLogged, holds, place}
+use Rattle.bench_spec.specs.declared.Order.{Order}
+use Rattle.bench_spec.specs.declared.Order.the-variants as order
 
 -- two ends with their records and pages, the log, and how many places of it are in use
 pub record Bench : Type 0 where
@@ -92,24 +94,41 @@ abbrev pub endNamed : List ℕ → ℕ
 endNamed s = getD s 1 0
 
 -- Line 53 and such an octet: a restart of that end (N6). None at all: 4; another one: 3, also where more follows; more after a right one: 4.
-unfoldable pub restartAsk : Bench → List ℕ → Outcome At
-restartAsk w s =
-    outcome (first ((4, ltb 1 (length s)) ∷ (3, inRange requestOfA requestOfB (endNamed s)) ∷ (4, eqb (length s) 2) ∷ []))
-    (endNamed s - requestOfA, restart (lentAt (endNamed s - requestOfA) w .rec))
+unfoldable pub restartOrder : List ℕ → Order
+restartOrder s =
+    ifLt (length s) 2 (order.Refused 4)
+    (when (inRange requestOfA requestOfB (endNamed s)) (ifEq (length s) 2 (order.Restart (endNamed s - requestOfA)) (order.Refused 4))
+    (order.Refused 3))
 
 -- Line 50 or 51 and a request: end A or B. Line 52 and a number of 2 octets: deliver that frame. Line 53 and an end: restart it.
-unfoldable pub octetsAsk : Bench → List ℕ → Rooms → Outcome At
-octetsAsk w s room =
-    ifEq (kindOf s) requestOfA (ok (0, call (given Request (drop 1 s) room)))
-    (ifEq (kindOf s) requestOfB (ok (1, call (given Request (drop 1 s) room)))
-    (ifEq (kindOf s) deliver (refusing (first ((4, eqb (length s) 3) ∷ [])) (delivery w (field 2 1 s) room))
-    (ifEq (kindOf s) restartKind (restartAsk w s)
-    (refused 3))))
+unfoldable pub orderOf : List ℕ → Order
+orderOf s =
+    ifEq (kindOf s) requestOfA (order.Request 0)
+    (ifEq (kindOf s) requestOfB (order.Request 1)
+    (ifEq (kindOf s) deliver (ifEq (length s) 3 (order.Deliver (field 2 1 s)) (order.Refused 4))
+    (ifEq (kindOf s) restartKind (restartOrder s)
+    (order.Refused 3))))
 
--- the end that the octets of a line restart, past 3 and 4
+-- what an order asks of the bench, with the octets s of its line
+unfoldable pub orderAsks : Bench → List ℕ → Rooms → Order → Outcome At
+orderAsks w s room (order.Request i) = ok (i, call (given Request (drop 1 s) room))
+orderAsks w s room (order.Deliver n) = delivery w n room
+orderAsks w s room (order.Restart i) = ok (i, restart (lentAt i w .rec))
+orderAsks w s room (order.Refused n) = refused n
+
+unfoldable pub octetsAsk : Bench → List ℕ → Rooms → Outcome At
+octetsAsk w s room = orderAsks w s room (orderOf s)
+
+-- the end that an order restarts
+unfoldable pub endRestarted : Order → ℕ
+endRestarted (order.Request i) = neither
+endRestarted (order.Deliver n) = neither
+endRestarted (order.Restart i) = i
+endRestarted (order.Refused n) = neither
+
+-- and the octets of a line, past 3 and 4
 unfoldable pub restartedBy : List ℕ → ℕ
-restartedBy s =
-    ifEq (length s) 2 (ifEq (kindOf s) restartKind (ifEq (endNamed s) requestOfA 0 (ifEq (endNamed s) requestOfB 1 neither)) neither) neither
+restartedBy s = endRestarted (orderOf s)
 
 -- and a line, past 1 and 2 too
 unfoldable pub restartedEnd : List ℕ → ℕ

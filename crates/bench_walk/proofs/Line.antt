@@ -7,14 +7,13 @@ use lib.ListN.{length}
 use Rattle.octets.specs.Test.{when, first}
 use Rattle.octets.specs.Octets.{octetsOf, field}
 use Rattle.octets.proofs.Octets.{octets-cons, octets-number, width}
-use Rattle.octets.proofs.Test.{accepted, eq-no}
+use Rattle.octets.proofs.Test.{accepted}
 use Rattle.hex.specs.Line.{hex, unhex, lineQuestions, readLine}
 use Rattle.hex.proofs.RoundTrip.{written-reads}
 use Rattle.frame.specs.Read.{kindOf}
-use Rattle.bench_spec.specs.Bench.{Bench, deliver, octetsAsk, restartedBy, lineAsks}
-use Rattle.bench_checks.specs.Ready.{readyQuestions}
-use Rattle.bench_order.proofs.Plays.{asks-frame}
-use Rattle.bench_line.specs.Internal.{readAsks}
+use Rattle.bench_spec.specs.Bench.{Bench, deliver, orderOf, orderAsks, endRestarted, lineAsks}
+use Rattle.bench_order.specs.Internal.{asksReady}
+use Rattle.bench_order.proofs.Orders.{orders-frame}
 use Rattle.bench_line.proofs.Asked.{passes, passes-on}
 use Rattle.bench_query.specs.Found.{delivers, queryQuestions}
 use Rattle.bench_query.proofs.Delivery.{full}
@@ -39,14 +38,10 @@ module _ (n : ℕ) where
 
   module _ (w : Bench) (h : first (queryQuestions w) ≡ 0) (few : n < 65536) where
     -- it restarts neither end, so 11, 12 and 15 are those of the question
-    ready : first (readyQuestions (restartedBy octets) w full) ≡ 0
-    unfolding restartedBy first when
-    ready = rw (eq-no (length octets) 2 _ _ (λ z. omega (arith, three, z))) h
-
-    ordered : readAsks w octets full ≡ delivers w n
-    unfolding readAsks kindOf
-    ordered = passes-on (octetsAsk w octets full) ready ∙ asks-frame (w .a) (w .b) (w .log) (w .count) octets full refl three (numbered few)
+    ordered : asksReady w octets full (orderOf octets) ≡ delivers w n
+    unfolding asksReady endRestarted orderAsks kindOf first when
+    ordered = rw (orders-frame octets refl three (numbered few)) (passes-on (delivers w n) h)
 
     pub asks : lineAsks w (deliveryLine n .0) (deliveryLine n .1) ≡ delivers w n
     unfolding deliveryLine
-    asks = passes w (hex octets) full (read .0) ∙ ap (λ (s : List ℕ). readAsks w s full) (read .1) ∙ ordered
+    asks = passes w (hex octets) full (read .0) ∙ ap (λ (s : List ℕ). asksReady w s full (orderOf s)) (read .1) ∙ ordered

@@ -1,6 +1,6 @@
 // The bench line for C, on numbers and byte buffers alone; include/dock.h declares it.
 ghost use Rattle.call_spec.specs.Claim.{lent};
-ghost use Rattle.bench_spec.specs.Bench.{benchOf};
+ghost use Rattle.bench_spec.specs.Bench.{Bench, benchOf};
 ghost use Rattle.bench_line.specs.Performed.{LinePerformed};
 ghost use Rattle.c_bench.specs.Answers.{benchAnswerIn};
 
@@ -27,7 +27,10 @@ pub extern "C" fn dock_bench(
     at: &mut usize,
     block: &mut usize,
 ) -> u8
-    ensures { λ r. ⌜ LinePerformed (benchOf (lent (now (a .entry)) (now («a_page» .entry))) (lent (now (b .entry)) (now («b_page» .entry))) (now (log .entry)) (now (count .entry))) (now (line .entry)) (now (out .entry)) (now (up .entry)) (lent (now (a .exit)) (now («a_page» .exit))) (lent (now (b .exit)) (now («b_page» .exit))) (now (log .exit)) (now (out .exit)) (now (up .exit)) (benchAnswerIn r (now (end .exit)) (now (state .exit)) (now (notice .exit)) (now (local .exit)) (now (remote .exit)) (now (sent .exit)) (now (at .exit)) (now (block .exit)) (now (count .exit))) ⌝ }
+    ensures { λ r. ⌜ (let w : Bench = benchOf (lent (now (a .entry)) (now («a_page» .entry))) (lent (now (b .entry)) (now («b_page» .entry))) (now (log .entry)) (now (count .entry)) in
+        LinePerformed w (now (line .entry)) (now (out .entry)) (now (up .entry))
+        (lent (now (a .exit)) (now («a_page» .exit))) (lent (now (b .exit)) (now («b_page» .exit))) (now (log .exit)) (now (out .exit)) (now (up .exit))
+        (benchAnswerIn r (now (end .exit)) (now (state .exit)) (now (notice .exit)) (now (local .exit)) (now (remote .exit)) (now (sent .exit)) (now (at .exit)) (now (block .exit)) (now (count .exit)))) ⌝ }
 {
     let r = bench_line::perform(a, b, a_page, b_page, log, *count, line, out, up);
     *count = r.count;
