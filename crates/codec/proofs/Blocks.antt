@@ -1,43 +1,41 @@
 -- The block that codec_read tells of: it is the end of the octets.
-use Prim.Native.Nat.{ℕ, zero, suc, _-_}
-use mathlib.Core.Path.{_≡_, refl, sym, ap, _∙_}
+use Prim.Native.Nat.{ℕ, zero, suc, _+_, _-_, _≤_}
+use mathlib.Core.Path.{_≡_, refl, ap}
+use mathlib.Core.Logic.{_≢_}
 use mathlib.Core.List.{List, [], _∷_}
 use native.Mathlib.Omega.{arith}
 use lib.ListN.{length, drop, length-drop, drop-of-length-le}
-use Rattle.octets.specs.Test.{ifEq, when, Outcome, refused, ok, mapped}
-use Rattle.octets.proofs.Test.{if-eq}
-use Rattle.frame.specs.Frame.{DATA, SEND}
-use Rattle.frame.specs.Layout.{dataBlockAt, sendBlockAt}
-use Rattle.frame.specs.Read.{Input, frame, request}
-use Rattle.frame.specs.Answer.{frameOf, requestOf, requestNumber}
-use Rattle.frame.specs.declared.Header.{Header}
-use Rattle.frame.specs.declared.Header.the-variants.{Crao, Crpo, Crack, Rej, Reset, Dr, Drack, Data, Ack}
-use Rattle.frame.specs.declared.RequestKind.{RequestKind}
-use Rattle.frame.specs.declared.RequestKind.the-variants.{Connect, Listen, EndListening, Close, Send, Timer, Collect}
-use Rattle.codec.specs.Calls.{countTold, blockRead, BlockTold}
-use Rattle.codec.specs.Internal.{blockAfter}
+use lib.Seq.{drop-drop}
+use Rattle.octets.specs.Test.{when, first, Outcome, refused, ok, mapped}
+use Rattle.octets.proofs.Test.{if-eq, split, accepted}
+use Rattle.frame.specs.Frame.{Frame, Request, CONNECT, LISTEN, END_LISTENING, CLOSE, SEND, TIMER}
+use Rattle.frame.specs.Layout.{isRequest, hasBlock, numbersSize, headSize}
+use Rattle.frame.specs.Read.{kindOf, afterHead, blockAt, cutBlock, requestAt, readQuestions, readFrame, readRequest, Input, frame, request, readInput}
+use Rattle.frame.proofs.Classes.{request-range}
+use Rattle.frame.proofs.Shape.{no-block}
+use Rattle.frame.proofs.Reading.{passed}
+use Rattle.frame.proofs.Blocks.{read-block}
+use Rattle.codec.specs.Calls.{countTold, readKnown, blockRead, BlockTold}
 
-pub frame-block : (h : Header) (s : List ℕ) → blockRead (frame (frameOf h (drop dataBlockAt s))) ≡ blockAfter (frameOf h (drop dataBlockAt s) .kind) s
-unfolding blockRead frameOf blockAfter ifEq when
-frame-block (Crao s r) l = refl
-frame-block (Crpo s r) l = refl
-frame-block (Crack s r) l = refl
-frame-block (Rej s r) l = refl
-frame-block (Reset s r) l = refl
-frame-block (Dr s r) l = refl
-frame-block (Drack s r) l = refl
-frame-block (Data s r n) l = refl
-frame-block (Ack s r n) l = refl
+-- the block of a request is that of its kind
+module _ (k : ℕ) (r : List ℕ) (h : CONNECT ≤ k) where
+  abbrev Has : Request → Type 0
+  Has q = blockRead (request q) ≡ blockAt k r
 
-pub request-block : (q : RequestKind) (s : List ℕ) → blockRead (request (requestOf q (drop sendBlockAt s))) ≡ blockAfter (requestNumber (requestOf q (drop sendBlockAt s))) s
-unfolding blockRead requestOf requestNumber blockAfter ifEq when
-request-block Connect l = refl
-request-block Listen l = refl
-request-block EndListening l = refl
-request-block Close l = refl
-request-block Send l = refl
-request-block Timer l = refl
-request-block Collect l = refl
+  none : k ≢ SEND → [] ≡ blockAt k r
+  unfolding blockAt when
+  none n = rw (no-block k (λ e. omega arith) n) refl
+
+  asked-block : Has (requestAt k r)
+  unfolding requestAt blockRead
+  asked-block =
+      if-eq Has k CONNECT (λ i. none (λ e. omega arith))
+      (λ _. if-eq Has k LISTEN (λ i. none (λ e. omega arith))
+      (λ _. if-eq Has k END_LISTENING (λ i. none (λ e. omega arith))
+      (λ _. if-eq Has k CLOSE (λ i. none (λ e. omega arith))
+      (λ _. if-eq Has k SEND (λ _. refl)
+      (λ n. if-eq Has k TIMER (λ _. none n)
+      (λ _. none n))))))
 
 -- what follows place k is the end of a list, of its own length
 at-end : (k : ℕ) (s : List ℕ) → drop (length s - length (drop k s)) s ≡ drop k s
@@ -47,26 +45,51 @@ at-end (suc k) (x ∷ s) =
     let e : suc (length s) - length (drop k s) ≡ suc (length s - length (drop k s)) = omega (arith, length-drop k s) in
     rw e (at-end k s)
 
-after-end : (k : ℕ) (s : List ℕ) → drop (length s - length (blockAfter k s)) s ≡ blockAfter k s
-unfolding blockAfter
-after-end k s =
-    if-eq (λ (b : List ℕ). drop (length s - length b) s ≡ b) k DATA (λ _. at-end dataBlockAt s)
-    (λ _. if-eq (λ (b : List ℕ). drop (length s - length b) s ≡ b) k SEND (λ _. at-end sendBlockAt s)
-    (λ _. none-at-end s))
-  where
-    none-at-end : (s : List ℕ) → drop (length s - 0) s ≡ []
-    none-at-end s = drop-of-length-le s {i = length s - 0} (omega arith)
+module _ (s : List ℕ) where
+  -- the block that octets end with is their end
+  cut-end : drop (length s - length (cutBlock s)) s ≡ cutBlock s
+  unfolding cutBlock blockAt afterHead
+  cut-end =
+      let n = numbersSize (kindOf s) in
+      split (λ (b : List ℕ). drop (length s - length b) s ≡ b) (hasBlock (kindOf s)) (λ _. rw (drop-drop n headSize s) (at-end (headSize + n) s))
+      (λ _. drop-of-length-le s {i = length s - 0} (omega arith))
 
--- what was read as i has its block at the end
-pub tells : (s : List ℕ) {o : Outcome Input} {i : Input} (k c : ℕ) {n : ℕ} → o ≡ ok i → blockRead i ≡ blockAfter k s → n ≡ length (blockAfter k s) → BlockTold o s c n
-unfolding countTold mapped
-tells s k c {n} e b h =
-    rw e
-    (record {
-      count = h ∙ ap length (sym b);
-      block = ap ok (ap (λ (m : ℕ). drop (length s - m) s) h ∙ after-end k s ∙ sym b);
-    })
+  -- the block of what is read is the one that the octets end with
+  abbrev Cut : Outcome Input → Type 0
+  Cut o = mapped blockRead o ≡ mapped (λ (i : Input). cutBlock s) o
 
-pub tells-nothing : (s : List ℕ) {o : Outcome Input} {n : ℕ} (c : ℕ) → o ≡ refused n → BlockTold o s c c
-unfolding countTold mapped
-tells-nothing s c e = rw e (record { count = refl; block = refl })
+  frame-cut : (o : Outcome Frame) → readFrame s ≡ o → Cut (mapped frame o)
+  unfolding mapped blockRead
+  frame-cut (refused n) h = refl
+  frame-cut (ok f) h = ap ok (read-block s h)
+
+  request-cut : (o : Outcome Request) → readRequest s ≡ o → Cut (mapped request o)
+  unfolding mapped readRequest cutBlock
+  request-cut (refused n) h = refl
+  request-cut (ok q) h =
+      let k = kindOf s in
+      let r = afterHead s in
+      let a = accepted (first (readQuestions isRequest k r)) (requestAt k r) h in
+      ap ok (rw (a .1) at (asked-block k r (request-range k (passed isRequest k r (a .0) .known) .0)))
+
+  known-cut : (known : ℕ) → Cut (readKnown known s)
+  unfolding readKnown readInput mapped
+  known-cut known =
+      if-eq Cut known 1 (λ _. frame-cut (readFrame s) refl)
+      (λ _. if-eq Cut known 2 (λ _. request-cut (readRequest s) refl)
+      (λ _. if-eq Cut known 3 (λ _. split Cut (isRequest (kindOf s)) (λ _. request-cut (readRequest s) refl) (λ _. frame-cut (readFrame s) refl))
+      (λ _. refl)))
+
+  -- what a read tells of the block, and a refusal
+  pub tells : (known c : ℕ) {i : Input} {n : ℕ} → readKnown known s ≡ ok i → n ≡ length (cutBlock s) → BlockTold (readKnown known s) s c n
+  unfolding countTold mapped
+  tells known c e h =
+      let b = known-cut known in
+      record {
+        count = rw (b, e) h;
+        block = rw (b, e, h) (ap ok cut-end);
+      }
+
+  pub tells-nothing : {o : Outcome Input} {n : ℕ} (c : ℕ) → o ≡ refused n → BlockTold o s c c
+  unfolding countTold mapped
+  tells-nothing c e = rw e (record { count = refl; block = refl })

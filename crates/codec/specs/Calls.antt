@@ -12,8 +12,8 @@ use Rattle.hex.specs.Line.{hex}
 use Rattle.frame.specs.Frame.{Block, DATA, connect, listen, endListening, close, timer, collect, send}
 use Rattle.frame.specs.Layout.{isFrame, encode}
 use Rattle.frame.specs.Read.{countOk, readFrame, readRequest, Input, frame, request, readInput}
-use Rattle.frame.specs.Answer.{valuesOf, frameWith, requestNumber}
-use Rattle.frame.specs.declared.Values.{Values}
+use Rattle.frame.specs.Answer.{headerOf, frameOf, requestNumber}
+use Rattle.frame.specs.declared.Header.{Header}
 
 -- how many octets a success has; a refusal leaves the number lent
 unfoldable pub countTold : Outcome (List ℕ) → ℕ → ℕ
@@ -39,10 +39,10 @@ readKnown known s =
     (refused 3)))
 
 -- the numbers read; a refusal leaves those lent
-unfoldable pub shown : Outcome Input → Values → Values
-shown (refused n) v = v
-shown (ok (frame f)) v = valuesOf f
-shown (ok (request q)) v = record { kind = requestNumber q; sender = 0; quoted = 0; number = 0 }
+unfoldable pub shown : Outcome Input → Header → Header
+shown (refused n) h = h
+shown (ok (frame f)) h = headerOf (f .kind) (f .sender) (f .quoted) (f .number)
+shown (ok (request q)) h = headerOf (requestNumber q) 0 0 0
 
 -- the block read: that of a DATA or a send
 unfoldable pub blockRead : Input → Block
@@ -61,12 +61,13 @@ pub record BlockTold (o : Outcome Input) (s : List ℕ) (c c′ : ℕ) : Type 0 
   pub block : mapped (λ (i : Input). drop (length s - c′) s) o ≡ mapped blockRead o
 
 -- writing it asks for the buffer, for a frame's kind, and for the count of a DATA's block
-abbrev pub writeQuestions : Values → Block → List ℕ → List Question
-writeQuestions v b out =
+abbrev pub writeQuestions : Header → Block → List ℕ → List Question
+writeQuestions h b out =
     (11, leb longestFrame (length out))
-    ∷ (3, isFrame (v .kind))
-    ∷ (5, ifEq (v .kind) DATA (countOk (length b)) true)
+    ∷ (3, isFrame (h .kind))
+    ∷ (5, ifEq (h .kind) DATA (countOk (length b)) true)
     ∷ []
 
-unfoldable pub writeFrame : Values → Block → List ℕ → Outcome (List ℕ)
-writeFrame v b out = outcome (first (writeQuestions v b out)) (encode (frameWith v b))
+-- a number or a block that the kind does not have is not written
+unfoldable pub writeFrame : Header → Block → List ℕ → Outcome (List ℕ)
+writeFrame h b out = outcome (first (writeQuestions h b out)) (encode (frameOf h b))

@@ -1,9 +1,10 @@
 // The codec in numbers and byte slices, for the comparison with the reference alone: no part of the library for C.
 use frame::ACK;
 use frame::CRAO;
+use frame::Class;
 use frame::DATA;
-use frame::InputRead;
-use frame::SEND;
+use frame::Header;
+use frame::Message;
 use hex::Line;
 use octets::refusal;
 ghost use mathlib.Core.Path.{_≡_};
@@ -11,11 +12,9 @@ ghost use Rattle.octets.specs.Octets.{left};
 ghost use Rattle.octets.specs.Test.{numberOf};
 ghost use Rattle.hex.specs.Line.{readInto};
 ghost use Rattle.frame.specs.Layout.{isFrame};
-ghost use Rattle.frame.specs.Read.{countOk};
-ghost use Rattle.frame.specs.Answer.{inputRead};
-ghost use lib.ListN.{length, drop};
+ghost use Rattle.frame.specs.Read.{countOk, cutBlock, readInput};
+ghost use Rattle.frame.specs.Answer.{headerOf, meant};
 ghost use Rattle.codec.specs.Calls.{WritesOctets, writeLine, readKnown, shown, BlockTold, writeFrame};
-ghost use Rattle.codec.specs.Internal.{blockAfter};
 
 // Reads a line into out, which has room for the longest frame; the count of its octets goes to length.
 #[no_mangle]
@@ -53,35 +52,26 @@ const REQUESTS: u8 = 2;
 
 const BOTH: u8 = 3;
 
-fn read_known(known: u8, s: &[u8]) -> InputRead
-    ensures { λ r. ⌜ inputRead r (now (s .entry)) ≡ readKnown known (now (s .entry)) ⌝ }
+// Reads any octets as a request, or else as a frame.
+fn read_input(s: &[u8]) -> Message
+    ensures { λ r. ⌜ meant r (cutBlock (now (s .entry))) ≡ readInput (now (s .entry)) ⌝ }
+{
+    let class = frame_read::class_of(s);
+    match class {
+        Class::Frame => frame_read::read_frame(s),
+        Class::Request => frame_read::read_request(s),
+        Class::Unknown => frame_read::read_frame(s),
+    }
+}
+
+fn read_known(known: u8, s: &[u8]) -> Message
+    ensures { λ r. ⌜ meant r (cutBlock (now (s .entry))) ≡ readKnown known (now (s .entry)) ⌝ }
 {
     match known {
-        FRAMES => frame_read::frame_input(frame_read::read_frame(s)),
-        REQUESTS => frame_read::request_input(frame_read::read_request(s)),
-        BOTH => frame_read::read_input(s),
-        _ => InputRead::Refused(refusal::UNKNOWN_KIND),
-    }
-}
-
-// How many octets of s stand from at on.
-fn count_from(s: &[u8], at: usize) -> usize
-    ensures { λ r. ⌜ r ≡ length (drop at (now (s .entry))) ⌝ }
-{
-    if s.len() < at {
-        return 0;
-    }
-    s.len() - at
-}
-
-// The length of the block in s, which was read as this kind.
-fn block_length(kind: u8, s: &[u8]) -> usize
-    ensures { λ r. ⌜ r ≡ length (blockAfter kind (now (s .entry))) ⌝ }
-{
-    match kind {
-        DATA => count_from(s, frame::DATA_BLOCK_AT),
-        SEND => count_from(s, frame::SEND_BLOCK_AT),
-        _ => 0,
+        FRAMES => frame_read::read_frame(s),
+        REQUESTS => frame_read::read_request(s),
+        BOTH => read_input(s),
+        _ => Message::Refused(refusal::UNKNOWN_KIND),
     }
 }
 
@@ -98,31 +88,31 @@ pub extern "C" fn codec_read(
     block: &mut usize,
 ) -> u8
     ensures answer { λ r. ⌜ r ≡ numberOf (readKnown known (now (s .entry))) ⌝ }
-    ensures numbers { λ _. ⌜ record { kind = now (kind .exit); sender = now (sender .exit); quoted = now (quoted .exit); number = now (number .exit) }
-        ≡ shown (readKnown known (now (s .entry))) (record { kind = now (kind .entry); sender = now (sender .entry); quoted = now (quoted .entry); number = now (number .entry) }) ⌝ }
+    ensures numbers { λ _. ⌜ headerOf (now (kind .exit)) (now (sender .exit)) (now (quoted .exit)) (now (number .exit))
+        ≡ shown (readKnown known (now (s .entry))) (headerOf (now (kind .entry)) (now (sender .entry)) (now (quoted .entry)) (now (number .entry))) ⌝ }
     ensures block { λ _. ⌜ BlockTold (readKnown known (now (s .entry))) (now (s .entry)) (now (block .entry)) (now (block .exit)) ⌝ }
 {
+    let end = frame_read::cut_block(s);
+    let count = end.len();
     let read = read_known(known, s);
     match read {
-        InputRead::Frame(header) => {
-            let values = frame::values_of(header);
-            *kind = values.kind;
-            *sender = values.sender;
-            *quoted = values.quoted;
-            *number = values.number;
-            *block = block_length(values.kind, s);
+        Message::Frame(header) => {
+            *kind = header.kind;
+            *sender = header.sender;
+            *quoted = header.quoted;
+            *number = header.number;
+            *block = count;
             return 0;
         }
-        InputRead::Request(request) => {
-            let asked = frame::request_number(request);
-            *kind = asked;
+        Message::Request(request) => {
+            *kind = frame::request_number(request);
             *sender = 0;
             *quoted = 0;
             *number = 0;
-            *block = block_length(asked, s);
+            *block = count;
             return 0;
         }
-        InputRead::Refused(refusal) => {
+        Message::Refused(refusal) => {
             return refusal;
         }
     }
@@ -151,7 +141,7 @@ pub extern "C" fn codec_write(
     out: &mut [u8],
     length: &mut usize,
 ) -> u8
-    ensures { λ r. ⌜ WritesOctets (writeFrame (record { kind = kind; sender = sender; quoted = quoted; number = number }) (now (block .entry)) (now (out .entry))) (now (out .entry)) (now (out .exit)) (now (length .entry)) (now (length .exit)) r ⌝ }
+    ensures { λ r. ⌜ WritesOctets (writeFrame (headerOf kind sender quoted number) (now (block .entry)) (now (out .entry))) (now (out .entry)) (now (out .exit)) (now (length .entry)) (now (length .exit)) r ⌝ }
 {
     if out.len() < octets::LONGEST_FRAME {
         return refusal::SHORT_BUFFER;
@@ -159,7 +149,12 @@ pub extern "C" fn codec_write(
     if !is_frame(kind) {
         return refusal::UNKNOWN_KIND;
     }
-    let header = frame::header_of(kind, sender, quoted, number);
+    let header = Header {
+        kind,
+        sender,
+        quoted,
+        number,
+    };
     if kind == DATA {
         if !count_ok(block.len()) {
             return refusal::BAD_COUNT;
