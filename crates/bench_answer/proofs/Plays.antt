@@ -57,7 +57,7 @@ module _ (w : Bench) where
   fine-act i c h k = record { end = h; block = with-14 Short (λ n. omega arith) (lentAt i w) (w .count) c k }
 
   fine-request : (i : ℕ) (s : List ℕ) (room : Rooms) → i ≤ 1 → Fine (ok (i, call (given Request s room)))
-  fine-request i s room h = fine-act i (call (given Request s room)) h (collected-short (lentAt i w .rec) (lentAt i w .page) s room)
+  fine-request i s room h = fine-act i (call (given Request s room)) h (block-short (lentAt i w .rec) (lentAt i w .page) (given Request s room))
 
   -- a restart hands no block up
   fine-restart : (i : ℕ) (rec : List ℕ) → i ≤ 1 → Fine (ok (i, restart rec))

@@ -42,6 +42,13 @@ plans c =
     let room = joined (le-leb longestFrame (length (now (s .args .out))) (s .pre .1 .0)) (has-room (s .args .call) (length (now (s .args .up))) (s .pre .1 .1)) in
     c .plan-sound .ensures (now (s .args .page)) (rooms (length (now (s .args .out))) (length (now (s .args .up)))) room (s .pre .0 .1 .0) (s .pre .0 .1 .1)
 
+-- what the other stores ask of the page is there once its own store is made
+finish-requires : tie.Need-finish-requires
+finish-requires c κs = (
+  let w : tie.After-plan-sound = search in start-of w .pre .0 .0 .0,
+  (omega arith, (let b : tie.After-cut-block = search in let w : tie.After-plan-sound = search in (_, by-block (b .cut-block .ensures) (plans w)))),
+)
+
 -- 14 refuses, or does not
 full : (c : tie.Then1) → let s = start-of (c .before .before) in outcomeAt (lent-of s) (s .args .count) (call-of s) ≡ refused 14
 unfolding when
@@ -78,13 +85,6 @@ reserve-of c = search
 
 abbrev left-of : tie.After-reserve → tie.Else1
 left-of c = search
-
--- what the other stores ask of the page is there once its own store is made
-finish-requires : tie.Need-finish-requires
-finish-requires c κs = (
-  let b : tie.After-cut-block = search in start-of (plan-of b) .pre .0 .0 .0,
-  (omega arith, (let b : tie.After-cut-block = search in (_, by-block (b .cut-block .ensures) (plans (plan-of b))))),
-)
 
 returns-2 : tie.Need-returns-2
 returns-2 c =

@@ -24,6 +24,16 @@ call-of c = given (c .args .call) (now (c .args .s)) (rooms (length (now (c .arg
 long : (c : tie.Start) → Long (c .args .e)
 long c = record { lengths = search needs; blocks = search needs; held-lengths = search needs; held-blocks = search needs }
 
+-- what the other stores ask of the page is there once its own store is made
+finish-requires : tie.Need-finish-requires
+finish-requires c κs =
+    asks-reserved _ _ (omega arith)
+    (let e : tie.Else1 = search in
+    let b : tie.After-cut-block = search in
+    let p : tie.After-plan-call = search in
+    let s : tie.Start = search in
+    (e .if1 .left, (outcomeOf (s .args .e) (page-of s) (call-of s), by-block (b .cut-block .ensures) (p .plan-call .ensures))))
+
 returns : tie.Need-returns
 returns c =
     let p : tie.After-plan-call = search in
@@ -38,16 +48,6 @@ reserve-requires c κs =
     let p : tie.After-plan-call = search in
     let s : tie.Start = search in
     reservable (s .args .e) (long s) (page-of s) (call-of s) (p .plan-call .ensures) (c .before .if1 .left)
-
--- what the other stores ask of the page is there once its own store is made
-finish-requires : tie.Need-finish-requires
-finish-requires c κs =
-    asks-reserved _ _ (omega arith)
-    (let e : tie.Else1 = search in
-    let b : tie.After-cut-block = search in
-    let p : tie.After-plan-call = search in
-    let s : tie.Start = search in
-    (e .if1 .left, (outcomeOf (s .args .e) (page-of s) (call-of s), by-block (b .cut-block .ensures) (p .plan-call .ensures))))
 
 -- the end is too far from the start for one search
 abbrev reserve-of : tie.After-finish → tie.After-reserve

@@ -15,6 +15,18 @@ use Rattle.link.proofs.perform.Tie as tie
 abbrev call-of : tie.Start → Arguments
 call-of c = lentCall (c .args .call) (now (c .args .s)) (now (c .args .out)) (now (c .args .up))
 
+-- what the other stores ask of the page is there once its own store is made
+finish-requires : tie.Need-finish-requires
+finish-requires c κs = (
+  search needs,
+  (
+    omega arith,
+    (let b : tie.After-cut-block = search in
+        let w : tie.After-plan-call = search in
+        (_, by-block (b .cut-block .ensures) (w .plan-call .ensures))),
+  ),
+)
+
 returns : tie.Need-returns
 returns c =
     let s : tie.Start = search in
@@ -41,19 +53,6 @@ plan-of c = search
 
 reserve-of : tie.After-cut-block → tie.After-reserve
 reserve-of c = search
-
--- what the other stores ask of the page is there once its own store is made
-finish-requires : tie.Need-finish-requires
-unfolding start-of plan-of reserve-of
-finish-requires c κs = (
-  search needs,
-  (
-    omega arith,
-    (let b : tie.After-cut-block = search in
-        let w = plan-of (reserve-of b) in
-        (_, by-block (b .cut-block .ensures) (w .plan-call .ensures))),
-  ),
-)
 
 returns-2 : tie.Need-returns-2
 unfolding start-of left-of plan-of reserve-of
