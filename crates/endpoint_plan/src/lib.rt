@@ -17,7 +17,7 @@ ghost use Rattle.call_spec.specs.Calls.{given, rooms, blockRoomOk, ownQuestions
 ghost use Rattle.endpoint.specs.View.{placesSize};
 ghost use Rattle.endpoint.specs.Sound.{sound};
 ghost use Rattle.endpoint.specs.Internal.{recordOf};
-ghost use Rattle.endpoint_plan.specs.Internal.{roomsOk, inputOf, Plannable, PlannedBy};
+ghost use Rattle.endpoint_plan.specs.Internal.{roomsOk, inputOf, Plannable, PlannedBy, Plans};
 
 // Question 11 of the buffer for a block, which is lent to the calls that make requests.
 fn block_room_ok(call: Call, room: usize) -> bool
@@ -30,7 +30,7 @@ fn block_room_ok(call: Call, room: usize) -> bool
 }
 
 // Question 11 of the buffers for a frame and for a block.
-pub fn rooms_ok(call: Call, room: usize, block_room: usize) -> bool
+fn rooms_ok(call: Call, room: usize, block_room: usize) -> bool
     ensures { λ r. ⌜ r ≡ roomsOk call (rooms room «block_room») ⌝ }
 {
     (Endpoint::LONGEST_FRAME <= room) & block_room_ok(call, block_room)
@@ -51,7 +51,7 @@ fn state_refusal(sound: bool, goes: bool) -> u8
 
 // 11, 12 and 15 of a call of the record of these numbers, lengths and blocks, with this page; room and block_room are the lengths of the buffers for a
 // frame out and for a block. 0 where all are passed.
-pub fn refusal_of<'a>(
+fn refusal_of<'a>(
     call: Call,
     n: Numbers,
     lengths: &'a [u8],
@@ -86,7 +86,7 @@ pub fn read(call: Call, s: &[u8]) -> Message
 }
 
 // The message of a call whose questions before 3 have come to this number, 0 where all are passed.
-pub fn read_after(number: u8, call: Call, s: &[u8]) -> Message
+fn read_after(number: u8, call: Call, s: &[u8]) -> Message
     ensures { λ r. ⌜ meant r (cutBlock (now (s .entry))) ≡ refusing number (inputOf call (now (s .entry))) ⌝ }
 {
     if number != 0 {
@@ -105,4 +105,35 @@ pub fn plan(m: Message, n: Numbers, held: &[u8]) -> Plan
         Message::Frame(header) => step_receive::hear(header, n, held),
         Message::Refused(number) => step_plan::refuse(n, number),
     }
+}
+
+// The plan of a call of the record of these numbers, lengths and blocks, with this page: its questions, its message, and what that comes to.
+pub fn plan_call<'a>(
+    call: Call,
+    n: Numbers,
+    lengths: &'a [u8],
+    blocks: &'a [u8],
+    held_lengths: &'a [u8],
+    held_blocks: &'a [u8],
+    page: &[u8],
+    s: &[u8],
+    room: usize,
+    block_room: usize,
+) -> Plan
+    requires { ⌜ ((length (now blocks) ≡ placesSize) × (length (now lengths) ≡ queueSize)) × ((length (now «held_blocks») ≡ placesSize) × (length (now «held_lengths») ≡ heldSize)) ⌝ }
+    ensures { λ r. ⌜ Plans (recordOf n (now (lengths .entry)) (now (blocks .entry)) (now («held_lengths» .entry)) (now («held_blocks» .entry))) (now (page .entry)) (given call (now (s .entry)) (rooms room «block_room»)) r ⌝ }
+{
+    let number = refusal_of(
+        call,
+        n,
+        lengths,
+        blocks,
+        held_lengths,
+        held_blocks,
+        page,
+        room,
+        block_room,
+    );
+    let m = read_after(number, call, s);
+    plan(m, n, held_lengths)
 }

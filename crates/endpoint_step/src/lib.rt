@@ -134,11 +134,18 @@ fn finish(
 }
 
 // The plan of a call by value.
-fn plan_call(call: Call, e: Endpoint, page: &[u8], s: &[u8], room: usize, block_room: usize) -> Plan
+fn plan_call(
+    call: Call,
+    e: Endpoint,
+    page: &[u8],
+    s: &[u8],
+    room: usize,
+    block_room: usize,
+) -> Plan
     ensures { λ r. ⌜ Plans e (now (page .entry)) (given call (now (s .entry)) (rooms room «block_room»)) r ⌝ }
 {
     let n = endpoint::numbers_of(e);
-    let number = endpoint_plan::refusal_of(
+    endpoint_plan::plan_call(
         call,
         n,
         &e.lengths,
@@ -146,11 +153,10 @@ fn plan_call(call: Call, e: Endpoint, page: &[u8], s: &[u8], room: usize, block_
         &e.held_lengths,
         &e.held_blocks,
         page,
+        s,
         room,
         block_room,
-    );
-    let m = endpoint_plan::read_after(number, call, s);
-    endpoint_plan::plan(m, n, &e.held_lengths)
+    )
 }
 
 // A request, the timer call among them, or receiving, by value: page is the end's page, s has the octets of the request or of the frame, out

@@ -42,7 +42,7 @@ use Rattle.endpoint_plan.proofs.Ready.{accepted-by}
 use Rattle.endpoint_plan.proofs.Short.{five, up-short}
 use Rattle.endpoint_plan.proofs.Carries.{same, leaves, hands-up, stands, hands-is, sends, sends-is, is-turned-down, reserves, reserves-none}
 use Rattle.link.specs.declared.Answer.{Answer}
-use Rattle.link.specs.Record.{format, callQuestions}
+use Rattle.link.specs.Record.{format}
 use Rattle.link.specs.Lent.{toldOf, statusOf, sentOf, answerOf, Called}
 
 -- the numbers of an endpoint that are told
@@ -119,11 +119,6 @@ unfolding performed refusing first when
 too-short rec page c h = rw (lt-leb recordSize (length rec) h) refl
 
 module _ (rec : List ℕ) (long : recordSize ≤ length rec) where
-  -- the questions of a call, where there is a record
-  pub own-questions : (page : List ℕ) (c : Arguments) → first (callQuestions rec page c) ≡ first (ownQuestions (sound (decode rec)) (decode rec .local) page c)
-  unfolding first when view
-  own-questions page c = rw (le-leb recordSize (length rec) long) refl
-
   pub enough : (page : List ℕ) (c : Arguments) → performed format rec page c ≡ outcomeOf (decode rec) page c
   unfolding performed outcomeOf refusing first when
   enough page c = rw (le-leb recordSize (length rec) long) refl

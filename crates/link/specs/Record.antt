@@ -4,14 +4,14 @@ use mathlib.Core.Bool.{Bool}
 use mathlib.Core.List.{List, [], _∷_}
 use lib.Dec.{leb}
 use lib.ListN.{length}
-use Rattle.octets.specs.Sizes.{longestFrame, pageSize}
+use Rattle.octets.specs.Sizes.{pageSize}
 use Rattle.octets.specs.Test.{Question}
 use Rattle.page.specs.Page.{goesWith}
 use Rattle.protocol.specs.World.{Ends}
 use Rattle.endpoint.specs.View.{pack, view}
 use Rattle.endpoint.specs.Sound.{sound}
 use Rattle.endpoint.specs.Record.{recordSize, encode, decode}
-use Rattle.call_spec.specs.Calls.{Format, Arguments, blockRoomOk}
+use Rattle.call_spec.specs.Calls.{Format}
 use Rattle.call_spec.specs.Claim as calls
 
 abbrev pub format : Format
@@ -25,10 +25,6 @@ pagedFor rec page = goesWith (format .holds rec .local) page
 abbrev pub recordQuestions : List ℕ → List ℕ → List Question
 recordQuestions rec page =
     (11, leb (format .size) (length rec)) ∷ (11, leb pageSize (length page)) ∷ (12, format .sound rec) ∷ (15, pagedFor rec page) ∷ []
-
--- and all that are asked of a call with these rooms before its octets are read
-abbrev pub callQuestions : List ℕ → List ℕ → Arguments → List Question
-callQuestions rec page c = (11, leb longestFrame (c .room)) ∷ (11, blockRoomOk (c .call) (c .blockRoom)) ∷ recordQuestions rec page
 
 abbrev pub ends : Ends
 ends = calls.ends format

@@ -8,7 +8,6 @@ use endpoint::Endpoint;
 use endpoint::HELD_BLOCKS_AT;
 use endpoint::HELD_LENGTHS_AT;
 use endpoint::LENGTHS_AT;
-use frame::Message;
 use octets::refusal;
 use step_plan::Plan;
 ghost use mathlib.Core.Path.{_≡_};
@@ -17,20 +16,18 @@ ghost use mathlib.Core.List.{[]};
 ghost use Prim.Native.Nat.{_+_, _*_, _≤_};
 ghost use lib.ListN.{length};
 ghost use Rattle.octets.specs.Sizes.{pageSize, numbersEach, lastIncarnation};
-ghost use Rattle.octets.specs.Test.{ifEq, first, Outcome, refused, ok, refusing};
+ghost use Rattle.octets.specs.Test.{ifEq, first, Outcome, refused, ok};
 ghost use Rattle.octets.specs.Octets.{put};
 ghost use Rattle.frame.specs.Read.{cutBlock};
-ghost use Rattle.frame.specs.Answer.{meant};
 ghost use Rattle.page.specs.Page.{runs, count, reserving};
 ghost use Rattle.protocol.specs.Table.{Step};
 ghost use Rattle.call_spec.specs.declared.Call.the-variants.{Receive};
 ghost use Rattle.call_spec.specs.Calls.{given, rooms};
 ghost use Rattle.call_spec.specs.Answers.{blockOf};
 ghost use Rattle.endpoint.specs.Record.{recordSize, encode, decode};
-ghost use Rattle.endpoint.specs.Internal.{numbersOf};
 ghost use Rattle.endpoint_places.specs.Internal.{PlanFits, carried};
-ghost use Rattle.endpoint_plan.specs.Internal.{inputOf, Plannable, PlannedBy, PlansFor, Plans, PlansAny, Reserved};
-ghost use Rattle.link.specs.Record.{format, pagedFor, recordQuestions, callQuestions};
+ghost use Rattle.endpoint_plan.specs.Internal.{PlansFor, Plans, PlansAny, Reserved};
+ghost use Rattle.link.specs.Record.{format, pagedFor, recordQuestions};
 ghost use Rattle.link.specs.Lent.{statusOf, stands, answerOf, Called, lentOutcome, CalledLent, Restarted, answerIn};
 
 // The octets of a record.
@@ -162,50 +159,35 @@ pub fn restart(rec: &mut [u8], page: &[u8]) -> Answer
     }
 }
 
-// 11, 12 and 15 of a call of a lent record with its page; room and block_room are the lengths of the buffers for a frame out and for a block. 0 where all
-// are passed.
-fn refusal_of(call: Call, rec: &[u8], page: &[u8], room: usize, block_room: usize) -> u8
-    ensures { λ r. ⌜ r ≡ first (callQuestions (now (rec .entry)) (now (page .entry)) (given call [] (rooms room «block_room»))) ⌝ }
-{
-    if !endpoint_plan::rooms_ok(call, room, block_room) {
-        return refusal::SHORT_BUFFER;
-    }
-    ready(rec, page)
-}
-
-// The message of a call of a lent record: its questions, and then what its octets s are read as.
-fn message(call: Call, rec: &[u8], page: &[u8], s: &[u8], room: usize, block_room: usize) -> Message
-    ensures { λ r. ⌜ meant r (cutBlock (now (s .entry))) ≡ refusing (first (callQuestions (now (rec .entry)) (now (page .entry)) (given call [] (rooms room «block_room»)))) (inputOf call (now (s .entry))) ⌝ }
-{
-    let number = refusal_of(call, rec, page, room, block_room);
-    endpoint_plan::read_after(number, call, s)
-}
-
-// The plan of a message at a record, whose numbers and held lengths are read where they lie. Nothing is stored.
-fn plan(m: Message, rec: &[u8]) -> Plan
-    requires { ⌜ (recordSize ≤ length (now rec)) × Plannable m (numbersOf (decode (now rec))) (decode (now rec) .«held_lengths») ⌝ }
-    ensures { λ r. ⌜ PlannedBy m (numbersOf (decode (now (rec .entry)))) (decode (now (rec .entry)) .«held_lengths») r ⌝ }
-{
-    let n = endpoint::load_numbers(rec);
-    endpoint_plan::plan(m, n, &rec[HELD_LENGTHS_AT..HELD_BLOCKS_AT])
-}
-
 // The plan of a call where 11, 12 and 15 are passed.
 pub fn plan_sound(call: Call, rec: &[u8], s: &[u8]) -> Plan
     requires { ⌜ (recordSize ≤ length (now rec)) × (format .sound (now rec) ≡ true) ⌝ }
     ensures { λ r. ⌜ PlansAny (decode (now (rec .entry))) call (now (s .entry)) r ⌝ }
 {
     let m = endpoint_plan::read(call, s);
-    plan(m, rec)
+    let n = endpoint::load_numbers(rec);
+    endpoint_plan::plan(m, n, &rec[HELD_LENGTHS_AT..HELD_BLOCKS_AT])
 }
 
-// The plan of a call of a lent record that is long enough.
+// The plan of a call of a lent record with its page, from the record's own octets: s has those of a request or of a frame, room and block_room are the
+// lengths of the buffers for a frame out and for a block. Nothing is stored.
 fn plan_call(call: Call, rec: &[u8], page: &[u8], s: &[u8], room: usize, block_room: usize) -> Plan
     requires { ⌜ recordSize ≤ length (now rec) ⌝ }
     ensures { λ r. ⌜ Plans (decode (now (rec .entry))) (now (page .entry)) (given call (now (s .entry)) (rooms room «block_room»)) r ⌝ }
 {
-    let m = message(call, rec, page, s, room, block_room);
-    plan(m, rec)
+    let n = endpoint::load_numbers(rec);
+    endpoint_plan::plan_call(
+        call,
+        n,
+        &rec[LENGTHS_AT..BLOCKS_AT],
+        &rec[BLOCKS_AT..HELD_LENGTHS_AT],
+        &rec[HELD_LENGTHS_AT..HELD_BLOCKS_AT],
+        &rec[HELD_BLOCKS_AT..RECORD_SIZE],
+        page,
+        s,
+        room,
+        block_room,
+    )
 }
 
 // The one store of a planned call to its page, before all its others: the number that the plan leaves is reserved. A refusal stores nothing.
