@@ -134,14 +134,7 @@ fn finish(
 }
 
 // The plan of a call by value.
-fn plan_call(
-    call: Call,
-    e: Endpoint,
-    page: &[u8],
-    s: &[u8],
-    room: usize,
-    block_room: usize,
-) -> Plan
+fn plan_call(call: Call, e: Endpoint, page: &[u8], s: &[u8], room: usize, block_room: usize) -> Plan
     ensures { λ r. ⌜ Plans e (now (page .entry)) (given call (now (s .entry)) (rooms room «block_room»)) r ⌝ }
 {
     let n = endpoint::numbers_of(e);

@@ -247,7 +247,8 @@ pub fn finish(
     up: &mut [u8],
 ) -> Answer
     requires { ⌜ (recordSize ≤ length (now rec)) × (Reserved p (now page) × ((o : Outcome Step) × PlansFor call (rooms (length (now out)) (length (now up))) (decode (now rec)) (now block) o p)) ⌝ }
-    ensures { λ r. ⌜ ((o : Outcome Step) → PlansFor call (rooms (length (now (out .entry))) (length (now (up .entry)))) (decode (now (rec .entry))) (now (block .entry)) o p → Called call o (now (rec .entry)) (now (block .entry)) (now (out .entry)) (now (up .entry)) (now (rec .exit)) (now (out .exit)) (now (up .exit)) r) ⌝ }
+    ensures { λ r. ⌜ ((o : Outcome Step) → PlansFor call (rooms (length (now (out .entry))) (length (now (up .entry)))) (decode (now (rec .entry))) (now (block .entry)) o p
+        → Called call o (now (rec .entry)) (now (block .entry)) (now (out .entry)) (now (up .entry)) (now (rec .exit)) (now (out .exit)) (now (up .exit)) r) ⌝ }
 {
     if p.number != step_plan::ACCEPTED {
         return refuse(rec, p.number);
@@ -311,7 +312,8 @@ fn hear(
     up: &mut [u8],
 ) -> Answer
     requires { ⌜ now block ≡ cutBlock (now s) ⌝ }
-    ensures { λ r. ⌜ (let o : Outcome Step = lentOutcome Receive (now (rec .entry)) (now (page .entry)) (now (s .entry)) (now (out .entry)) (now (up .entry)) in Called Receive o (now (rec .entry)) (now (block .entry)) (now (out .entry)) (now (up .entry)) (now (rec .exit)) (now (out .exit)) (now (up .exit)) r) ⌝ }
+    ensures { λ r. ⌜ (let o : Outcome Step = lentOutcome Receive (now (rec .entry)) (now (page .entry)) (now (s .entry)) (now (out .entry)) (now (up .entry)) in
+        Called Receive o (now (rec .entry)) (now (block .entry)) (now (out .entry)) (now (up .entry)) (now (rec .exit)) (now (out .exit)) (now (up .exit)) r) ⌝ }
 {
     if rec.len() < RECORD_SIZE {
         return refuse(rec, refusal::SHORT_BUFFER);
@@ -334,7 +336,10 @@ pub fn receive<'a>(
     remote: &mut u32,
     sent: &mut usize,
 ) -> &'a [u8]
-    ensures { λ r. ⌜ (let o : Outcome Step = lentOutcome Receive (now (rec .entry)) (now (page .entry)) (now (s .entry)) (now (out .entry)) [] in Called Receive o (now (rec .entry)) (cutBlock (now (s .entry))) (now (out .entry)) [] (now (rec .exit)) (now (out .exit)) [] (answerIn (now (number .exit)) (now (state .exit)) (now (notice .exit)) (now (local .exit)) (now (remote .exit)) (now (sent .exit)) (length (now r))) × (now r ≡ blockOf o)) ⌝ }
+    ensures { λ r. ⌜ (let o : Outcome Step = lentOutcome Receive (now (rec .entry)) (now (page .entry)) (now (s .entry)) (now (out .entry)) [] in
+        Called Receive o (now (rec .entry)) (cutBlock (now (s .entry))) (now (out .entry)) [] (now (rec .exit)) (now (out .exit)) []
+        (answerIn (now (number .exit)) (now (state .exit)) (now (notice .exit)) (now (local .exit)) (now (remote .exit)) (now (sent .exit)) (length (now r)))
+        × (now r ≡ blockOf o)) ⌝ }
 {
     let mut none = [0u8; 0];
     let block = frame_read::cut_block(s);
