@@ -1,7 +1,7 @@
 // The bench program: lends bench_run two new pages, an empty log and its buffers.
 fn main() {
-    let mut a = [0u8; link::RECORD_SIZE];
-    let mut b = [0u8; link::RECORD_SIZE];
+    let mut a = [0u8; lent_record::RECORD_SIZE];
+    let mut b = [0u8; lent_record::RECORD_SIZE];
     let mut a_page = [page::UNUSED; octets::PAGE_SIZE];
     let mut b_page = [page::UNUSED; octets::PAGE_SIZE];
     let mut log = [0u8; bench_log::LOG_SIZE];

@@ -15,11 +15,11 @@ use Rattle.call_spec.specs.declared.Call.the-variants.{Request, Receive}
 use Rattle.call_spec.specs.Calls.{Rooms, given, restartedIn}
 use Rattle.call_spec.specs.Claim.{Lent, LentAct, call, restart, comesBy}
 use Rattle.call_spec.specs.Answers.{blockIn, blockOf}
-use Rattle.link.specs.Lent.{statusOf, sentOf}
-use Rattle.link.specs.Record.{format}
-use Rattle.link.proofs.Answers.{sent-fits, sent-taken, block-short}
+use Rattle.lent_record.specs.Told.{statusOf, sentOf}
+use Rattle.lent_record.specs.Record.{format}
+use Rattle.lent_record.proofs.Told.{sent-fits, sent-taken}
+use Rattle.link.proofs.Answers.{block-short}
 use Rattle.bench_log.specs.Log.{placeSize, senderAt, lengthAt, frameLogged, holds}
-use Rattle.bench_log.proofs.Log.{held}
 use Rattle.answer_text.specs.Text.{textOf, StartsWith}
 use Rattle.bench_spec.specs.declared.Order.{Order}
 use Rattle.bench_spec.specs.declared.Order.the-variants as order

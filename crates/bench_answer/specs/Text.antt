@@ -7,7 +7,7 @@ use Rattle.octets.specs.Test.{Outcome}
 use Rattle.hex.specs.Line.{hex}
 use Rattle.call_spec.specs.Calls.{rooms, wire}
 use Rattle.call_spec.specs.Answers.{sentIn, blockOf}
-use Rattle.link.specs.Lent.{statusOf}
+use Rattle.lent_record.specs.Told.{statusOf}
 use Rattle.answer_text.specs.Text.{textOf, StartsWith}
 use Rattle.answer_text.specs.Text as oneEnd
 use Rattle.bench_spec.specs.Bench.{Bench, At, lentAt, lineAsks, comes, endOf, benchAfter, requestOfA}

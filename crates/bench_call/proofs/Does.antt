@@ -17,10 +17,11 @@ use Rattle.call_spec.specs.declared.Call.the-variants.{Request}
 use Rattle.call_spec.specs.Calls.{wire, pageAfter}
 use Rattle.call_spec.specs.Claim.{Lent, lent, LentAct, comesBy}
 use Rattle.call_spec.specs.Answers.{sentIn, blockOf, blockPart}
-use Rattle.link.specs.declared.Answer.{Answer}
-use Rattle.link.specs.Record.{format}
-use Rattle.link.specs.Lent.{sentOf, answerOf, Called}
-use Rattle.link.proofs.Answers.{sent-fits, sent-taken}
+use Rattle.lent_record.specs.declared.Answer.{Answer}
+use Rattle.lent_record.specs.Record.{format}
+use Rattle.lent_record.specs.Told.{sentOf, answerOf}
+use Rattle.link.specs.Lent.{Called}
+use Rattle.lent_record.proofs.Told.{sent-fits, sent-taken}
 use Rattle.bench_log.specs.Log.{places, logSize}
 use Rattle.bench_spec.specs.Bench.{sends, logged, callOutcome, logAfter, countAfter}
 use Rattle.bench_call.specs.declared.BenchAnswer.{BenchAnswer}

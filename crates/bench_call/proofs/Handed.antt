@@ -18,8 +18,8 @@ use Rattle.call_spec.specs.Calls.{Rooms, given, wire, performed}
 use Rattle.call_spec.specs.Claim.{Lent, call}
 use Rattle.call_spec.specs.Answers.{noticeOf, blockOf}
 use Rattle.step_plan.specs.Internal.{blockBy}
-use Rattle.link.specs.Record.{format}
-use Rattle.link.specs.Lent.{sentOf}
+use Rattle.lent_record.specs.Record.{format}
+use Rattle.lent_record.specs.Told.{sentOf}
 use Rattle.link.proofs.Answers.{hands-it-up, hears-frame}
 use Rattle.bench_log.specs.Log.{placeSize, places, logSize, lengthAt, frameLogged, place, placeHead}
 use Rattle.bench_log.proofs.Places.{stays}

@@ -20,8 +20,8 @@ use Rattle.call_spec.specs.Answers.{sentIn}
 use Rattle.step_plan.specs.Internal.{sentBy}
 use Rattle.endpoint.specs.Record.{recordSize, decode}
 use Rattle.endpoint_plan.specs.Internal.{Plans}
-use Rattle.link.specs.Record.{format, ends}
-use Rattle.link.specs.Lent.{sentOf}
+use Rattle.lent_record.specs.Record.{format, ends}
+use Rattle.lent_record.specs.Told.{sentOf}
 use Rattle.link.proofs.Answers.{enough}
 use Rattle.bench_log.specs.Log.{places}
 use Rattle.bench_spec.specs.Bench.{sends, logged, callOutcome}

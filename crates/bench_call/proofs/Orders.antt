@@ -12,9 +12,10 @@ use Rattle.call_spec.specs.declared.Call.the-variants.{Receive}
 use Rattle.call_spec.specs.Calls.{rooms, given, pageAfter}
 use Rattle.call_spec.specs.Claim.{Lent, call}
 use Rattle.call_spec.specs.Answers.{blockOf}
-use Rattle.link.specs.declared.Answer.{Answer}
+use Rattle.lent_record.specs.declared.Answer.{Answer}
 use Rattle.frame.specs.Read.{cutBlock}
-use Rattle.link.specs.Lent.{sentOf, Called}
+use Rattle.lent_record.specs.Told.{sentOf}
+use Rattle.link.specs.Lent.{Called}
 use Rattle.bench_log.specs.Log.{places, logSize, frameLogged}
 use Rattle.bench_spec.specs.declared.Order.{Order}
 use Rattle.bench_spec.specs.declared.Order.the-variants as order

@@ -17,9 +17,10 @@ use Rattle.call_spec.specs.declared.Call.the-variants.{Receive}
 use Rattle.call_spec.specs.Calls.{wire, restarting, restartedIn, recordAfter, bufferAfter, pageAfter}
 use Rattle.call_spec.specs.Claim.{lent, restart}
 use Rattle.call_spec.specs.Answers.{blockIn, blockOf, blockPart, blockBufferAfter}
-use Rattle.link.specs.declared.Answer.{Answer}
-use Rattle.link.specs.Record.{format}
-use Rattle.link.specs.Lent.{sentOf, answerOf, Called, Restarted}
+use Rattle.lent_record.specs.declared.Answer.{Answer}
+use Rattle.lent_record.specs.Record.{format}
+use Rattle.lent_record.specs.Told.{sentOf, answerOf, Restarted}
+use Rattle.link.specs.Lent.{Called}
 use Rattle.bench_spec.specs.Bench.{callOutcome}
 use Rattle.bench_call.proofs.Moves.{quiet-logs}
 

@@ -34,9 +34,9 @@ use Rattle.call_spec.proofs.Lift.{read-sized}
 use Rattle.endpoint_plan.proofs.Ready.{all-passed}
 use Rattle.endpoint.specs.Record.{recordSize, decode}
 use Rattle.endpoint.proofs.Sounds.{view-sound}
-use Rattle.link.specs.Record.{format}
-use Rattle.link.specs.Lent.{sentOf}
-use Rattle.link.proofs.Answers.{decode-long}
+use Rattle.lent_record.specs.Record.{format}
+use Rattle.lent_record.specs.Told.{sentOf}
+use Rattle.lent_record.proofs.Told.{decode-long}
 use Rattle.bench_spec.specs.Bench.{logged, callOutcome}
 
 abbrev Short : Sent → Type 0

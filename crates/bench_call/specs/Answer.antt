@@ -5,7 +5,7 @@ use lib.ListN.{length, take, drop}
 use Rattle.octets.specs.Test.{ifEq, Outcome}
 use Rattle.protocol.specs.Table.{Step}
 use Rattle.call_spec.specs.Answers.{blockOf}
-use Rattle.link.specs.Lent.{statusOf, sentOf}
+use Rattle.lent_record.specs.Told.{statusOf, sentOf}
 use Rattle.frame.specs.Frame.{Block}
 use Rattle.frame.specs.Layout.{dataBlockAt}
 use Rattle.bench_log.specs.Log.{placeHead, placeSize}

@@ -18,13 +18,13 @@ use Rattle.call_spec.specs.declared.Call.{Call}
 use Rattle.call_spec.specs.declared.Call.the-variants.{Request, Receive}
 use Rattle.call_spec.specs.Answers.{blockOf, blockBufferAfter}
 use Rattle.endpoint.specs.Record.{recordSize}
-use Rattle.link.specs.declared.Answer.{Answer}
-use Rattle.link.specs.Record.{format, pagedFor}
+use Rattle.lent_record.specs.declared.Answer.{Answer}
+use Rattle.lent_record.specs.Record.{format, pagedFor}
 use Rattle.bench_log.specs.Log.{placeSize, places, logSize, lengthAt, frameLogged, place}
 use Rattle.bench_spec.specs.declared.Order.{Order}
 use Rattle.bench_spec.specs.declared.Order.the-variants as order
 use Rattle.bench_spec.specs.Bench.{callOutcome, logAfter}
-use Rattle.link.specs.Lent.{lentAfter}
+use Rattle.lent_record.specs.Told.{lentAfter}
 use Rattle.bench_call.specs.declared.BenchAnswer.{BenchAnswer}
 use Rattle.bench_call.specs.declared.Task.{Task}
 use Rattle.bench_call.specs.declared.Task.the-variants as task

@@ -2,7 +2,7 @@
 use bench_spec::Order;
 use call_spec::Call;
 use call_spec::Status;
-use link::Answer;
+use lent_record::Answer;
 use octets::refusal;
 use step_plan::Reply;
 ghost use mathlib.Core.Path.{_≡_};
@@ -48,7 +48,7 @@ fn call_end(
     let p = link::plan_sound(call, rec, s);
     let reply = p.reply;
     if !has_place(reply, count) {
-        return link::refuse(rec, refusal::LOG_FULL);
+        return lent_record::refuse(rec, refusal::LOG_FULL);
     }
     link::reserve(p, page);
     link::finish(call, p, page, rec, frame_read::cut_block(s), out, up)
@@ -143,8 +143,8 @@ fn do_task(
 {
     match task {
         Task::Call(call) => call_end(call, rec, page, s, count, out, up),
-        Task::Restart => link::restart(rec, page),
-        Task::Refuse(number) => link::refuse(rec, number),
+        Task::Restart => lent_record::restart(rec, page),
+        Task::Refuse(number) => lent_record::refuse(rec, number),
     }
 }
 

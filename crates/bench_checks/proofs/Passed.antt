@@ -11,7 +11,7 @@ use Rattle.octets.specs.Test.{when, first}
 use Rattle.octets.proofs.Test.{all-yes}
 use Rattle.call_spec.specs.Calls.{Rooms}
 use Rattle.call_spec.specs.Claim.{Lent}
-use Rattle.link.specs.Record.{format, pagedFor}
+use Rattle.lent_record.specs.Record.{format, pagedFor}
 use Rattle.bench_spec.specs.Bench.{Bench, neither}
 use Rattle.bench_checks.specs.Ready.{readyQuestions}
 

@@ -11,7 +11,7 @@ ghost use Rattle.call_spec.specs.Calls.{rooms};
 ghost use Rattle.call_spec.specs.Claim.{lent};
 ghost use Rattle.protocol.specs.Endpoint.{allOf};
 ghost use Rattle.endpoint.specs.Record.{recordSize};
-ghost use Rattle.link.specs.Record.{format, pagedFor};
+ghost use Rattle.lent_record.specs.Record.{format, pagedFor};
 ghost use Rattle.bench_spec.specs.Bench.{benchOf};
 ghost use Rattle.bench_checks.specs.Ready.{readyQuestions};
 ghost use Rattle.bench_checks.specs.Internal.{roomTests, soundTests, pageTests};
@@ -27,7 +27,7 @@ fn is_sound(restarted: bool, rec: &[u8]) -> bool
     if restarted {
         return true;
     }
-    link::is_sound(rec)
+    lent_record::is_sound(rec)
 }
 
 // Question 15 of a page, where the record of an end that is restarted does not count.
@@ -38,7 +38,7 @@ fn is_paged(restarted: bool, rec: &[u8], page: &[u8]) -> bool
     if restarted {
         return page::is_run(page);
     }
-    link::is_paged(rec, page)
+    lent_record::is_paged(rec, page)
 }
 
 // Question 11 of all that is lent.
@@ -53,8 +53,8 @@ fn has_room(
 ) -> bool
     ensures { λ r. ⌜ r ≡ allOf (roomTests (lent (now (a .entry)) (now («a_page» .entry))) (lent (now (b .entry)) (now («b_page» .entry))) (now (log .entry)) (rooms room «block_room»)) ⌝ }
 {
-    (link::RECORD_SIZE <= a.len())
-        & ((link::RECORD_SIZE <= b.len())
+    (lent_record::RECORD_SIZE <= a.len())
+        & ((lent_record::RECORD_SIZE <= b.len())
             & ((octets::PAGE_SIZE <= a_page.len())
                 & ((octets::PAGE_SIZE <= b_page.len())
                     & ((bench_log::LOG_SIZE <= log.len())

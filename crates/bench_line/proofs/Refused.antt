@@ -10,7 +10,7 @@ use Rattle.call_spec.specs.declared.Call.the-variants.{Request, Receive}
 use Rattle.call_spec.specs.Calls.{recordAfter, bufferAfter, pageAfter}
 use Rattle.call_spec.specs.Claim.{Lent}
 use Rattle.call_spec.specs.Answers.{blockOf, blockBufferAfter}
-use Rattle.link.specs.Lent.{sentOf}
+use Rattle.lent_record.specs.Told.{sentOf}
 use Rattle.bench_spec.specs.Bench.{Bench, benchOf, endOf, logAfter, countAfter, benchAfter}
 use Rattle.bench_call.specs.Answer.{benchAnswerOf}
 use Rattle.bench_order.specs.Performed.{callOf}

@@ -7,7 +7,7 @@ use Rattle.octets.specs.Test.{first, Outcome, refused}
 use Rattle.hex.specs.Line.{unhex}
 use Rattle.call_spec.specs.Calls.{Rooms, rooms}
 use Rattle.call_spec.specs.Claim.{Lent}
-use Rattle.link.specs.Lent.{statusOf}
+use Rattle.lent_record.specs.Told.{statusOf}
 use Rattle.bench_spec.specs.Bench.{Bench, At, lentAt, neither, lineAsks, comes, endOf}
 use Rattle.bench_checks.specs.Ready.{readyQuestions}
 use Rattle.bench_call.specs.declared.BenchAnswer.{BenchAnswer}

@@ -13,7 +13,7 @@ use Rattle.call_spec.specs.declared.Call.the-variants.{Receive}
 use Rattle.call_spec.specs.Calls.{Rooms, rooms}
 use Rattle.call_spec.specs.Claim.{Lent, LentAct, restart}
 use Rattle.call_spec.specs.Answers.{blockOf}
-use Rattle.link.specs.Lent.{lentAfter}
+use Rattle.lent_record.specs.Told.{lentAfter}
 use Rattle.bench_log.specs.Log.{holds}
 use Rattle.bench_log.proofs.Log.{held}
 use Rattle.bench_spec.specs.declared.Order.{Order}

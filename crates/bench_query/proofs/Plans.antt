@@ -41,10 +41,11 @@ use Rattle.endpoint_plan.specs.Calls.{outcomeOf}
 use Rattle.endpoint_plan.specs.Internal.{Plans, PlansAny}
 use Rattle.endpoint_plan.proofs.Ready.{ready}
 use Rattle.endpoint_step.proofs.Laws.{leaves}
-use Rattle.link.specs.Record.{format, pagedFor}
-use Rattle.link.proofs.Answers.{rewritten, enough, decode-long}
-use Rattle.link.proofs.Demand.{lawful}
-use Rattle.link.proofs.Stays.{bounded}
+use Rattle.lent_record.specs.Record.{format, pagedFor}
+use Rattle.lent_record.proofs.Told.{rewritten, decode-long}
+use Rattle.link.proofs.Answers.{enough}
+use Rattle.lent_record.proofs.Lawful.{lawful}
+use Rattle.lent_record.proofs.Holds.{bounded}
 use Rattle.bench_spec.specs.Bench.{logged, callOutcome}
 use Rattle.bench_call.specs.Internal.{outcomeAt, hasPlace}
 use Rattle.bench_call.proofs.Moves.{by-plan}

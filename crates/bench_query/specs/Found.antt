@@ -10,7 +10,7 @@ use Rattle.octets.specs.Sizes.{longestFrame, longestBlock}
 use Rattle.octets.specs.Test.{when, Question, first, Outcome, refused, ok}
 use Rattle.protocol.specs.Table.{Step}
 use Rattle.call_spec.specs.Calls.{rooms, recordAfter}
-use Rattle.link.specs.Record.{format}
+use Rattle.lent_record.specs.Record.{format}
 use Rattle.bench_spec.specs.Bench.{Bench, At, lentAt, neither, bufferQuestions, soundQuestions, delivery, comes, endOf}
 use Rattle.bench_query.specs.declared.Found.{Found}
 use Rattle.bench_query.specs.declared.Found.the-variants.{Frame, Nothing, Refused}

@@ -10,7 +10,7 @@ ghost use Rattle.octets.specs.Sizes.{longestFrame, longestBlock, pageSize};
 ghost use Rattle.call_spec.specs.declared.Call.the-variants.{Receive};
 ghost use Rattle.call_spec.specs.Calls.{given, rooms};
 ghost use Rattle.call_spec.specs.Claim.{lent};
-ghost use Rattle.link.specs.Record.{format, pagedFor};
+ghost use Rattle.lent_record.specs.Record.{format, pagedFor};
 ghost use Rattle.bench_spec.specs.Bench.{benchOf};
 ghost use Rattle.bench_call.specs.Internal.{outcomeAt};
 ghost use Rattle.bench_query.specs.Found.{changes, wouldChange, firstFrame};

@@ -11,7 +11,7 @@ use Rattle.call_spec.specs.Calls.{rooms}
 use Rattle.hex.specs.Line.{unhex, lineQuestions, normal}
 use Rattle.hex.proofs.Normal.{asked-alike, unhex-normal}
 use Rattle.call_spec.specs.Claim.{Lent}
-use Rattle.link.specs.Lent.{freshEnd}
+use Rattle.lent_record.specs.Told.{freshEnd}
 use Rattle.bench_spec.specs.Bench.{Bench, benchOf, bufferQuestions, roomQuestions, soundQuestions, At, octetsAsk, restartedBy, restartedEnd, neither, lineAsks, comes, endOf, benchAfter}
 use Rattle.bench_answer.specs.Text.{answerRoom, benchText, benchAsks, BenchAnswered}
 use Rattle.line_split.specs.Split.{cut}

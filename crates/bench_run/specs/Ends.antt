@@ -1,6 +1,6 @@
 -- What answers the lines of the bench program: two ends and the log.
 use lib.ListN.{replicate}
-use Rattle.link.specs.Lent.{freshEnd}
+use Rattle.lent_record.specs.Told.{freshEnd}
 use Rattle.bench_log.specs.Log.{logSize}
 use Rattle.bench_spec.specs.Bench.{Bench, benchOf, comes, endOf, benchAfter}
 use Rattle.bench_answer.specs.Text.{benchText, benchAsks}

@@ -13,8 +13,8 @@ ghost use Rattle.bench_run.specs.Ends.{bothEnds, freshBench};
 
 // One step of the stream, with the answer where a line is ready.
 fn step(
-    a: &mut [u8; link::RECORD_SIZE],
-    b: &mut [u8; link::RECORD_SIZE],
+    a: &mut [u8; lent_record::RECORD_SIZE],
+    b: &mut [u8; lent_record::RECORD_SIZE],
     a_page: &mut [u8; octets::PAGE_SIZE],
     b_page: &mut [u8; octets::PAGE_SIZE],
     log: &mut [u8; bench_log::LOG_SIZE],
@@ -49,8 +49,8 @@ fn step(
 
 // Restarts on two new pages, which make two fresh ends beside an empty log, and steps while some are left.
 pub fn run(
-    a: &mut [u8; link::RECORD_SIZE],
-    b: &mut [u8; link::RECORD_SIZE],
+    a: &mut [u8; lent_record::RECORD_SIZE],
+    b: &mut [u8; lent_record::RECORD_SIZE],
     a_page: &mut [u8; octets::PAGE_SIZE],
     b_page: &mut [u8; octets::PAGE_SIZE],
     log: &mut [u8; bench_log::LOG_SIZE],
@@ -64,8 +64,8 @@ pub fn run(
     ensures { λ r. ⌜ (let w : Bench = benchOf (lent (now (a .exit)) (now («a_page» .exit))) (lent (now (b .exit)) (now («b_page» .exit))) (now (log .exit)) (now (count .exit)) in
         (Ran bothEnds answerRoom freshBench w (now (buf .exit)) (now (line .exit)) (now (out .exit)) r) × (r .steps ≡ 0)) ⌝ }
 {
-    link::restart(a, a_page);
-    link::restart(b, b_page);
+    lent_record::restart(a, a_page);
+    lent_record::restart(b, b_page);
     let mut p = line_io::start();
     while p.steps > 0 {
         p = step(a, b, a_page, b_page, log, count, buf, line, out, p);

@@ -13,7 +13,7 @@ use Rattle.protocol.specs.World.{DueAt}
 use Rattle.call_spec.specs.declared.Call.the-variants.{Request, Receive}
 use Rattle.call_spec.specs.Calls.{Rooms, given}
 use Rattle.call_spec.specs.Claim.{Lent, LentAct, call, restart, cut}
-use Rattle.link.specs.Record.{ends}
+use Rattle.lent_record.specs.Record.{ends}
 use Rattle.bench_log.specs.Log.{logSize}
 use Rattle.bench_log.proofs.Log.{held}
 use Rattle.bench_spec.specs.declared.Order.{Order}

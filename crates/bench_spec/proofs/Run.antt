@@ -27,11 +27,12 @@ use Rattle.page.proofs.Laws.{stays}
 use Rattle.call_spec.specs.Calls.{restarting, restartedIn, recordAfter, pageAfter}
 use Rattle.call_spec.specs.Claim.{Lent, lent, LentAct, call, restart, cut, renewed}
 use Rattle.call_spec.proofs.Lift.{LiesIn, lies}
-use Rattle.link.specs.Record.{format, ends}
-use Rattle.link.proofs.Demand.{lawful, no-end-alone, no-number-twice}
+use Rattle.lent_record.specs.Record.{format, ends}
+use Rattle.lent_record.proofs.Lawful.{lawful}
+use Rattle.link.proofs.Demand.{no-end-alone, no-number-twice}
 use Rattle.bench_log.specs.Log.{places, logSize}
 use Rattle.bench_spec.specs.Bench.{Bench, At, lentAt, lineAsks, sends, logged, callOutcome, comes, endOf, logAfter, countAfter, benchAfter}
-use Rattle.link.specs.Lent.{lentAfter}
+use Rattle.lent_record.specs.Told.{lentAfter}
 use Rattle.bench_spec.specs.Run.{LentLine, lineAfter, linesAfter, RunEnds, RunEntry, entry, entriesOf, callsOf, newEnds, newBench, Holds}
 use Rattle.bench_spec.proofs.Sends.{grows, has-sent, encode-short}
 use Rattle.bench_spec.proofs.Logged.{Among, Logged, Grows, still, logs}

@@ -18,7 +18,7 @@ use Rattle.protocol.specs.History as protocol
 use Rattle.protocol.specs.World.{End, called}
 use Rattle.call_spec.specs.Calls.{said, does, asked, performed}
 use Rattle.call_spec.specs.Claim.{Lent, LentAct, call, restart, cut}
-use Rattle.link.specs.Record.{ends}
+use Rattle.lent_record.specs.Record.{ends}
 
 -- only a call whose octets say one is accepted; a restart says one always
 says : (r : Lent) (c : LentAct) {y : Step} → ends .comes r c ≡ ok y → (x : protocol.Act) × (ends .said r c ≡ ok x)

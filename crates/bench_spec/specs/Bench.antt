@@ -14,8 +14,8 @@ use Rattle.call_spec.specs.declared.Call.the-variants.{Request, Receive}
 use Rattle.call_spec.specs.Calls.{Rooms, given, wire}
 use Rattle.call_spec.specs.Claim.{Lent, LentAct, call, restart, comesBy}
 use Rattle.page.specs.Page.{runs}
-use Rattle.link.specs.Record.{format, pagedFor}
-use Rattle.link.specs.Lent.{lentAfter}
+use Rattle.lent_record.specs.Record.{format, pagedFor}
+use Rattle.lent_record.specs.Told.{lentAfter}
 use Rattle.bench_log.specs.Log.{placeSize, places, logSize, senderAt, frameLogged, holds, place}
 use Rattle.bench_spec.specs.declared.Order.{Order}
 use Rattle.bench_spec.specs.declared.Order.the-variants as order

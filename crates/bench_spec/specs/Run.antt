@@ -10,7 +10,7 @@ use Rattle.protocol.specs.Claim.{Demand, NeverTwice}
 use Rattle.page.specs.Page.{newPage}
 use Rattle.call_spec.specs.Calls.{Rooms}
 use Rattle.call_spec.specs.Claim.{Lent, lent, LentAct}
-use Rattle.link.specs.Record.{format, ends}
+use Rattle.lent_record.specs.Record.{format, ends}
 use Rattle.bench_spec.specs.Bench.{Bench, At, lineAsks, comes, endOf, benchAfter}
 
 -- a line's text, and the lengths of the buffers for a frame and for a block that are lent with it

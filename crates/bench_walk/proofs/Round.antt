@@ -29,9 +29,9 @@ use Rattle.call_spec.specs.Claim.{Lent, call}
 use Rattle.call_spec.specs.Holding.{Holding}
 use Rattle.call_spec.proofs.Holding.{written}
 use Rattle.call_spec.proofs.Holding as held
-use Rattle.link.specs.Record.{format}
-use Rattle.link.specs.Lent.{lentAfter}
-use Rattle.link.proofs.Demand.{lawful}
+use Rattle.lent_record.specs.Record.{format}
+use Rattle.lent_record.specs.Told.{lentAfter}
+use Rattle.lent_record.proofs.Lawful.{lawful}
 use Rattle.link.proofs.Stays.{goes-on}
 use Rattle.bench_log.specs.Log.{placeSize, places, logSize, place}
 use Rattle.bench_log.proofs.Log.{octets-place}

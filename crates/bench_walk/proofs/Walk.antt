@@ -18,9 +18,9 @@ use Rattle.call_spec.specs.Calls.{recordAfter}
 use Rattle.call_spec.specs.Claim.{LentAct, call}
 use Rattle.call_spec.proofs.Holding as held
 use Rattle.endpoint.specs.Record.{recordSize}
-use Rattle.link.specs.Record.{format}
-use Rattle.link.proofs.Demand.{lawful}
-use Rattle.link.proofs.Stays.{record-holding}
+use Rattle.lent_record.specs.Record.{format}
+use Rattle.lent_record.proofs.Lawful.{lawful}
+use Rattle.lent_record.proofs.Holds.{record-holding}
 use Rattle.bench_log.specs.Log.{placeHead, placeSize, places, logSize, senderAt, lengthAt, frameLogged, holds}
 use Rattle.bench_spec.specs.Bench.{Bench, At, lentAt, lineAsks, callOutcome, comes, endOf, benchAfter}
 use Rattle.bench_spec.specs.Run.{lineAfter}

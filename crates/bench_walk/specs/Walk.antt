@@ -9,7 +9,7 @@ use Rattle.hex.specs.Line.{hex}
 use Rattle.protocol.specs.Rank.{lift, rank}
 use Rattle.call_spec.specs.Calls.{rooms}
 use Rattle.call_spec.specs.Claim.{Lent}
-use Rattle.link.specs.Record.{format}
+use Rattle.lent_record.specs.Record.{format}
 use Rattle.bench_log.specs.Log.{places}
 use Rattle.bench_spec.specs.Bench.{Bench, deliver, lineAsks, comes}
 use Rattle.bench_spec.specs.Run.{LentLine, lineAfter}

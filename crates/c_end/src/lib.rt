@@ -8,7 +8,7 @@ ghost use Rattle.octets.specs.Test.{numberOf};
 ghost use Rattle.frame.specs.Read.{cutBlock};
 ghost use Rattle.call_spec.specs.declared.Call.the-variants.{Request, Receive};
 ghost use Rattle.call_spec.specs.Calls.{restartedIn, recordAfter};
-ghost use Rattle.link.specs.Record.{format};
+ghost use Rattle.lent_record.specs.Record.{format};
 ghost use Rattle.link.specs.Lent.{Called, lentOutcome, CalledLent, answerIn};
 
 // Restarts an end: its record becomes the one that the page says, and the page stays. Answers 0, 11 or 15. A new page makes a fresh end.
@@ -16,7 +16,7 @@ ghost use Rattle.link.specs.Lent.{Called, lentOutcome, CalledLent, answerIn};
 pub extern "C" fn dock_restart(rec: &mut [u8], page: &[u8]) -> u8
     ensures { λ r. ⌜ (r ≡ numberOf (restartedIn format (now (rec .entry)) (now (page .entry)))) × (now (rec .exit) ≡ recordAfter format (now (rec .entry)) (restartedIn format (now (rec .entry)) (now (page .entry)))) ⌝ }
 {
-    let a = link::restart(rec, page);
+    let a = lent_record::restart(rec, page);
     let restarted = a.status;
     restarted.number
 }

@@ -17,7 +17,7 @@ use Rattle.frame.proofs.Blocks.{request-short, frame-short, data-sized}
 use Rattle.frame.proofs.Fits.{data-limit}
 use Rattle.protocol.specs.Endpoint.{Endpoint}
 use Rattle.protocol.specs.Table.{Step}
-use Rattle.protocol.specs.History.{ask, deliver, perform}
+use Rattle.protocol.specs.History.{ask, deliver}
 use Rattle.call_spec.specs.declared.Call.{Call}
 use Rattle.call_spec.specs.declared.Call.the-variants as call
 use Rattle.call_spec.specs.Calls.{reads, does}

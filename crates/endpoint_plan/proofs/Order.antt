@@ -1,8 +1,8 @@
 -- What stores after the page cannot come before its store: a fresh end's connect on a new page is the example.
-use Prim.Native.Nat.{ℕ, _≤_}
+use Prim.Native.Nat.{_≤_}
 use mathlib.Core.Path.{_≡_, refl, ap, _∙_}
 use mathlib.Core.Bool.{true}
-use mathlib.Core.List.{List, [], _∷_, append-nil}
+use mathlib.Core.List.{[], _∷_, append-nil}
 use native.Mathlib.Omega.{arith}
 use lib.ListN.{length}
 use Rattle.octets.specs.Sizes.{longestFrame, longestBlock, pageSize}

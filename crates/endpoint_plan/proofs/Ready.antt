@@ -1,19 +1,18 @@
 -- Questions 11, 12 and 15 of a call, and 11 and 15 of a restart; what follows them.
-use Prim.Native.Nat.{ℕ, zero, suc, _≤_, _<_}
+use Prim.Native.Nat.{ℕ, zero, suc, _≤_}
 use mathlib.Core.Path.{_≡_, refl}
 use mathlib.Core.Bool.{Bool, true, false, _&&_}
 use mathlib.Core.List.{List, _∷_}
 use native.Mathlib.Omega.{arith}
 use lib.ListN.{length}
-use borrow.Author.Tests.{le-leb, lt-leb, leb-true}
+use borrow.Author.Tests.{le-leb, leb-true}
 use Rattle.octets.specs.Sizes.{longestFrame, pageSize}
-use Rattle.octets.specs.Test.{when, Question, first, Outcome, refused, ok, refusing, numberOf}
+use Rattle.octets.specs.Test.{when, Question, first, Outcome, refusing, numberOf}
 use Rattle.octets.proofs.Test.{all-yes}
-use Rattle.page.specs.Page.{runs, count, goesWith}
+use Rattle.page.specs.Page.{goesWith}
 use Rattle.protocol.specs.Endpoint as abstract
-use Rattle.protocol.specs.Restart.{restarted}
-use Rattle.protocol.specs.Table.{none, Step, quiet}
-use Rattle.call_spec.specs.Calls.{Arguments, does, blockRoomOk, ownQuestions, asked, restarting}
+use Rattle.protocol.specs.Table.{Step}
+use Rattle.call_spec.specs.Calls.{Arguments, does, blockRoomOk, ownQuestions, asked}
 use Rattle.endpoint.specs.declared.Endpoint.{Endpoint}
 use Rattle.endpoint.specs.View.{view}
 use Rattle.endpoint.specs.Sound.{sound}
@@ -61,18 +60,3 @@ accepted-by (suc n) o z = absurd (omega arith)
 pub passes : (fine : Bool) (page : List ℕ) (e : abstract.Endpoint) (c : Arguments) → numberOf (asked fine page e c) ≡ 0 → Passes fine (e .local) page c
 unfolding asked
 passes fine page e c h = all-passed fine (e .local) page c (accepted-by (first (ownQuestions fine (e .local) page c)) _ h .0)
-
--- the questions of a restart, 11 and 15, and what follows them
-module _ (page : List ℕ) where
-  pub restarts-short : length page < pageSize → restarting page ≡ refused 11
-  unfolding restarting refusing first when
-  restarts-short k = rw (lt-leb pageSize (length page) k) refl
-
-  module _ (l : pageSize ≤ length page) where
-    pub restarts-wrong : runs page ≡ false → restarting page ≡ refused 15
-    unfolding restarting refusing first when
-    restarts-wrong k = rw (le-leb pageSize (length page) l, k) refl
-
-    pub restarts : runs page ≡ true → restarting page ≡ ok (quiet (restarted (count page)) none)
-    unfolding restarting refusing first when
-    restarts k = rw (le-leb pageSize (length page) l, k) refl

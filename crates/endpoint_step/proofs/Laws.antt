@@ -1,6 +1,6 @@
 -- What the calls keep: an accepted call of a sound struct leaves a sound struct, which holds the endpoint that the step table
 -- gives.
-use mathlib.Core.Path.{_≡_, subst}
+use mathlib.Core.Path.{subst}
 use Rattle.protocol.specs.Limits.{LeavesSound, LeavesBounded}
 use Rattle.protocol.proofs.Limits.{call-sound, call-bounded}
 use Rattle.endpoint.specs.View.{view}

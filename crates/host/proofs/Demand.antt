@@ -31,9 +31,9 @@ use Rattle.endpoint.proofs.Held.{held, pack-sound}
 use Rattle.endpoint_step.specs.declared.StepAnswer.{StepAnswer}
 use Rattle.endpoint_plan.specs.Calls.{outcomeOf}
 use Rattle.endpoint_step.specs.Calls.{stepAnswerOf, Advances}
-use Rattle.link.specs.Record.{format}
-use Rattle.link.specs.Record as link
-use Rattle.link.proofs.Demand.{lawful}
+use Rattle.lent_record.specs.Record.{format}
+use Rattle.lent_record.specs.Record as link
+use Rattle.lent_record.proofs.Lawful.{lawful}
 use Rattle.host.specs.Hosts.{Held, paged, HostAct, call, restart, cut, HostDue, pageLeft, ends, AsInOctets, RestartsAsInOctets}
 
 -- the octets of a sound endpoint are long enough for a record

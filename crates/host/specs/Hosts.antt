@@ -19,7 +19,7 @@ use Rattle.endpoint.specs.declared.Endpoint.{Endpoint}
 use Rattle.endpoint.specs.View.{pack}
 use Rattle.endpoint_plan.specs.Calls.{outcomeOf}
 use Rattle.endpoint_step.specs.Calls.{stepAnswerOf}
-use Rattle.link.specs.Record.{format}
+use Rattle.lent_record.specs.Record.{format}
 
 -- what a host holds of an end
 pub record Held : Type 0 where

@@ -19,10 +19,10 @@ use Rattle.protocol.proofs.Theorem.{Roomy, roomy}
 use Rattle.protocol.proofs.Theorem as protocol
 use Rattle.call_spec.specs.Claim.{Lent, call}
 use Rattle.call_spec.proofs.Lift.{LiesIn, list-holding, asks, lies}
-use Rattle.link.specs.Record.{format, recordQuestions}
-use Rattle.link.specs.Record as link
-use Rattle.link.specs.Lent.{lentAfter}
-use Rattle.link.proofs.Demand.{lawful}
+use Rattle.lent_record.specs.Record.{format, recordQuestions}
+use Rattle.lent_record.specs.Record as link
+use Rattle.lent_record.specs.Told.{lentAfter}
+use Rattle.lent_record.proofs.Lawful.{lawful}
 use Rattle.line_answer.specs.Line.{lineCall, readyOutcome, lineOutcome}
 use Rattle.line_answer.specs.Claim.{saidIn, ends, NoTrace}
 use Rattle.line_answer.proofs.Runs.{stays-put}

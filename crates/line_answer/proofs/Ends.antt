@@ -11,9 +11,10 @@ use Rattle.protocol.specs.Table.{Step}
 use Rattle.call_spec.specs.declared.Call.{Call}
 use Rattle.call_spec.specs.Calls.{wire, recordAfter, pageAfter}
 use Rattle.call_spec.specs.Answers.{sentIn, blockOf}
-use Rattle.link.specs.declared.Answer.{Answer}
-use Rattle.link.specs.Lent.{answerOf, Called}
-use Rattle.link.proofs.Answers.{sent-taken}
+use Rattle.lent_record.specs.declared.Answer.{Answer}
+use Rattle.lent_record.specs.Told.{answerOf}
+use Rattle.link.specs.Lent.{Called}
+use Rattle.lent_record.proofs.Told.{sent-taken}
 use Rattle.answer_text.specs.Text.{textOf, StartsWith}
 use Rattle.line_answer.specs.Text.{text, LineAnswered}
 

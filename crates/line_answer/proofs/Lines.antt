@@ -16,8 +16,8 @@ use Rattle.hex.proofs.Asked.{none-refused, turned-away}
 use Rattle.page.proofs.Laws.{goes-so, stays}
 use Rattle.protocol.specs.Table.{Step}
 use Rattle.call_spec.specs.Calls.{performed, pageAfter}
-use Rattle.link.specs.Record.{format, pagedFor, recordQuestions}
-use Rattle.link.specs.Lent.{stands}
+use Rattle.lent_record.specs.Record.{format, pagedFor, recordQuestions}
+use Rattle.lent_record.specs.Told.{stands}
 use Rattle.line_answer.specs.Line.{lineCall, readyOutcome, lineOutcome}
 
 -- what a line makes that has a character, as one has that passes 1 and 2

@@ -13,10 +13,11 @@ use Rattle.protocol.specs.Table.{Step}
 use Rattle.call_spec.specs.Calls.{performed, recordAfter, pageAfter}
 use Rattle.call_spec.specs.Claim.{Lent, lent}
 use Rattle.call_spec.specs.Holding.{Holding}
-use Rattle.link.specs.Record.{format, recordQuestions}
-use Rattle.link.specs.Lent.{freshRecord, lentAfter}
-use Rattle.link.proofs.Stays.{fresh-holding, in-octets, goes-on, is-ready}
-use Rattle.link.proofs.Standing.{stands-still}
+use Rattle.lent_record.specs.Record.{format, recordQuestions}
+use Rattle.lent_record.specs.Told.{freshRecord, lentAfter}
+use Rattle.lent_record.proofs.Holds.{fresh-holding, is-ready}
+use Rattle.link.proofs.Stays.{in-octets, goes-on}
+use Rattle.lent_record.proofs.Standing.{stands-still}
 use Rattle.line_answer.specs.Line.{lineCall, readyOutcome, lineOutcome}
 use Rattle.line_answer.proofs.Lines.{asks-standing, asked-of, page-still}
 

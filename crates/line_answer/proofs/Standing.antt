@@ -9,10 +9,10 @@ use Rattle.protocol.specs.Table.{noticeNumber}
 use Rattle.call_spec.specs.Calls.{wire, recordAfter, pageAfter}
 use Rattle.call_spec.specs.Answers.{noticeOf, sentIn, blockIn, blockOf}
 use Rattle.endpoint.specs.View.{pack, view}
-use Rattle.link.specs.Record.{format, recordQuestions}
-use Rattle.link.specs.Lent.{toldOf, statusOf, stands}
-use Rattle.link.proofs.Stays.{record-holding}
-use Rattle.link.proofs.Standing.{stands-still}
+use Rattle.lent_record.specs.Record.{format, recordQuestions}
+use Rattle.lent_record.specs.Told.{toldOf, statusOf, stands}
+use Rattle.lent_record.proofs.Holds.{record-holding}
+use Rattle.lent_record.proofs.Standing.{stands-still}
 use Rattle.answer_text.specs.Text.{asLine, counted, answerOctets, answerLine, frameLine, textOf, StartsWith}
 use Rattle.answer_text.proofs.Text.{length-told}
 use Rattle.line_answer.specs.Line.{readyOutcome, lineOutcome}

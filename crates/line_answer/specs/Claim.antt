@@ -9,9 +9,9 @@ use Rattle.protocol.specs.History as protocol
 use Rattle.protocol.specs.World.{Ends, End, called}
 use Rattle.call_spec.specs.Calls.{said}
 use Rattle.call_spec.specs.Claim.{Lent, call, LentDue}
-use Rattle.link.specs.Record.{format}
-use Rattle.link.specs.Record as link
-use Rattle.link.specs.Lent.{lentAfter}
+use Rattle.lent_record.specs.Record.{format}
+use Rattle.lent_record.specs.Record as link
+use Rattle.lent_record.specs.Told.{lentAfter}
 use Rattle.line_answer.specs.Line.{lineCall, lineOutcome}
 
 -- The call of the protocol that a line says: 1 and 2 of the line, then 3 to 7. An empty line says none, 1 refuses it: how an end stands is no call of the

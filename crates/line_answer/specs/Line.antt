@@ -10,8 +10,8 @@ use Rattle.protocol.specs.Table.{Step}
 use Rattle.call_spec.specs.declared.Call.{Call}
 use Rattle.call_spec.specs.declared.Call.the-variants.{Request, Receive}
 use Rattle.call_spec.specs.Calls.{Arguments, given, rooms, performed}
-use Rattle.link.specs.Record.{format, recordQuestions}
-use Rattle.link.specs.Lent.{stands}
+use Rattle.lent_record.specs.Record.{format, recordQuestions}
+use Rattle.lent_record.specs.Told.{stands}
 
 -- The call that a line's octets make: a request by its kind, and anything else is received.
 unfoldable pub callIn : List ℕ → Call

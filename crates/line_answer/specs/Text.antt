@@ -8,8 +8,8 @@ use Rattle.protocol.specs.Table.{Step}
 use Rattle.call_spec.specs.Calls.{wire, recordAfter, pageAfter}
 use Rattle.call_spec.specs.Answers.{sentIn, blockOf}
 use Rattle.endpoint.specs.Record.{decode}
-use Rattle.link.specs.Record.{format, recordQuestions}
-use Rattle.link.specs.Lent.{statusOf, stands}
+use Rattle.lent_record.specs.Record.{format, recordQuestions}
+use Rattle.lent_record.specs.Told.{statusOf, stands}
 use Rattle.answer_text.specs.Text.{asLine, textOf, StartsWith}
 use Rattle.line_answer.specs.Line.{lineOutcome}
 

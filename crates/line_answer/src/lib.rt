@@ -9,7 +9,7 @@ ghost use Rattle.octets.specs.Sizes.{longestFrame};
 ghost use Rattle.octets.specs.Test.{first, refused};
 ghost use Rattle.call_spec.specs.Calls.{performed};
 ghost use Rattle.endpoint.specs.Record.{recordSize};
-ghost use Rattle.link.specs.Record.{format, recordQuestions};
+ghost use Rattle.lent_record.specs.Record.{format, recordQuestions};
 ghost use Rattle.answer_text.specs.Text.{answerRoom, StartsWith};
 ghost use Rattle.line_answer.specs.Line.{callIn, lineCall, lineOutcome};
 ghost use Rattle.line_answer.specs.Text.{text, standing, LineAnswered};
@@ -48,7 +48,7 @@ fn refuse(rec: &[u8], number: u8, out: &mut [u8]) -> usize
     requires { ⌜ answerRoom ≤ length (now out) ⌝ }
     ensures { λ r. ⌜ StartsWith (text (now (rec .entry)) (refused number)) (now (out .entry)) (now (out .exit)) r ⌝ }
 {
-    let a = link::refuse(rec, number);
+    let a = lent_record::refuse(rec, number);
     let told = a.status;
     answer_text::write_answer(told, &rec[..0], out)
 }
@@ -58,7 +58,7 @@ pub fn stand(rec: &[u8], out: &mut [u8]) -> usize
     requires { ⌜ (recordSize ≤ length (now rec)) × (length (standing (now rec)) ≤ length (now out)) ⌝ }
     ensures { λ r. ⌜ StartsWith (standing (now (rec .entry))) (now (out .entry)) (now (out .exit)) r ⌝ }
 {
-    let told = link::stands(rec);
+    let told = lent_record::stands(rec);
     answer_text::write_answer(told, &rec[..0], out)
 }
 
@@ -68,7 +68,7 @@ pub fn answer(rec: &mut [u8], page: &mut [u8], line: &[u8], out: &mut [u8]) -> u
     requires { ⌜ answerRoom ≤ length (now out) ⌝ }
     ensures { λ r. ⌜ LineAnswered (lineOutcome (now (rec .entry)) (now (page .entry)) (now (line .entry))) (now (rec .entry)) (now (page .entry)) (now (out .entry)) (now (rec .exit)) (now (page .exit)) (now (out .exit)) r ⌝ }
 {
-    let asked = link::ready(rec, page);
+    let asked = lent_record::ready(rec, page);
     if asked != 0 {
         return refuse(rec, asked, out);
     }

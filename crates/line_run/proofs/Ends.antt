@@ -7,9 +7,9 @@ use Rattle.hex.specs.Line.{unhex, normal}
 use Rattle.hex.proofs.Normal.{asked-alike, unhex-normal}
 use Rattle.call_spec.specs.Calls.{performed}
 use Rattle.call_spec.specs.Claim.{Lent, lent}
-use Rattle.link.specs.Record.{format}
+use Rattle.lent_record.specs.Record.{format}
 use Rattle.answer_text.specs.Text.{answerRoom}
-use Rattle.link.specs.Lent.{lentAfter, freshEnd}
+use Rattle.lent_record.specs.Told.{lentAfter, freshEnd}
 use Rattle.line_answer.specs.Line.{lineCall, readyOutcome, lineOutcome}
 use Rattle.line_answer.specs.Text.{text, LineAnswered}
 use Rattle.line_answer.proofs.Runs.{Holds, fresh-holds, stays-put, line-leaves}

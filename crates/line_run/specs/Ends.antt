@@ -3,7 +3,7 @@ use Prim.Native.Nat.{ℕ}
 use mathlib.Core.Path.{_≡_}
 use mathlib.Core.List.{List, [], _∷_}
 use Rattle.call_spec.specs.Claim.{Lent}
-use Rattle.link.specs.Lent.{lentAfter, freshEnd}
+use Rattle.lent_record.specs.Told.{lentAfter, freshEnd}
 use Rattle.line_answer.specs.Line.{lineOutcome}
 use Rattle.line_answer.specs.Text.{text}
 use Rattle.line_io.specs.Answering.{Answering, stateAfter}

@@ -6,7 +6,7 @@ ghost use lib.ListN.{length};
 ghost use Rattle.page.specs.Page.{newPage};
 ghost use Rattle.call_spec.specs.Claim.{lent};
 ghost use Rattle.answer_text.specs.Text.{answerRoom};
-ghost use Rattle.link.specs.Lent.{freshEnd};
+ghost use Rattle.lent_record.specs.Told.{freshEnd};
 ghost use Rattle.line_io.specs.Place.{bufferSize, PlaceFits};
 ghost use Rattle.line_io.specs.Step.{Stepped};
 ghost use Rattle.line_io.specs.Program.{Ran};
@@ -14,7 +14,7 @@ ghost use Rattle.line_run.specs.Ends.{oneEnd};
 
 // One step of the stream, with the answer where a line is ready.
 fn step(
-    rec: &mut [u8; link::RECORD_SIZE],
+    rec: &mut [u8; lent_record::RECORD_SIZE],
     page: &mut [u8; octets::PAGE_SIZE],
     buf: &mut [u8; line_io::BUFFER_SIZE],
     line: &mut [u8; line_io::LONGEST_KEPT],
@@ -35,7 +35,7 @@ fn step(
 
 // A restart on a new page, which makes a fresh end, and steps while some are left.
 pub fn run(
-    rec: &mut [u8; link::RECORD_SIZE],
+    rec: &mut [u8; lent_record::RECORD_SIZE],
     page: &mut [u8; octets::PAGE_SIZE],
     buf: &mut [u8; line_io::BUFFER_SIZE],
     line: &mut [u8; line_io::LONGEST_KEPT],
@@ -44,7 +44,7 @@ pub fn run(
     requires { ⌜ now page ≡ newPage ⌝ }
     ensures { λ r. ⌜ (Ran oneEnd answerRoom freshEnd (lent (now (rec .exit)) (now (page .exit))) (now (buf .exit)) (now (line .exit)) (now (out .exit)) r) × (r .steps ≡ 0) ⌝ }
 {
-    link::restart(rec, page);
+    lent_record::restart(rec, page);
     let mut p = line_io::start();
     while p.steps > 0 {
         p = step(rec, page, buf, line, out, p);

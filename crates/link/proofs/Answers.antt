@@ -2,38 +2,33 @@
 use Prim.Native.Nat.{ℕ, _≤_, _<_}
 use mathlib.Core.Path.{_≡_, refl, sym, subst, ap, ap₂, _∙_}
 use mathlib.Core.Logic.{_≢_}
-use mathlib.Core.List.{List, []}
+use mathlib.Core.List.{List}
 use native.Mathlib.Omega.{arith}
 use borrow.Author.Tests.{le-leb, lt-leb}
-use lib.ListN.{length, getD, take, drop, length-drop, take-append-drop}
-use lib.Seq.{length-take-le}
-use Rattle.octets.specs.Sizes.{longestFrame, longestBlock, queueSize, heldSize}
+use lib.ListN.{length}
+use Rattle.octets.specs.Sizes.{longestBlock}
 use Rattle.octets.specs.Test.{when, ifEq, first, Outcome, refused, ok, refusing, mapped, numberOf}
 use Rattle.octets.specs.Octets.{put, left, Octets}
 use Rattle.octets.proofs.Test.{by-eq, eq-yes, eq-no}
-use Rattle.octets.proofs.Parts.{length-part}
 use Rattle.page.specs.Page.{reserving}
-use Rattle.octets.proofs.Buffers.{put-fits, taken}
-use Rattle.octets.proofs.Outcomes.{after-question, is-refused}
+use Rattle.octets.proofs.Outcomes.{after-question}
 use Rattle.frame.specs.Frame.{Block}
 use Rattle.frame.specs.Read.{kindOf, afterHead, cutBlock, frameAt, readFrame}
 use Rattle.protocol.specs.Endpoint as abstract
 use Rattle.protocol.specs.Table.{Step}
 use Rattle.call_spec.specs.declared.Call.{Call}
 use Rattle.call_spec.specs.declared.Call.the-variants.{Request, Receive}
-use Rattle.call_spec.specs.Calls.{Arguments, Rooms, rooms, given, wire, ownQuestions, asked, performed, recordAfter, bufferAfter, pageAfter}
+use Rattle.call_spec.specs.Calls.{Arguments, Rooms, given, wire, ownQuestions, asked, performed, recordAfter, bufferAfter, pageAfter}
 use Rattle.step_plan.specs.declared.Plan.{Plan}
 use Rattle.call_spec.specs.Answers.{noticeOf, sentIn, blockOf, blockPart, blockBufferAfter, endpointAfter}
 use Rattle.step_plan.specs.Internal.{blockBy, blockOut, sentBy, Sends}
 use Rattle.step_plan.proofs.Up.{Right, source, right, none-right}
 use Rattle.step_plan.proofs.Up as up
 use Rattle.endpoint.specs.declared.Endpoint.{Endpoint}
-use Rattle.endpoint.specs.View.{placesSize, placeBlock, pack, view}
-use Rattle.endpoint.specs.Record.{recordSize, encode, decode, lengthsAt, blocksAt, heldLengthsAt, heldBlocksAt}
+use Rattle.endpoint.specs.View.{placeBlock, pack, view}
+use Rattle.endpoint.specs.Record.{recordSize, encode, decode}
 use Rattle.endpoint.specs.Sound.{sound}
-use Rattle.endpoint.proofs.Packs.{Long}
 use Rattle.endpoint.proofs.Sounds.{by-lt}
-use Rattle.endpoint.proofs.Record.{encode-decode}
 use Rattle.endpoint_places.specs.Internal.{carried, blockFrom, HandsUp}
 use Rattle.endpoint_plan.specs.Calls.{outcomeOf}
 use Rattle.endpoint_plan.specs.Internal.{PlansFor, Plans}
@@ -41,9 +36,11 @@ use Rattle.endpoint_plan.proofs.Messages.{accepted-frame}
 use Rattle.endpoint_plan.proofs.Ready.{accepted-by}
 use Rattle.endpoint_plan.proofs.Short.{five, up-short}
 use Rattle.endpoint_plan.proofs.Carries.{same, leaves, hands-up, stands, hands-is, sends, sends-is, is-turned-down, reserves, reserves-none}
-use Rattle.link.specs.declared.Answer.{Answer}
-use Rattle.link.specs.Record.{format}
-use Rattle.link.specs.Lent.{toldOf, statusOf, sentOf, answerOf, Called}
+use Rattle.lent_record.specs.declared.Answer.{Answer}
+use Rattle.lent_record.specs.Record.{format}
+use Rattle.lent_record.specs.Told.{toldOf, statusOf, sentOf, answerOf}
+use Rattle.lent_record.proofs.Told.{rewritten, decode-long}
+use Rattle.link.specs.Lent.{Called}
 
 -- the numbers of an endpoint that are told
 record SameNumbers (a : abstract.Endpoint) (e : Endpoint) : Type 0 where
@@ -51,28 +48,10 @@ record SameNumbers (a : abstract.Endpoint) (e : Endpoint) : Type 0 where
   local : a .local ≡ e .local
   remote : a .remote ≡ e .remote
 
--- the frame sent has room in its buffer, and stands at its start
-pub sent-fits : (d : List ℕ) (o : Outcome Step) {x : List ℕ} {n : ℕ} → x ≡ bufferAfter d o → length x ≡ length d → n ≡ sentOf o → n ≤ length d
-unfolding sentOf bufferAfter mapped left
-sent-fits d (refused k) e l h = omega arith
-sent-fits d (ok y) e l h = omega (arith, put-fits d (wire (y .sent)) e l)
-
-pub sent-taken : (d : List ℕ) (o : Outcome Step) {x : List ℕ} {n : ℕ} → x ≡ bufferAfter d o → n ≡ sentOf o → take n x ≡ wire (sentIn o)
-unfolding sentOf sentIn wire bufferAfter mapped left
-sent-taken d (refused k) e h = rw h refl
-sent-taken d (ok y) e h = taken d (wire (y .sent)) e h
-
 sent-is : (o : Outcome Step) → length (wire (sentIn o)) ≡ sentOf o
 unfolding sentIn wire sentOf
 sent-is (refused n) = refl
 sent-is (ok x) = refl
-
--- a record written over itself
-pub rewritten : (rec : List ℕ) → recordSize ≤ length rec → Octets rec → put rec 0 (encode (decode rec)) ≡ rec
-unfolding put
-rewritten rec long o =
-    let l : length (take recordSize rec) ≡ recordSize = length-take-le recordSize rec long in
-    rw (encode-decode rec o long, l) (take-append-drop recordSize rec)
 
 -- a refusal leaves all, and tells how the record stands
 pub turned-down : {o : Outcome Step} {n : ℕ} → o ≡ refused n → (c : Call) (rec s out up : List ℕ) {r : Answer} → r ≡ answerOf rec (refused n) → Called c o rec s out up rec out up r
@@ -103,17 +82,6 @@ pub received-same : {o : Outcome Step} {rec s out up rec′ out′ up′ : List 
 unfolding blockPart blockBufferAfter
 received-same c = record { answer = c .answer; end = c .end; buffer = c .buffer; block-buffer = refl; block = c .block }
 
--- what is told of a record as it stands: of a buffer that is too short for one nothing, else its numbers
-pub tells-short : (rec : List ℕ) (n : ℕ) → length rec < recordSize
-    → record { status = record { number = n; state = 0; notice = 0; local = 0; remote = 0 }; sent = 0; block = 0 } ≡ answerOf rec (refused n)
-unfolding answerOf statusOf toldOf sentOf blockOf noticeOf numberOf pack when
-tells-short rec n h = rw (lt-leb recordSize (length rec) h) refl
-
-pub tells : (rec : List ℕ) (n : ℕ) → recordSize ≤ length rec
-    → record { number = n; state = decode rec .state; notice = 0; local = decode rec .local; remote = decode rec .remote } ≡ statusOf rec (refused n)
-unfolding statusOf toldOf noticeOf numberOf when
-tells rec n h = rw (le-leb recordSize (length rec) h) refl
-
 pub too-short : (rec page : List ℕ) (c : Arguments) → length rec < recordSize → performed format rec page c ≡ refused 11
 unfolding performed refusing first when
 too-short rec page c h = rw (lt-leb recordSize (length rec) h) refl
@@ -133,28 +101,19 @@ module _ (rec : List ℕ) (long : recordSize ≤ length rec) where
   stored oc h (refused n) = ap (λ (x : Endpoint). put rec 0 (encode x)) h ∙ rewritten rec long oc
   stored oc h (ok x) = refl
 
-  pub decode-long : Long (decode rec)
-  unfolding decode
-  decode-long = record {
-    lengths = length-part rec lengthsAt queueSize (omega arith);
-    blocks = length-part rec blocksAt placesSize (omega arith);
-    held-lengths = length-part rec heldLengthsAt heldSize (omega arith);
-    held-blocks = length-part rec heldBlocksAt placesSize (omega arith);
-  }
-
   -- what a plan's store leaves of the page
   pub reserved : (page : List ℕ) (c : Arguments) {p : Plan} → Plans (decode rec) page c p → {page′ : List ℕ} → page′ ≡ ifEq (p .number) 0 (reserving (p .numbers .local) page) page
       → page′ ≡ pageAfter page (performed format rec page c)
   reserved page c {p} w h =
       rw (enough page c)
       (by-eq (p .number) 0
-      (λ z. reserves (decode rec) decode-long page c w z (h ∙ eq-yes _ _ _ _ z))
-      (λ z. h ∙ eq-no _ _ _ _ z ∙ reserves-none (decode rec) decode-long page c w z))
+      (λ z. reserves (decode rec) (decode-long rec long) page c w z (h ∙ eq-yes _ _ _ _ z))
+      (λ z. h ∙ eq-no _ _ _ _ z ∙ reserves-none (decode rec) (decode-long rec long) page c w z))
 
   -- A plan of a call that comes to o, with the block b.
   module _ (c : Call) (r : Rooms) (b : Block) (o : Outcome Step) {p : Plan} (w : PlansFor c r (decode rec) b o p) where
     pub refuses : p .number ≢ 0 → (out up : List ℕ) {a : Answer} → a ≡ answerOf rec (refused (p .number)) → Called c o rec b out up rec out up a
-    refuses z out up h = turned-down (is-turned-down (decode rec) decode-long c r b o w z) c rec b out up h
+    refuses z out up h = turned-down (is-turned-down (decode rec) (decode-long rec long) c r b o w z) c rec b out up h
 
     pub accepts : Octets rec → p .number ≡ 0 → {out out′ : List ℕ} {n : ℕ}
         → Sends (sentBy (p .reply) (blockOut (p .queue) b (placeBlock (decode rec .lengths) (decode rec .blocks) 0))) out out′ n
@@ -165,8 +124,8 @@ module _ (rec : List ℕ) (long : recordSize ≤ length rec) where
     unfolding answerOf statusOf view
     accepts oc z {out} s {u} h {rec′} er =
         let k = w .comes .endpoint in
-        let t = sends (decode rec) decode-long c r b o w s in
-        let g = rw (hands-up (decode rec) decode-long c r b o w) at h in
+        let t = sends (decode rec) (decode-long rec long) c r b o w s in
+        let g = rw (hands-up (decode rec) (decode-long rec long) c r b o w) at h in
         let st : p .numbers .state ≡ toldOf rec o .state = ap (λ (x : abstract.Endpoint). x .state) k ∙ told o .state in
         let lo : p .numbers .local ≡ toldOf rec o .local = ap (λ (x : abstract.Endpoint). x .local) k ∙ told o .local in
         let re : p .numbers .remote ≡ toldOf rec o .remote = ap (λ (x : abstract.Endpoint). x .remote) k ∙ told o .remote in
@@ -174,10 +133,10 @@ module _ (rec : List ℕ) (long : recordSize ≤ length rec) where
         let eu = hands-is c u o g in
         record {
           answer = λ i. record { status = record { number = nu i; state = st i; notice = w .comes .notice i; local = lo i; remote = re i }; sent = (t .count ∙ sent-is o) i; block = g .count i };
-          end = er ∙ ap (λ (x : Endpoint). put rec 0 (encode x)) (leaves (decode rec) decode-long c r b o w z) ∙ stored oc (same (decode rec) (w .is-sound z) decode-long) o;
+          end = er ∙ ap (λ (x : Endpoint). put rec 0 (encode x)) (leaves (decode rec) (decode-long rec long) c r b o w z) ∙ stored oc (same (decode rec) (w .is-sound z) (decode-long rec long)) o;
           buffer = sends-is out o t;
           block-buffer = eu;
-          block = ap₂ (λ (l : List ℕ) (j : ℕ). blockPart c b l j) eu (g .count) ∙ stands (decode rec) decode-long c r b o w u;
+          block = ap₂ (λ (l : List ℕ) (j : ℕ). blockPart c b l j) eu (g .count) ∙ stands (decode rec) (decode-long rec long) c r b o w u;
         }
 
 -- what a call of a record that is long enough comes to is what the call of its struct does

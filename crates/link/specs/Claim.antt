@@ -2,10 +2,8 @@
 use Prim.Native.Nat.{ℕ}
 use mathlib.Core.Path.{_≡_}
 use mathlib.Core.List.{List}
-use lib.ListN.{length}
 use Rattle.octets.specs.Test.{Outcome, ok}
 use Rattle.octets.specs.Octets.{Octets}
-use Rattle.page.specs.Page.{newPage}
 use Rattle.protocol.specs.Endpoint.{Endpoint}
 use Rattle.protocol.specs.Table.{Step}
 use Rattle.protocol.specs.History.{endpointLeft}
@@ -13,10 +11,8 @@ use Rattle.call_spec.specs.declared.Call.the-variants.{Receive}
 use Rattle.call_spec.specs.Calls.{Arguments, InOctets, Rooms, given, performed, recordAfter, pageAfter}
 use Rattle.call_spec.specs.Claim.{lent, Passes}
 use Rattle.call_spec.specs.Holding.{Holding}
-use Rattle.endpoint.specs.Record.{recordSize}
-use Rattle.link.specs.declared.Answer.{Answer}
-use Rattle.link.specs.Record.{format}
-use Rattle.link.specs.Lent.{lentAfter, Restarted, freshEnd}
+use Rattle.lent_record.specs.Record.{format}
+use Rattle.lent_record.specs.Told.{lentAfter}
 
 -- a record that holds a sound endpoint goes on holding one, and its page goes with it, whatever calls come
 abbrev pub GoesOn : Type 0
@@ -34,7 +30,3 @@ StaysSound =
 abbrev pub ReceivingStays : Type 0
 ReceivingStays =
     (rec page s : List ℕ) (r : Rooms) (o : Outcome Step) → performed format rec page (given Receive s r) ≡ o → pageAfter page o ≡ page
-
--- a restart on a new page, in a buffer of a record's size, leaves a fresh end
-abbrev pub RestartsFresh : List ℕ → List ℕ → List ℕ → Answer → Type 0
-RestartsFresh rec page rec′ r = Restarted rec page rec′ r → length rec ≡ recordSize → page ≡ newPage → lent rec′ page ≡ freshEnd

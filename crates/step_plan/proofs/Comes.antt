@@ -27,7 +27,7 @@ use Rattle.step_plan.specs.declared.Reply.{Reply}
 use Rattle.step_plan.specs.declared.Reply.the-variants.{Frame}
 use Rattle.step_plan.specs.declared.Plan.{Plan}
 use Rattle.step_plan.specs.declared.Places.{Places}
-use Rattle.step_plan.specs.declared.Places.the-variants.{Keep, Join, Release, Clear}
+use Rattle.step_plan.specs.declared.Places.the-variants.{Join}
 use Rattle.call_spec.specs.Answers.{noticeOf, sentIn, endpointAfter}
 use Rattle.step_plan.specs.Internal.{queueAfter, heldAfter, Room, HeldRoom, blockOut, sentBy, Known, Comes}
 use Rattle.step_plan.specs.Internal.{refusedPlan, keeping, leaving, clearing, emptying, deliveringNumbers, handing, turning, beginning, joining, holdingPlan, releasingPlan}

@@ -1,13 +1,11 @@
-use mathlib.Core.Path.{_≡_, sym, subst, ap, _∙_}
-use mathlib.Core.List.{List}
+use mathlib.Core.Path.{_≡_, sym, ap, _∙_}
 use denote.Ref.{now}
 use borrow.Author.Tests.{le-leb}
 use lib.ListN.{length}
 use Rattle.octets.specs.Sizes.{longestFrame}
-use Rattle.octets.specs.Test.{Outcome, when, refused}
+use Rattle.octets.specs.Test.{when, refused}
 use Rattle.octets.proofs.Test.{joined, said-yes, said-no}
 use Rattle.frame.specs.Read.{cutBlock}
-use Rattle.protocol.specs.Table.{Step}
 use Rattle.call_spec.specs.Calls.{Arguments, rooms, performed, pageAfter}
 use Rattle.call_spec.specs.Claim.{Lent, lent}
 use Rattle.call_spec.proofs.Sequence.{has-room}
@@ -15,9 +13,10 @@ use Rattle.endpoint.specs.View.{view}
 use Rattle.endpoint.specs.Record.{decode}
 use Rattle.endpoint_plan.specs.Internal.{Plans}
 use Rattle.endpoint_plan.proofs.Carries.{by-block, reservable}
-use Rattle.link.specs.Record.{format}
-use Rattle.link.specs.Lent.{Called, lentCall}
-use Rattle.link.proofs.Answers.{turned-down, page-unchanged, decode-long, reserved, called-by}
+use Rattle.lent_record.specs.Record.{format}
+use Rattle.link.specs.Lent.{lentCall}
+use Rattle.link.proofs.Answers.{turned-down, page-unchanged, reserved, called-by}
+use Rattle.lent_record.proofs.Told.{decode-long}
 use Rattle.bench_call.specs.Internal.{outcomeAt}
 use Rattle.bench_call.proofs.Moves.{by-plan}
 use native.Mathlib.Omega.{arith}

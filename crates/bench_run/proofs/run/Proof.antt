@@ -1,7 +1,7 @@
 use denote.Ref.{now}
 use native.Mathlib.Omega.{arith}
 use Rattle.call_spec.specs.Claim.{lent}
-use Rattle.link.proofs.Fresh.{end-fresh}
+use Rattle.lent_record.proofs.Fresh.{end-fresh}
 use Rattle.bench_spec.specs.Bench.{benchOf}
 use Rattle.bench_answer.specs.Text.{answerRoom}
 use Rattle.line_io.specs.Program.{Ran}

@@ -1,6 +1,6 @@
 use mathlib.Core.Path.{ap}
-use Rattle.link.specs.declared.Answer.{Answer}
-use Rattle.link.specs.Lent.{statusOf, answerOf}
+use Rattle.lent_record.specs.declared.Answer.{Answer}
+use Rattle.lent_record.specs.Told.{statusOf, answerOf}
 use borrow.Author.Needs.{needs}
 use Rattle.c_end.proofs.dock_restart.Statement.{statement}
 use Rattle.c_end.proofs.dock_restart.Tie as tie

@@ -1,7 +1,7 @@
 use Prim.Native.Nat.{ℕ, _+_, _-_, _≤_, _<_}
 use mathlib.Core.Path.{_≡_, ap, ap₂, sym, _∙_}
 use mathlib.Core.List.{List, _++_, append-nil}
-use lib.ListN.{length, take, drop, set, replicate, length-replicate, getD-replicate, drop-of-length-le}
+use lib.ListN.{length, take, set, replicate, length-replicate, getD-replicate, drop-of-length-le}
 use lib.Seq.{take-length}
 use denote.Ref.{now}
 use Rattle.octets.specs.Octets.{put}

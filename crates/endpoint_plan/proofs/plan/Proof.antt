@@ -1,7 +1,6 @@
 use Prim.Native.Nat.{ℕ}
-use mathlib.Core.Path.{_≡_, refl, sym, ap, _∙_}
+use mathlib.Core.Path.{_≡_, refl, ap, _∙_}
 use native.Mathlib.Omega.{arith}
-use Rattle.octets.specs.Test.{refused}
 use Rattle.protocol.specs.History.{perform}
 use Rattle.step_plan.specs.Internal.{refusedPlan}
 use Rattle.step_plan.proofs.Comes.{refuses}

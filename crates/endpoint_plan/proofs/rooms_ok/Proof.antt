@@ -1,4 +1,3 @@
-use mathlib.Core.Bool.{_&&_}
 use mathlib.Core.Path.{refl}
 use borrow.Author.Needs.{needs}
 use Rattle.endpoint_plan.proofs.rooms_ok.Statement.{statement}

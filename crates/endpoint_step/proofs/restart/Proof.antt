@@ -8,7 +8,7 @@ use Rattle.call_spec.specs.Calls.{wire}
 use Rattle.call_spec.specs.Answers.{blockIn}
 use Rattle.endpoint.specs.View.{pack}
 use Rattle.endpoint_step.specs.Calls.{stepAnswerOf}
-use Rattle.endpoint_plan.proofs.Ready.{restarts-short, restarts-wrong, restarts}
+use Rattle.call_spec.proofs.Restarting.{restarts-short, restarts-wrong, restarts}
 use borrow.Author.Needs.{needs}
 use Rattle.endpoint_step.proofs.restart.Statement.{statement}
 use Rattle.endpoint_step.proofs.restart.Tie as tie

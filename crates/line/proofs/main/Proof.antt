@@ -1,5 +1,5 @@
 use borrow.Author.Needs.{needs}
-use Rattle.link.proofs.Fresh.{all-unused}
+use Rattle.lent_record.proofs.Fresh.{all-unused}
 use Rattle.line.proofs.main.Statement.{statement}
 use Rattle.line.proofs.main.Tie as tie
 

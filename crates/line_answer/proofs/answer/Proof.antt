@@ -8,7 +8,7 @@ use Rattle.octets.specs.Sizes.{longestFrame}
 use Rattle.octets.specs.Test.{first}
 use Rattle.octets.specs.Octets.{Octets}
 use Rattle.hex.proofs.Asked.{Passed, passed, fits, reads}
-use Rattle.link.specs.Record.{recordQuestions}
+use Rattle.lent_record.specs.Record.{recordQuestions}
 use Rattle.line_answer.proofs.Lines.{asked-of, unready, asks-standing, line-asks, declined}
 use Rattle.line_answer.proofs.Ends.{refuses}
 use Rattle.line_answer.proofs.Standing.{standing-long, stands-there}

@@ -16,10 +16,12 @@ use Rattle.endpoint.specs.View.{view}
 use Rattle.endpoint.specs.Record.{decode}
 use Rattle.endpoint_plan.specs.Internal.{Plans}
 use Rattle.endpoint_plan.proofs.Carries.{by-block, reservable}
-use Rattle.link.specs.declared.Answer.{Answer}
-use Rattle.link.specs.Record.{format}
-use Rattle.link.specs.Lent.{answerOf, Called}
-use Rattle.link.proofs.Answers.{decode-long, reserved, at-record, part-long, sent-fits, block-short}
+use Rattle.lent_record.specs.declared.Answer.{Answer}
+use Rattle.lent_record.specs.Record.{format}
+use Rattle.lent_record.specs.Told.{answerOf}
+use Rattle.link.specs.Lent.{Called}
+use Rattle.lent_record.proofs.Told.{decode-long, sent-fits}
+use Rattle.link.proofs.Answers.{reserved, at-record, part-long, block-short}
 use Rattle.line_answer.specs.Line.{callIn, lineCall}
 use Rattle.line_answer.proofs.Lines.{Asked, asked-of}
 use Rattle.line_answer.proofs.Ends.{room, blockRoom, gives}

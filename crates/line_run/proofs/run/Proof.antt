@@ -2,8 +2,8 @@ use borrow.Author.Needs.{needs}
 use denote.Ref.{now}
 use native.Mathlib.Omega.{arith}
 use Rattle.call_spec.specs.Claim.{lent}
-use Rattle.link.specs.Lent.{freshEnd}
-use Rattle.link.proofs.Fresh.{end-fresh}
+use Rattle.lent_record.specs.Told.{freshEnd}
+use Rattle.lent_record.proofs.Fresh.{end-fresh}
 use Rattle.answer_text.specs.Text.{answerRoom}
 use Rattle.line_io.specs.Program.{Ran}
 use Rattle.line_io.proofs.Program.{ran-none, ran-more, ran-fits}

@@ -4,7 +4,8 @@ use Rattle.octets.specs.Octets.{Octets}
 use Rattle.call_spec.specs.Calls.{Rooms, rooms}
 use Rattle.endpoint.specs.Record.{decode}
 use Rattle.endpoint_plan.proofs.Carries.{sendable, ready-to, handy}
-use Rattle.link.proofs.Answers.{decode-long, refuses, accepts}
+use Rattle.lent_record.proofs.Told.{decode-long}
+use Rattle.link.proofs.Answers.{refuses, accepts}
 use native.Mathlib.Omega.{arith}
 use borrow.Author.Needs.{needs}
 use Rattle.link.proofs.finish.Statement.{statement}

@@ -1,5 +1,5 @@
 use Prim.Native.Nat.{_≤_}
-use mathlib.Core.Path.{_≡_, refl}
+use mathlib.Core.Path.{refl}
 use lib.ListN.{length}
 use denote.Ref.{now}
 use Rattle.call_spec.specs.declared.Call.the-variants.{Receive}
@@ -7,7 +7,8 @@ use Rattle.call_spec.specs.Calls.{Arguments}
 use Rattle.endpoint.specs.Record.{recordSize, decode}
 use Rattle.endpoint_plan.proofs.Carries.{by-block, received-reserved}
 use Rattle.link.specs.Lent.{lentCall}
-use Rattle.link.proofs.Answers.{turned-down, too-short, decode-long, at-record}
+use Rattle.link.proofs.Answers.{turned-down, too-short, at-record}
+use Rattle.lent_record.proofs.Told.{decode-long}
 use native.Mathlib.Omega.{arith}
 use borrow.Author.Needs.{needs}
 use Rattle.link.proofs.hear.Statement.{statement}

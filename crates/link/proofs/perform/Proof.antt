@@ -6,7 +6,8 @@ use Rattle.call_spec.specs.Calls.{Arguments}
 use Rattle.endpoint.specs.Record.{recordSize, decode}
 use Rattle.endpoint_plan.proofs.Carries.{by-block, reservable}
 use Rattle.link.specs.Lent.{lentCall}
-use Rattle.link.proofs.Answers.{turned-down, too-short, decode-long, page-unchanged, reserved, called-by}
+use Rattle.link.proofs.Answers.{turned-down, too-short, page-unchanged, reserved, called-by}
+use Rattle.lent_record.proofs.Told.{decode-long}
 use native.Mathlib.Omega.{arith}
 use borrow.Author.Needs.{needs}
 use Rattle.link.proofs.perform.Statement.{statement}

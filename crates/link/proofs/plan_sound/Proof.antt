@@ -2,7 +2,7 @@ use denote.Ref.{now}
 use Rattle.octets.specs.Test.{refusing}
 use Rattle.endpoint.specs.Record.{decode}
 use Rattle.endpoint_plan.proofs.Carries.{plannable, plans-any}
-use Rattle.link.proofs.Answers.{decode-long}
+use Rattle.lent_record.proofs.Told.{decode-long}
 use borrow.Author.Needs.{needs}
 use Rattle.link.proofs.plan_sound.Statement.{statement}
 use Rattle.link.proofs.plan_sound.Tie as tie

@@ -4,14 +4,14 @@ use mathlib.Core.List.{[]}
 use lib.ListN.{length}
 use denote.Ref.{now}
 use Rattle.octets.specs.Test.{Outcome}
-use Rattle.frame.specs.Frame.{Block}
 use Rattle.protocol.specs.Table.{Step}
 use Rattle.call_spec.specs.declared.Call.the-variants.{Receive}
 use Rattle.call_spec.specs.Calls.{rooms}
 use Rattle.call_spec.specs.Answers.{noticeOf}
 use Rattle.step_plan.specs.Internal.{blockBy}
-use Rattle.link.specs.declared.Answer.{Answer}
-use Rattle.link.specs.Lent.{statusOf, answerOf, lentOutcome}
+use Rattle.lent_record.specs.declared.Answer.{Answer}
+use Rattle.lent_record.specs.Told.{statusOf, answerOf}
+use Rattle.link.specs.Lent.{lentOutcome}
 use Rattle.link.proofs.Answers.{with-block, received-same, of-block, hands-it-up}
 use borrow.Author.Needs.{needs}
 use Rattle.link.proofs.receive.Statement.{statement}

@@ -1,5 +1,4 @@
-use Prim.Native.Nat.{ℕ, _≤_}
-use mathlib.Core.Path.{_≡_}
+use Prim.Native.Nat.{_≤_}
 use lib.ListN.{length}
 use denote.Ref.{now}
 use Rattle.octets.specs.Sizes.{longestBlock}
@@ -7,7 +6,6 @@ use Rattle.frame.specs.Frame.{Block}
 use Rattle.step_plan.specs.declared.Places.{Places}
 use Rattle.step_plan.specs.declared.Places.the-variants.{Keep, Join, Release, Clear}
 use Rattle.step_plan.specs.Internal.{blockOut}
-use native.Mathlib.Omega.{arith}
 use borrow.Author.Needs.{needs}
 use Rattle.step_plan.proofs.send_reply.Statement.{statement}
 use Rattle.step_plan.proofs.send_reply.Tie as tie

@@ -12,7 +12,7 @@ use Rattle.frame.specs.Answer.{headerOf, frameOf}
 use Rattle.protocol.specs.declared.Rule.{Rule}
 use Rattle.protocol.specs.declared.Rule.the-variants.{HandUp, Hold, Release}
 use Rattle.protocol.specs.Endpoint.{closed, listening, activeOpening, passiveOpening, established}
-use Rattle.protocol.specs.Table.{none, connected, rejected, closedByPartner, closeFinished, handedUp, noticeNumber, says, delivering, apply}
+use Rattle.protocol.specs.Table.{none, connected, rejected, closedByPartner, closeFinished, noticeNumber, says, apply}
 use Rattle.protocol.proofs.Sound.{length-at}
 use Rattle.step_rules.specs.Internal.{holding}
 use Rattle.step_plan.specs.declared.Reply.the-variants.{Nothing, Frame}

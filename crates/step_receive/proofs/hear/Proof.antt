@@ -1,4 +1,3 @@
-use mathlib.Core.Path.{sym}
 use Rattle.protocol.specs.Table.{step}
 use Rattle.protocol.specs.History.{perform}
 use borrow.Author.Needs.{needs}

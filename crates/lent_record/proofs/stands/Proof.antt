@@ -1,9 +1,9 @@
 use mathlib.Core.Path.{_∙_}
 use denote.Ref.{now}
-use Rattle.link.proofs.Standing.{tells-standing}
+use Rattle.lent_record.proofs.Standing.{tells-standing}
 use borrow.Author.Needs.{needs}
-use Rattle.link.proofs.stands.Statement.{statement}
-use Rattle.link.proofs.stands.Tie as tie
+use Rattle.lent_record.proofs.stands.Statement.{statement}
+use Rattle.lent_record.proofs.stands.Tie as tie
 
 returns : tie.Need-returns
 returns c = let s = c .before .before in c .tell .ensures ∙ tells-standing (now (s .args .rec)) (s .pre)

@@ -16,12 +16,12 @@ use Rattle.call_spec.specs.Claim.{lent}
 use Rattle.call_spec.proofs.Holding.{long}
 use Rattle.call_spec.proofs.Lift.{restart-comes}
 use Rattle.endpoint.specs.Record.{recordSize}
-use Rattle.link.specs.declared.Answer.{Answer}
-use Rattle.link.specs.Record.{format}
-use Rattle.link.specs.Lent.{freshRecord}
-use Rattle.link.specs.Claim.{RestartsFresh}
-use Rattle.link.proofs.Demand.{lawful}
-use Rattle.link.proofs.Stays.{fresh-holding}
+use Rattle.lent_record.specs.declared.Answer.{Answer}
+use Rattle.lent_record.specs.Record.{format}
+use Rattle.lent_record.specs.Told.{freshRecord}
+use Rattle.lent_record.specs.Claim.{RestartsFresh}
+use Rattle.lent_record.proofs.Lawful.{lawful}
+use Rattle.lent_record.proofs.Holds.{fresh-holding}
 
 comes-fresh : (rec : List ℕ) → length rec ≡ recordSize → restartedIn format rec newPage ≡ ok (quiet fresh none)
 unfolding restartedIn refusing first when

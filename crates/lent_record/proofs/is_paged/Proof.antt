@@ -5,8 +5,8 @@ use Rattle.step_rules.specs.declared.Numbers.{Numbers}
 use Rattle.endpoint.specs.View.{view}
 use Rattle.endpoint.specs.Record.{decode}
 use borrow.Author.Needs.{needs}
-use Rattle.link.proofs.is_paged.Statement.{statement}
-use Rattle.link.proofs.is_paged.Tie as tie
+use Rattle.lent_record.proofs.is_paged.Statement.{statement}
+use Rattle.lent_record.proofs.is_paged.Tie as tie
 
 returns : tie.Need-returns
 unfolding view decode

@@ -1,7 +1,7 @@
 use borrow.Author.Needs.{needs}
 use Rattle.octets.proofs.Test.{ladder}
-use Rattle.link.proofs.ready.Statement.{statement}
-use Rattle.link.proofs.ready.Tie as tie
+use Rattle.lent_record.proofs.ready.Statement.{statement}
+use Rattle.lent_record.proofs.ready.Tie as tie
 
 pub ready-spec : {M : Type 1} → statement M
 ready-spec =

@@ -2,11 +2,11 @@ use mathlib.Core.Path.{ap}
 use denote.Ref.{now}
 use Rattle.call_spec.specs.declared.Status.{Status}
 use Rattle.call_spec.specs.Answers.{blockOf}
-use Rattle.link.specs.Lent.{sentOf, answerOf}
-use Rattle.link.proofs.Answers.{tells-short}
+use Rattle.lent_record.specs.Told.{sentOf, answerOf}
+use Rattle.lent_record.proofs.Told.{tells-short}
 use borrow.Author.Needs.{needs}
-use Rattle.link.proofs.refuse.Statement.{statement}
-use Rattle.link.proofs.refuse.Tie as tie
+use Rattle.lent_record.proofs.refuse.Statement.{statement}
+use Rattle.lent_record.proofs.refuse.Tie as tie
 
 returns : tie.Need-returns
 returns c = let a = c .before .before .args in tells-short (now (a .rec)) (a .number) (c .if1 .taken)

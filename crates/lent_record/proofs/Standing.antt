@@ -14,9 +14,9 @@ use Rattle.call_spec.specs.Holding.{Holding}
 use Rattle.call_spec.proofs.Holding.{keeps, written}
 use Rattle.endpoint.specs.View.{pack, view}
 use Rattle.endpoint.specs.Record.{recordSize}
-use Rattle.link.specs.Record.{format}
-use Rattle.link.specs.Lent.{toldOf, statusOf, stands}
-use Rattle.link.proofs.Demand.{lawful}
+use Rattle.lent_record.specs.Record.{format}
+use Rattle.lent_record.specs.Told.{toldOf, statusOf, stands}
+use Rattle.lent_record.proofs.Lawful.{lawful}
 
 -- a refusal by no number tells as much as how the end stands
 pub tells-standing : (rec : List ℕ) → recordSize ≤ length rec → statusOf rec (refused 0) ≡ statusOf rec (ok (stands rec))

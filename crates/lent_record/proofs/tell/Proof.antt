@@ -1,10 +1,10 @@
 use mathlib.Core.Path.{_∙_}
 use denote.Ref.{now}
 use Rattle.endpoint.specs.Record.{decode}
-use Rattle.link.proofs.Answers.{tells}
+use Rattle.lent_record.proofs.Told.{tells}
 use borrow.Author.Needs.{needs}
-use Rattle.link.proofs.tell.Statement.{statement}
-use Rattle.link.proofs.tell.Tie as tie
+use Rattle.lent_record.proofs.tell.Statement.{statement}
+use Rattle.lent_record.proofs.tell.Tie as tie
 
 returns : tie.Need-returns
 unfolding decode

@@ -16,11 +16,11 @@ use Rattle.call_spec.specs.Answers.{noticeOf, blockIn, blockOf}
 use Rattle.endpoint.specs.declared.Endpoint.{Endpoint}
 use Rattle.endpoint.specs.View.{pack}
 use Rattle.endpoint.specs.Record.{recordSize, encode}
-use Rattle.endpoint_plan.proofs.Ready.{restarts-short, restarts-wrong}
-use Rattle.endpoint_plan.proofs.Ready as ready
-use Rattle.link.specs.declared.Answer.{Answer}
-use Rattle.link.specs.Record.{format}
-use Rattle.link.specs.Lent.{toldOf, statusOf, sentOf, answerOf, Restarted}
+use Rattle.call_spec.proofs.Restarting.{restarts-short, restarts-wrong}
+use Rattle.call_spec.proofs.Restarting as ready
+use Rattle.lent_record.specs.declared.Answer.{Answer}
+use Rattle.lent_record.specs.Record.{format}
+use Rattle.lent_record.specs.Told.{toldOf, statusOf, sentOf, answerOf, Restarted}
 
 module _ (rec page : List ℕ) where
   pub restart-refused : {n : ℕ} → restartedIn format rec page ≡ refused n → {r : Answer} → r ≡ answerOf rec (refused n) → Restarted rec page rec r

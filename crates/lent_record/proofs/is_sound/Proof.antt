@@ -1,7 +1,7 @@
 use Rattle.endpoint.specs.Record.{decode}
 use borrow.Author.Needs.{needs}
-use Rattle.link.proofs.is_sound.Statement.{statement}
-use Rattle.link.proofs.is_sound.Tie as tie
+use Rattle.lent_record.proofs.is_sound.Statement.{statement}
+use Rattle.lent_record.proofs.is_sound.Tie as tie
 
 returns : tie.Need-returns
 unfolding decode

@@ -4,9 +4,9 @@ use native.Mathlib.Omega.{arith}
 use denote.Ref.{now}
 use borrow.Author.Tests.{not-true, not-false}
 use Rattle.endpoint.specs.Record.{encode}
-use Rattle.link.proofs.Restarts.{restart-refused, short-record, short-page, wrong-page, restarts}
-use Rattle.link.proofs.restart.Statement.{statement}
-use Rattle.link.proofs.restart.Tie as tie
+use Rattle.lent_record.proofs.Restarts.{restart-refused, short-record, short-page, wrong-page, restarts}
+use Rattle.lent_record.proofs.restart.Statement.{statement}
+use Rattle.lent_record.proofs.restart.Tie as tie
 
 returns : tie.Need-returns
 returns c =
