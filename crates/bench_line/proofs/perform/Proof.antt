@@ -49,7 +49,7 @@ octets q = take (measured q .length-in .result) (seen q .read .last .1 .0)
 fits : (c : tie.After-length-in) → c .length-in .result ≤ longestFrame
 fits c =
     let r = c .before .before .read in
-    let line = now (c .before .before .before .before .before .before .before .before .before .before .before .before .args .line) in
+    let z : tie.Start = search in let line = now (z .args .line) in
     in-room line (replicate longestFrame 0) refl (r .ensures .1) (r .ensures .0) (c .length-in .ensures) (search needs)
 
 slice-aggregate-octets : tie.Need-slice-aggregate-octets

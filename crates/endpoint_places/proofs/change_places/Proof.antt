@@ -18,13 +18,17 @@ leaves : (c : tie.Start) {k : ℕ} → c .args .places ≡ Release k → (k ≤ 
 leaves c h = rw h at (c .pre)
 
 mul-copy : tie.Need-mul-copy
-mul-copy c = let s = c .before .before .before .before .before .before in omega (arith, joins s (c .before .before .places .given .1))
+mul-copy c = let s : tie.Start = search in omega (arith, joins s (c .before .before .places .given .1))
 
 copy-requires : tie.Need-copy-requires
-copy-requires c κs = joins (c .before .before .before .before .before .before) (c .before .before .places .given .1)
+copy-requires c κs =
+    let s : tie.Start = search in
+    joins s (c .before .before .places .given .1)
 
 drop-front-requires : tie.Need-drop-front-requires
-drop-front-requires c κs = leaves (c .before .before .before .before .before .before) (c .before .before .places2 .given .1)
+drop-front-requires c κs =
+    let s : tie.Start = search in
+    leaves s (c .before .before .places2 .given .1)
 
 returns : tie.Need-returns
 unfolding placesAfter
@@ -32,15 +36,21 @@ returns c = rw (c .enum-told .given .1) refl
 
 returns-2 : tie.Need-returns-2
 unfolding placesAfter
-returns-2 c = rw (c .before .before .before .before .before .places .given .1) (c .before .before .copy .ensures)
+returns-2 c =
+    let at-places : tie.After-places = search in
+    rw (at-places .places .given .1) (c .before .before .copy .ensures)
 
 returns-3 : tie.Need-returns-3
 unfolding placesAfter
-returns-3 c = rw (c .before .before .before .before .before .places2 .given .1) (c .before .before .drop-front .ensures)
+returns-3 c =
+    let at-places2 : tie.After-places2 = search in
+    rw (at-places2 .places2 .given .1) (c .before .before .drop-front .ensures)
 
 returns-4 : tie.Need-returns-4
 unfolding placesAfter
-returns-4 c = rw (c .before .before .before .before .enum-told2 .given .1) (c .before .before .clear .ensures)
+returns-4 c =
+    let at-enum-told2 : tie.After-enum-told2 = search in
+    rw (at-enum-told2 .enum-told2 .given .1) (c .before .before .clear .ensures)
 
 pub change-places-spec : {M : Type 1} → statement M
 change-places-spec =

@@ -15,17 +15,24 @@ use Rattle.endpoint_places.proofs.collect.Tie as tie
 
 returns : tie.Need-returns
 unfolding blockBy handedTo
-returns c = rw (eq-no _ _ _ _ (c .if1 .taken)) (record { count = refl; octets = put-none (now (c .before .before .before .before .args .up)) 0 })
+returns c =
+    let z : tie.Start = search in
+    rw (eq-no _ _ _ _ (c .if1 .taken)) (record { count = refl; octets = put-none (now (z .args .up)) 0 })
 
 copy-requires : tie.Need-copy-requires
-copy-requires c κs = omega (arith, c .before .before .before .before .before .before .before .before .pre .1 (c .before .before .before .before .if1 .left), c .before .before .wide .ensures .0)
+copy-requires c κs =
+    let z : tie.Start = search in
+    let else1 : tie.Else1 = search in
+    omega (arith, z .pre .1 (else1 .if1 .left), c .before .before .wide .ensures .0)
 
 returns-2 : tie.Need-returns-2
 unfolding blockBy handedTo placeBlock
 returns-2 c =
-    let s = c .before .before .before .before .before .before .before .before .before .before .before in
-    let w = c .before .before .before .before .before .wide .ensures .0 in
-    let five = c .before .before .before .before .before .before .before .if1 .left in
+    let at-wide : tie.After-wide = search in
+    let else1 : tie.Else1 = search in
+    let s : tie.Start = search in
+    let w = at-wide .wide .ensures .0 in
+    let five = else1 .if1 .left in
     rw (eq-yes _ _ _ _ five)
     (record {
       count = w ∙ sym (length-take-le (getD (now (s .args .lengths)) 0 0) (now (s .args .blocks)) (omega (arith, s .pre .1 five .0, s .pre .0 .0)));

@@ -24,16 +24,18 @@ mul-copy : tie.Need-mul-copy
 mul-copy c = omega (arith, to (c .before .before .before))
 
 slice-aggregate-copy : tie.Need-slice-aggregate-copy
-slice-aggregate-copy c = sym (length-take-le _ _ (c .before .before .before .before .pre .0 .0))
+slice-aggregate-copy c =
+    let z : tie.Start = search in
+    sym (length-take-le _ _ (z .pre .0 .0))
 
 copy-requires : tie.Need-copy-requires
 copy-requires c κs =
-    let s = c .before .before .before .before in
+    let s : tie.Start = search in
     omega (arith, within (s .args .to) (s .args .width) (s .pre .1 .1), length-take-le {A = ℕ} (s .args .width) (replicate longestBlock 0) (s .pre .0 .0))
 
 returns : tie.Need-returns
 returns c =
-    let s = c .before .before .before .before .before .before .before in
+    let s : tie.Start = search in
     let a = s .args in
     c .before .before .copy .ensures
     ∙ ap (λ (b : List ℕ). put (now (a .d)) (a .to * a .width) b)
@@ -47,23 +49,26 @@ add-copy c = omega (arith, from (c .before .before .before) (omega arith))
 
 part-copy-end : tie.Need-part-copy-end
 part-copy-end c =
-    let s = c .before .before .before .before in
+    let s : tie.Start = search in
     omega (arith, within (s .args .from) (s .args .width) (omega arith))
 
 mul-copy-2 : tie.Need-mul-copy-2
-mul-copy-2 c = omega (arith, to (c .before .before .before .before .before .before .before .before))
+mul-copy-2 c =
+    let s : tie.Start = search in
+    omega (arith, to s)
 
 slice-aggregate-copy-3 : tie.Need-slice-aggregate-copy-3
 slice-aggregate-copy-3 c = sym (length-take-le _ _ (omega arith))
 
 copy-requires-3 : tie.Need-copy-requires-3
 copy-requires-3 c κs =
-    let s = c .before .before .before .before .before .before .before .before .before in
+    let s : tie.Start = search in
     omega (arith, within (s .args .to) (s .args .width) (s .pre .1 .1), length-take-le (s .args .width) (c .before .before .before .copy2 .last .0) (omega arith))
 
 returns-2 : tie.Need-returns-2
 returns-2 c =
-    let s = c .before .before .before .before .before .before .before .before .before .before .before .before in
+    let at-copy2 : tie.After-copy2 = search in
+    let s : tie.Start = search in
     let a = s .args in
     let at : ℕ = a .from * a .width in
     let l : length (drop at (now (a .d))) ≡ length (now (a .d)) - at = length-drop at (now (a .d)) in
@@ -71,7 +76,7 @@ returns-2 c =
     let h : a .from < queueSize = omega arith in
     let part : List ℕ = take (at + a .width - at) (drop at (now (a .d))) in
     let p : part ≡ take (a .width) (drop at (now (a .d))) = ap (λ (k : ℕ). take k (drop at (now (a .d)))) n in
-    let w = c .before .before .before .before .before .before .copy2 in
+    let w = at-copy2 .copy2 in
     let b : take (a .width) (w .last .0) ≡ part =
     taken (replicate longestBlock 0) part (w .ensures)
     (sym (length-take-le (at + a .width - at) (drop at (now (a .d))) (omega (arith, within (a .from) (a .width) h)) ∙ n)) in

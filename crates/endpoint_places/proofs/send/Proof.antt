@@ -6,7 +6,9 @@ use Rattle.endpoint_places.proofs.send.Tie as tie
 
 returns : tie.Need-returns
 unfolding placeBlock
-returns c = rw (c .before .before .before .before .before .wide .ensures .0, sub-zero) at (c .before .before .send-reply .ensures)
+returns c =
+    let at-wide : tie.After-wide = search in
+    rw (at-wide .wide .ensures .0, sub-zero) at (c .before .before .send-reply .ensures)
 
 pub send-spec : {M : Type 1} → statement M
 send-spec =

@@ -18,7 +18,8 @@ returns c = rw (restarts-short (now (c .before .before .before .args .page)) (c 
 
 returns-2 : tie.Need-returns-2
 returns-2 c =
-    rw (restarts-wrong (now (c .before .before .before .before .before .args .page)) (c .before .before .before .if1 .left) (sym (c .before .before .is-run .ensures) ∙ not-true (c .before .before .is-run .result) (c .before .if2 .taken)))
+    let z : tie.Start = search in
+    rw (restarts-wrong (now (z .args .page)) (c .before .before .before .if1 .left) (sym (c .before .before .is-run .ensures) ∙ not-true (c .before .before .is-run .result) (c .before .if2 .taken)))
     (c .unchanged2 .ensures)
 
 restarted-requires : tie.Need-restarted-requires
@@ -27,9 +28,11 @@ restarted-requires c κs = c .count-used .ensures .0
 returns-3 : tie.Need-returns-3
 unfolding stepAnswerOf noticeNumber wire blockIn
 returns-3 c =
+    let z : tie.Start = search in
+    let else1 : tie.Else1 = search in
     let r = sym (c .before .before .before .is-run .ensures) ∙ not-false (c .before .before .before .is-run .result) (c .before .before .if2 .left) in
     let e = c .restarted .ensures ∙ ap (λ (n : ℕ). pack (restarted n)) (c .before .count-used .ensures .1 r) in
-    rw (restarts (now (c .before .before .before .before .before .before .args .page)) (c .before .before .before .before .if1 .left) r)
+    rw (restarts (now (z .args .page)) (else1 .if1 .left) r)
     (λ i. record { number = 0; endpoint = e i; notice = 0; sent = 0; block = 0 })
 
 pub restart-spec : {M : Type 1} → statement M

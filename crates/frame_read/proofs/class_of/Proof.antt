@@ -8,11 +8,15 @@ use Rattle.frame_read.proofs.class_of.Tie as tie
 
 returns-2 : tie.Need-returns-2
 unfolding kindOf
-returns-2 c = class-frame (kindOf (now (c .before .before .before .before .args .s))) (omega arith) (omega arith)
+returns-2 c =
+    let z : tie.Start = search in
+    class-frame (kindOf (now (z .args .s))) (omega arith) (omega arith)
 
 returns-3 : tie.Need-returns-3
 unfolding kindOf
-returns-3 c = class-request (kindOf (now (c .before .before .before .before .before .before .args .s))) (omega arith) (omega arith)
+returns-3 c =
+    let z : tie.Start = search in
+    class-request (kindOf (now (z .args .s))) (omega arith) (omega arith)
 
 returns-4 : tie.Need-returns-4
 unfolding kindOf
@@ -20,11 +24,15 @@ returns-4 c = class-low (kindOf (now (c .before .before .before .args .s))) (ome
 
 returns-5 : tie.Need-returns-5
 unfolding kindOf
-returns-5 c = class-middle (kindOf (now (c .before .before .before .before .before .args .s))) (omega arith) (omega arith)
+returns-5 c =
+    let z : tie.Start = search in
+    class-middle (kindOf (now (z .args .s))) (omega arith) (omega arith)
 
 returns-6 : tie.Need-returns-6
 unfolding kindOf
-returns-6 c = class-high (kindOf (now (c .before .before .before .before .before .before .args .s))) (omega arith)
+returns-6 c =
+    let z : tie.Start = search in
+    class-high (kindOf (now (z .args .s))) (omega arith)
 
 pub class-of-spec : {M : Type 1} → statement M
 class-of-spec =

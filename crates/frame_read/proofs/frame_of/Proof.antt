@@ -15,8 +15,11 @@ use Rattle.frame_read.proofs.frame_of.Tie as tie
 says : (c : tie.Start) → Numbered (now (c .args .rest)) (c .args .kind)
 says c = numbered (now (c .args .rest)) (c .args .kind) (c .pre .0)
 
+abbrev start-of : tie.After-numbers-ok → tie.Start
+start-of c = search
+
 -- what was loaded, and the answer of question 7
-seven : (c : tie.After-numbers-ok) → (let s : tie.Start = c .before .before .before .before .before in c .numbers-ok .result ≡ readable (frameAt (s .args .kind) (now (s .args .rest))))
+seven : (c : tie.After-numbers-ok) → c .numbers-ok .result ≡ readable (frameAt (start-of c .args .kind) (now (start-of c .args .rest)))
 unfolding readable frameAt
 seven c =
     let s : tie.Start = search in
@@ -38,5 +41,5 @@ pub frame-of-spec : {M : Type 1} → statement M
 unfolding when meant mapped
 frame-of-spec =
     tie.close
-    (tie.spec (λ c κs. let s = c .before in omega (arith, says s .two, s .pre .1)) (λ c κs. let s = c .before .before in omega (arith, says s .two, s .pre .1))
+    (tie.spec (λ c κs. let s = c .before in omega (arith, says s .two, s .pre .1)) (λ c κs. let s : tie.Start = search in omega (arith, says s .two, s .pre .1))
     (λ c κs. search needs) (λ c κs. search needs) (λ c. rw (sym (seven (c .before)) ∙ not-true (c .before .numbers-ok .result) (c .if1 .taken)) refl) returns-2)

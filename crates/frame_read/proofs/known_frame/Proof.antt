@@ -22,8 +22,8 @@ unfolding isFrame inRange meant mapped
 known-frame-spec =
     tie.close
     (tie.spec (λ c κs. let s = c .before in omega (arith, frame-range (s .args .kind) (s .pre)))
-    (λ c. let s = c .before .before .before in ap (mapped frame) (frame-refused (s .args .kind) (now (s .args .rest)) (s .pre) (c .before .size-refusal .ensures) (c .if1 .taken)))
-    (λ c κs. let s = c .before .before .before .before in let e : s .args .kind ≡ DATA = omega arith in (refl, rw e at (numbers-there (s .args .kind) (length (now (s .args .rest))) (all-yes 4 _ _ (whole (c .before)) tt .0))))
-    (λ c. let s = c .before .before .before .before .before in let e : s .args .kind ≡ DATA = omega arith in rw e (c .frame-of .ensures ∙ sym (ap (mapped frame) (frame-numbers DATA (now (s .args .rest)) refl (rw e at (whole (c .before .before)))))))
-    (λ c κs. let s = c .before .before .before .before in (s .pre, numbers-there (s .args .kind) (length (now (s .args .rest))) (all-yes 4 _ _ (whole (c .before)) tt .0)))
-    (λ c. let s = c .before .before .before .before .before in c .frame-of2 .ensures ∙ sym (ap (mapped frame) (frame-numbers (s .args .kind) (now (s .args .rest)) (s .pre) (whole (c .before .before))))))
+    (λ c. let s : tie.Start = search in ap (mapped frame) (frame-refused (s .args .kind) (now (s .args .rest)) (s .pre) (c .before .size-refusal .ensures) (c .if1 .taken)))
+    (λ c κs. let s : tie.Start = search in let e : s .args .kind ≡ DATA = omega arith in (refl, rw e at (numbers-there (s .args .kind) (length (now (s .args .rest))) (all-yes 4 _ _ (whole (c .before)) tt .0))))
+    (λ c. let s : tie.Start = search in let e : s .args .kind ≡ DATA = omega arith in rw e (c .frame-of .ensures ∙ sym (ap (mapped frame) (frame-numbers DATA (now (s .args .rest)) refl (rw e at (whole (c .before .before)))))))
+    (λ c κs. let s : tie.Start = search in (s .pre, numbers-there (s .args .kind) (length (now (s .args .rest))) (all-yes 4 _ _ (whole (c .before)) tt .0)))
+    (λ c. let s : tie.Start = search in c .frame-of2 .ensures ∙ sym (ap (mapped frame) (frame-numbers (s .args .kind) (now (s .args .rest)) (s .pre) (whole (c .before .before))))))

@@ -16,10 +16,10 @@ unfolding meant mapped
 known-request-spec =
     tie.close
     (tie.spec (λ c κs. let s = c .before in omega (arith, request-range (s .args .kind) (s .pre)))
-    (λ c. let s = c .before .before .before in ap (mapped request) (request-refused (s .args .kind) (now (s .args .rest)) (s .pre) (c .before .size-refusal .ensures) (c .if1 .taken)))
+    (λ c. let s : tie.Start = search in ap (mapped request) (request-refused (s .args .kind) (now (s .args .rest)) (s .pre) (c .before .size-refusal .ensures) (c .if1 .taken)))
     (λ c κs. search needs)
     (λ c.
-    let s = c .before .before .before .before in
+    let s : tie.Start = search in
     let k = s .args .kind in
     let r = now (s .args .rest) in
     ap (λ (q : Request). ok (request q)) (c .request-of .ensures r)

@@ -11,7 +11,7 @@ use Rattle.lent_record.proofs.is_paged.Tie as tie
 returns : tie.Need-returns
 unfolding view decode
 returns c =
-    let p = now (c .before .before .before .before .args .page) in
+    let z : tie.Start = search in let p = now (z .args .page) in
     c .goes-with .ensures ∙ ap (λ (n : Numbers). goesWith (n .local) p) (c .before .load-numbers .ensures)
 
 pub is-paged-spec : {M : Type 1} → statement M

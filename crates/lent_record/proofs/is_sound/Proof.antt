@@ -5,7 +5,9 @@ use Rattle.lent_record.proofs.is_sound.Tie as tie
 
 returns : tie.Need-returns
 unfolding decode
-returns c = rw (c .before .before .before .before .before .load-numbers .ensures) at (c .is-sound .ensures)
+returns c =
+    let at-load-numbers : tie.After-load-numbers = search in
+    rw (at-load-numbers .load-numbers .ensures) at (c .is-sound .ensures)
 
 pub is-sound-spec : {M : Type 1} → statement M
 is-sound-spec =

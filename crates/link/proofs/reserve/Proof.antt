@@ -10,7 +10,9 @@ returns : tie.Need-returns
 returns c = let s : tie.Start = search in (sym (eq-no _ _ _ _ (c .if1 .taken)), omega (arith, none-left (s .args .p) (c .if1 .taken)))
 
 reserve-requires : tie.Need-reserve-requires
-reserve-requires c κs = c .before .before .before .before .pre (c .before .if1 .left)
+reserve-requires c κs =
+    let z : tie.Start = search in
+    z .pre (c .before .if1 .left)
 
 returns-2 : tie.Need-returns-2
 returns-2 c =

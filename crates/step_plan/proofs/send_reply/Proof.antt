@@ -23,7 +23,9 @@ write-requires c κs =
     (s .pre .0, (search needs, rw (c .before .block-out .ensures) (short (s .args .p .queue) (now (s .args .joined)) (now (s .args .oldest)) (s .pre .1 .1 .1) (s .pre .1 .1 .0))))
 
 returns : tie.Need-returns
-returns c = rw (c .before .before .before .before .block-out .ensures) at (c .before .before .write .ensures)
+returns c =
+    let at-block-out : tie.After-block-out = search in
+    rw (at-block-out .block-out .ensures) at (c .before .before .write .ensures)
 
 pub send-reply-spec : {M : Type 1} → statement M
 send-reply-spec = tie.close (tie.spec (λ c κs. search needs) write-requires (λ c. search needs) returns)

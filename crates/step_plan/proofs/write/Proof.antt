@@ -16,7 +16,9 @@ returns c = let s : tie.Start = search in rw (c .enum-told .given .1) (record { 
 
 returns-2 : tie.Need-returns-2
 unfolding sentBy wire
-returns-2 c = let w = c .before .before .write .ensures in rw (c .before .before .before .before .before .reply .given .1) (record { count = w .count; octets = w .octets })
+returns-2 c =
+    let at-reply : tie.After-reply = search in
+    let w = c .before .before .write .ensures in rw (at-reply .reply .given .1) (record { count = w .count; octets = w .octets })
 
 pub write-spec : {M : Type 1} → statement M
 write-spec =

@@ -25,10 +25,12 @@ returns-2 c = λ b q h old w _ lz.
 
 returns-3 : tie.Need-returns-3
 unfolding noticeNumber sentBy isFrame inRange ifEq when
-returns-3 c = λ b q h old w _ lz.
+returns-3 c =
+    let else1 : tie.Else1 = search in
+    λ b q h old w _ lz.
     let s : tie.Start = search in let a = s .args in
     turns (a .n) q h b old w _ lz (s .pre) 5 (a .n .remote) none (Frame (headerOf DR (a .n .local) (a .n .remote) 0)) refl
-    (close-heard (holding (a .n) q h) (c .before .before .before .before .if1 .left) (c .before .before .if2 .left)) (rw (c .before .say .ensures) at (c .turn2 .ensures))
+    (close-heard (holding (a .n) q h) (else1 .if1 .left) (c .before .before .if2 .left)) (rw (c .before .say .ensures) at (c .turn2 .ensures))
 
 pub close-spec : {M : Type 1} → statement M
 close-spec =

@@ -37,9 +37,11 @@ returns-3 c = λ z b q h old w o _.
 
 returns-4 : tie.Need-returns-4
 unfolding noticeNumber resent sentBy isFrame inRange ifEq when
-returns-4 c = λ z b q h old w o _.
+returns-4 c =
+    let then3 : tie.Then3 = search in
+    λ z b q h old w o _.
     let s : tie.Start = search in let n = s .args .n in
-    keeps n q h b old w none (Frame (headerOf DATA (n .local) (n .remote) (n .accepted - n .waiting))) refl (timer-says (holding n q h) _ (resent-oldest (holding n q h) (c .before .before .before .before .before .before .if3 .taken) ∙ oldest-is (holding n q h) q old o (omega arith) ∙ rw w refl)) (rw (c .before .say3 .ensures) at (c .keep4 .ensures))
+    keeps n q h b old w none (Frame (headerOf DATA (n .local) (n .remote) (n .accepted - n .waiting))) refl (timer-says (holding n q h) _ (resent-oldest (holding n q h) (then3 .if3 .taken) ∙ oldest-is (holding n q h) q old o (omega arith) ∙ rw w refl)) (rw (c .before .say3 .ensures) at (c .keep4 .ensures))
 
 returns-5 : tie.Need-returns-5
 unfolding noticeNumber resent sentBy isFrame inRange ifEq when

@@ -9,14 +9,14 @@ use Rattle.step_rules.proofs.data_row.Tie as tie
 returns-3 : tie.Need-returns-3
 unfolding dataRow
 returns-3 c = λ q s b h.
-    let a = c .before .before .before .before .before .before .before .before .before .args in
+    let z : tie.Start = search in let a = z .args in
     let near : a .f .number < a .e .delivered + heldSize = omega arith in
     search picks
 
 returns-4 : tie.Need-returns-4
 unfolding dataRow
 returns-4 c = λ q s b h.
-    let a = c .before .before .before .before .before .before .before .before .before .args in
+    let z : tie.Start = search in let a = z .args in
     let far : a .e .delivered + heldSize ≤ a .f .number = omega arith in
     search picks
 
