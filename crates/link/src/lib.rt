@@ -37,8 +37,8 @@ pub fn plan_sound(call: Call, rec: &[u8], s: &[u8]) -> Plan
     requires { ⌜ (recordSize ≤ length (now rec)) × (format .sound (now rec) ≡ true) ⌝ }
     ensures { λ r. ⌜ PlansAny (decode (now (rec .entry))) call (now (s .entry)) r ⌝ }
 {
-    let m = endpoint_plan::read(call, s);
     let n = endpoint::load_numbers(rec);
+    let m = endpoint_plan::read(call, s);
     endpoint_plan::plan(m, n, &rec[HELD_LENGTHS_AT..HELD_BLOCKS_AT])
 }
 
