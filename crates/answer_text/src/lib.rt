@@ -1,4 +1,6 @@
 // The text of an answer: one line, then the frame sent, if there is one.
+#![tactic(auto)]
+
 ghost use Rattle.std.specs.Prelude.{◌+◌, ◌*◌, ◌≤◌, length};
 ghost use Rattle.octets.specs.Sizes.{longest_frame, longest_block};
 ghost use Rattle.answer_text.specs.Text.{as_line, answer_octets, answer_line, text_of, longest_answer, answer_room, StartsWith};

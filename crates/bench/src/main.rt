@@ -1,4 +1,6 @@
 // The bench program: lends bench_run two new pages, an empty log and its buffers.
+#![tactic(auto)]
+
 fn main() {
     let mut a = [0u8; lent_record::RECORD_SIZE];
     let mut b = [0u8; lent_record::RECORD_SIZE];

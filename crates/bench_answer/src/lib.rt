@@ -1,4 +1,6 @@
 // The bench asked by lines of text: a line and its answer.
+#![tactic(auto)]
+
 ghost use Rattle.std.specs.Prelude.{◌≡◌, ◌++◌, ◌≤◌, length, take};
 ghost use Rattle.octets.specs.Sizes.{longest_frame, longest_block};
 ghost use Rattle.answer_text.specs.Text.{text_of, StartsWith};

@@ -1,4 +1,6 @@
 // An order at one end of the bench: a call with question 14, the frame sent in the log, and what is told; a restart; a refusal.
+#![tactic(auto)]
+
 ghost use Rattle.std.specs.Prelude.{◌≡◌, ◌≤◌, ◌<◌, ◌≢◌, length, take};
 ghost use Rattle.octets.specs.Sizes.{longest_frame};
 ghost use Rattle.octets.specs.Test.{Outcome};

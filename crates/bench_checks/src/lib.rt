@@ -1,4 +1,6 @@
 // Questions 11, 12 and 15 of all that is lent to the bench.
+#![tactic(auto)]
+
 ghost use Rattle.std.specs.Prelude.{◌≡◌, true, ◌≤◌, length};
 ghost use Rattle.octets.specs.Sizes.{page_size};
 ghost use Rattle.octets.specs.Test.{when, first};

@@ -1,4 +1,6 @@
 // The bench: two ends, every frame ever sent, and lines that say what happens next.
+#![tactic(auto)]
+
 ghost use Rattle.std.specs.Prelude.{◌≡◌};
 ghost use Rattle.call_spec.specs.Claim.{lent};
 ghost use Rattle.bench_spec.specs.Bench.{Bench, bench_of};

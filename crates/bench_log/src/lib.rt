@@ -1,4 +1,6 @@
 // The log of sent frames, in 512 places of 80 octets.
+#![tactic(auto)]
+
 ghost use Rattle.std.specs.Prelude.{◌≡◌, ◌*◌, ◌≤◌, ◌<◌, length};
 ghost use Rattle.octets.specs.Sizes.{longest_frame};
 ghost use Rattle.octets.specs.Octets.{put};

@@ -1,4 +1,6 @@
 // What a bench line orders, and all questions up to 13 of it, decided with values: nothing is stored.
+#![tactic(auto)]
+
 ghost use Rattle.std.specs.Prelude.{◌≡◌, ◌≤◌, length};
 ghost use Rattle.bench_spec.specs.Bench.{restart_order, order_of, end_restarted};
 ghost use Rattle.bench_order.specs.Internal.{found, Findable, unless, end_for, EndKnown};

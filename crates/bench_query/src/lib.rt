@@ -1,4 +1,6 @@
 // The question of the bench: the first frame in the log whose delivery now would be accepted and change the receiver's record.
+#![tactic(auto)]
+
 ghost use Rattle.std.specs.Prelude.{◌≡◌, true, List, ℕ, ◌≤◌, length};
 ghost use Rattle.endpoint.specs.Record.{record_size};
 ghost use Rattle.octets.specs.Sizes.{longest_frame, longest_block, page_size};

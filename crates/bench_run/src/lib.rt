@@ -1,4 +1,6 @@
 // The bench program but for its start: two ends and every frame ever sent, asked by lines of standard input, answered on standard output.
+#![tactic(auto)]
+
 ghost use Rattle.std.specs.Prelude.{◌≡◌, ◌<◌, length};
 ghost use Rattle.call_spec.specs.Claim.{lent};
 ghost use Rattle.bench_spec.specs.Bench.{Bench, bench_of};

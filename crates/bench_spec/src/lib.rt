@@ -1,4 +1,5 @@
 // The bench: definitions, and demand 3 about its runs. No function.
+#![tactic(auto)]
 
 // What the octets of a line order: a request at an end, the delivery of a frame by its number, the restart of an end, or nothing, by the number of
 // the refusal. A is 0, B is 1.

@@ -1,1 +1,2 @@
 // The walk through the log: definitions and theorems, no function.
+#![tactic(auto)]

@@ -1,4 +1,6 @@
 // The bench line for C, on numbers and byte buffers alone; include/dock.h declares it.
+#![tactic(auto)]
+
 ghost use Rattle.call_spec.specs.Claim.{lent};
 ghost use Rattle.bench_spec.specs.Bench.{Bench, bench_of};
 ghost use Rattle.bench_line.specs.Performed.{LinePerformed};

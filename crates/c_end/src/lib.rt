@@ -1,6 +1,8 @@
 // The calls of an end for C, on numbers and byte buffers alone; include/dock.h declares them. Each makes one call of `link` and stores
 // what it answers in the numbers lent. The bench's calls are objects of their own in the same library: what the compiler finds called
 // from both it compiles into neither, and each would be slower.
+#![tactic(auto)]
+
 ghost use Rattle.std.specs.Prelude.{◌≡◌, []};
 ghost use Rattle.octets.specs.Test.{number_of};
 ghost use Rattle.frame.specs.Read.{cut_block};

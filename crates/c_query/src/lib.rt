@@ -1,4 +1,6 @@
 // The question of the bench for C, on numbers and byte buffers alone; include/dock.h declares it.
+#![tactic(auto)]
+
 ghost use Rattle.bench_spec.specs.Bench.{bench_of};
 ghost use Rattle.call_spec.specs.Claim.{lent};
 ghost use Rattle.c_query.specs.Answers.{FrameNamed};

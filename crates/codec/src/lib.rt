@@ -1,4 +1,6 @@
 // The codec in numbers and byte slices, for the comparison with the reference alone: no part of the library for C.
+#![tactic(auto)]
+
 ghost use Rattle.std.specs.Prelude.{◌≡◌};
 ghost use Rattle.octets.specs.Octets.{left};
 ghost use Rattle.octets.specs.Test.{number_of};

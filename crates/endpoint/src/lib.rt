@@ -1,4 +1,6 @@
 // The record of one end of a connection: a struct, question 12, and its octets.
+#![tactic(auto)]
+
 ghost use Rattle.std.specs.Prelude.{◌≡◌, ◌&&◌, ◌+◌, ◌-◌, ◌≤◌, ◌<◌, length, take, drop};
 ghost use Rattle.octets.specs.Sizes.{longest_block, queue_size, held_size, last_number, page_size};
 ghost use Rattle.octets.specs.Test.{when, zeros};

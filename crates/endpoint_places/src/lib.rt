@@ -1,4 +1,6 @@
 // The places of blocks in a record, of those that wait and of those held: what a plan makes of them, what it sends from them, and what it hands up.
+#![tactic(auto)]
+
 ghost use Rattle.std.specs.Prelude.{◌≡◌, true, ◌++◌, ◌+◌, ◌*◌, ◌≤◌, ◌<◌, length, get_or, take, drop, replicate};
 ghost use Rattle.octets.specs.Sizes.{longest_frame, longest_block, queue_size, held_size};
 ghost use Rattle.octets.specs.Octets.{put};

@@ -1,5 +1,7 @@
 // The plan of a call of an end: the questions that come before its octets are read, the message that they are read as, and what the message comes to. Nothing
 // is stored.
+#![tactic(auto)]
+
 ghost use Rattle.std.specs.Prelude.{◌≡◌, [], ◌∷◌, length};
 ghost use Rattle.octets.specs.Sizes.{queue_size, held_size};
 ghost use Rattle.octets.specs.Test.{first, refusing};

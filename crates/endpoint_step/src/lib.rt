@@ -1,5 +1,7 @@
 // The calls of one end of a connection by value: those of its user, the timer call, and receiving. A call is planned first, and nothing is stored
 // before its plan stands; then its frame is sent and the record changed.
+#![tactic(auto)]
+
 ghost use Rattle.std.specs.Prelude.{◌≡◌, length};
 ghost use Rattle.octets.specs.Sizes.{longest_block};
 ghost use Rattle.octets.specs.Test.{Outcome, refused};

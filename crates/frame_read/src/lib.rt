@@ -1,4 +1,6 @@
 // Reading octets as a frame or a request, questions 3 to 7, and cutting off its block.
+#![tactic(auto)]
+
 ghost use Rattle.std.specs.Prelude.{◌≡◌, List, [], ◌∷◌, true, ℕ, ◌+◌, ◌-◌, ◌≤◌, leb, eqb, length, drop, get_or};
 ghost use Rattle.octets.specs.Test.{when, first, refused, ok, mapped};
 ghost use Rattle.frame.specs.Frame.{Frame};

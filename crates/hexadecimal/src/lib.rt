@@ -1,4 +1,6 @@
 // A line of text and the octets that it stands for.
+#![tactic(auto)]
+
 ghost use Rattle.std.specs.Prelude.{◌≡◌, true, ◌*◌, ◌/◌, ◌%◌, ◌≤◌, ◌<◌, length};
 ghost use Rattle.octets.specs.Octets.{put, left};
 ghost use Rattle.hexadecimal.specs.Line.{digit, is_digit, value, hex, unhex, all, length_ok, read_into, line_of};

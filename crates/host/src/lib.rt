@@ -1,4 +1,6 @@
 // A host's own record, lent to one thin call that updates it.
+#![tactic(auto)]
+
 ghost use Rattle.std.specs.Prelude.{◌≡◌, length};
 ghost use Rattle.call_spec.specs.Calls.{given, rooms};
 ghost use Rattle.endpoint_step.specs.Calls.{Advances};

@@ -1,4 +1,6 @@
 // A host that holds its end's record as a struct, beside its page: document 01's run, each call lending both, with a block that comes early; then a restart.
+#![tactic(auto)]
+
 ghost use Rattle.std.specs.Prelude.{◌≡◌, ◌≤◌, length};
 ghost use Rattle.octets.specs.Sizes.{longest_frame, longest_block};
 ghost use Rattle.octets.specs.Test.{Outcome};

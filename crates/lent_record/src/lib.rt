@@ -1,4 +1,6 @@
 // An end's record of 1,058 octets where it lies, beside its page of 4,096: the questions that are asked of both, how the end stands, a refusal, and a restart.
+#![tactic(auto)]
+
 ghost use Rattle.std.specs.Prelude.{◌≡◌, ◌≤◌, length};
 ghost use Rattle.octets.specs.Sizes.{page_size};
 ghost use Rattle.octets.specs.Test.{first, refused, ok};

@@ -1,4 +1,6 @@
 // The line program: lends line_run a new page and its buffers.
+#![tactic(auto)]
+
 fn main() {
     let mut rec = [0u8; lent_record::RECORD_SIZE];
     let mut page = [page::UNUSED; octets::PAGE_SIZE];

@@ -1,4 +1,6 @@
 // One end asked by lines of text: a line and its answer.
+#![tactic(auto)]
+
 ghost use Rattle.std.specs.Prelude.{◌≡◌, ◌≤◌, length};
 ghost use Rattle.octets.specs.Sizes.{longest_frame};
 ghost use Rattle.octets.specs.Test.{first, refused};

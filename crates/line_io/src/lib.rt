@@ -1,4 +1,6 @@
 // Lines of text from standard input, and text to standard output, through buffers: all of a program but its answers.
+#![tactic(auto)]
+
 ghost use Rattle.std.specs.Prelude.{◌≡◌, ◌+◌, ◌≤◌, ◌<◌, length, take};
 ghost use Rattle.octets.specs.Test.{when};
 ghost use Rattle.line_split.specs.Split.{longest_kept};

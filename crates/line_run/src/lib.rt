@@ -1,4 +1,6 @@
 // The line program but for its start: one end, asked by lines of standard input, answered on standard output.
+#![tactic(auto)]
+
 ghost use Rattle.std.specs.Prelude.{◌≡◌, ◌<◌, length};
 ghost use Rattle.page.specs.Page.{new_page};
 ghost use Rattle.call_spec.specs.Claim.{lent};

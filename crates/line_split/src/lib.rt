@@ -1,4 +1,6 @@
 // Lines in a stream of text: where one ends, and one that comes in pieces.
+#![tactic(auto)]
+
 ghost use Rattle.std.specs.Prelude.{◌≡◌, ◌≤◌, length};
 ghost use Rattle.line_split.specs.Lines.{line_length, Kept};
 

@@ -1,6 +1,8 @@
 // The calls of an end on lent buffers: its record of 1,058 octets, its page of 4,096, a request or a frame, room for a frame out, and a request's
 // room for a block. A call is planned first, and nothing is stored; then come its stores, in this order: one octet of the page at most, by
 // page::reserve, which stores nothing else; the frame out, the block, the record, the numbers told.
+#![tactic(auto)]
+
 ghost use Rattle.std.specs.Prelude.{◌≡◌, true, [], ◌+◌, ◌*◌, ◌≤◌, length};
 ghost use Rattle.octets.specs.Sizes.{page_size, numbers_each, last_incarnation};
 ghost use Rattle.octets.specs.Test.{if_eq, Outcome};

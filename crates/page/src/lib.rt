@@ -1,4 +1,6 @@
 // The page of an end, on which the numbers that it has used survive a loss of power: question 15, and the one store of a call.
+#![tactic(auto)]
+
 ghost use Rattle.std.specs.Prelude.{◌≡◌, true, ◌&&◌, ◌+◌, ◌*◌, ◌≤◌, length, eqb};
 ghost use Rattle.octets.specs.Sizes.{page_size, numbers_each, last_incarnation};
 ghost use Rattle.page.specs.Page.{unused, only, runs, count, goes_with, reserving};

@@ -1,4 +1,6 @@
 // The effects of the step table, by name. specs/Table.antt says which row has which effect, and what each effect is.
+#![tactic(auto)]
+
 #[derive(Drop)]
 pub enum Rule {
     Ignore,

@@ -1,4 +1,6 @@
 // What a call of an end comes to, planned from the numbers of its record and the lengths of its held blocks. Whoever holds the record carries the plan out.
+#![tactic(auto)]
+
 ghost use Rattle.std.specs.Prelude.{◌≡◌, ◌-◌, ◌≤◌, ◌<◌, length, get_or};
 ghost use Rattle.octets.specs.Sizes.{longest_frame, longest_block, queue_size, held_size, last_number, last_incarnation};
 ghost use Rattle.octets.specs.Test.{if_eq};

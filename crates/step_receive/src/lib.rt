@@ -1,4 +1,6 @@
 // Receiving a frame, planned from the numbers of a record and the lengths of its held blocks.
+#![tactic(auto)]
+
 ghost use Rattle.std.specs.Prelude.{◌≡◌, ◌≤◌, ◌<◌, length};
 ghost use Rattle.octets.specs.Sizes.{longest_block, held_size, last_number};
 ghost use Rattle.octets.specs.Test.{ok};

@@ -1,4 +1,6 @@
 // Requests and the timer call, planned from the numbers of a record and the lengths of its held blocks.
+#![tactic(auto)]
+
 ghost use Rattle.std.specs.Prelude.{◌≡◌, ℕ, ◌≤◌, ◌<◌, List, [], ◌∷◌, ltb, eqb, length, get_or};
 ghost use Rattle.octets.specs.Sizes.{longest_block, held_size, last_number};
 ghost use Rattle.octets.specs.Test.{first};

@@ -1,4 +1,6 @@
 // Which row of the step table applies to a frame: the rules in code, one function for a state.
+#![tactic(auto)]
+
 ghost use Rattle.std.specs.Prelude.{◌≡◌, ◌≤◌};
 ghost use Rattle.octets.specs.Test.{if_eq, if_lt};
 ghost use Rattle.protocol.specs.Table.{when_closed, when_listening, when_active, when_passive, data_row, ack_row, open_rows, when_established, when_closing, rule};

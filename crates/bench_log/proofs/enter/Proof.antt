@@ -10,10 +10,10 @@ returns : tie.Need-returns
 returns c =
     let s : tie.Start = search in
     let m3 : tie.After-copy = search in
-    let m2 : tie.After-store82 = search in
+    let m2 : tie.After-store8-2 = search in
     let m1 : tie.After-store8 = search in
     let a = s.args in
-    entered a.log.now a.frame.now (a.n * place_size) a.sender s.pre.1.1 (omega (arith, s.pre)) m1.store8.ensures m2.store82.ensures m3.copy.ensures c.before.before.copy2.ensures
+    entered a.log.now a.frame.now (a.n * place_size) a.sender s.requires.1.1 (omega (arith, s.requires)) m1.store8.ensures m2.store8-2.ensures m3.copy.ensures c.before.before.copy-2.ensures
 
 pub enter_spec : {M : Type 1} → statement M
 enter_spec =

@@ -7,7 +7,7 @@ use borrow.Author.Rules.{rules}
 use Rattle.bench_log.proofs.frame_of.Statement.{statement}
 use Rattle.bench_log.proofs.frame_of.Tie as tie
 
-part-result-end : tie.Need-slice-bounds-result-end
+part-result-end : tie.Need-slice_bounds-result-end
 unfolding length_at
 part-result-end c = omega (arith, c.wide.ensures.0, c.before.before.before.requires.1.1)
 

@@ -7,10 +7,10 @@ use borrow.Author.Rules.{rules}
 use Rattle.frame_read.proofs.after.Statement.{statement}
 use Rattle.frame_read.proofs.after.Tie as tie
 
-returns : tie.Need-returns
+returns : tie.Need-returns-then-s-n
 returns c = let s : tie.Start = search in sym (drop_of_length-le s.args.s.now {i = s.args.n} (omega arith))
 
-returns-2 : tie.Need-returns-2
+returns-2 : tie.Need-returns
 returns-2 c =
     let s : tie.Start = search in
     let d = s.args.s.now in

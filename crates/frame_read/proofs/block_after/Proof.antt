@@ -10,15 +10,15 @@ use borrow.Author.Rules.{rules}
 use Rattle.frame_read.proofs.block_after.Statement.{statement}
 use Rattle.frame_read.proofs.block_after.Tie as tie
 
-returns : tie.Need-returns
+returns : tie.Need-returns-in-8
 unfolding block_at has_block numbers_size layout size if_eq when
 returns c = let s : tie.Start = search in let e : s.args.kind ≡ DATA = omega arith in rw e c.after.ensures
 
-returns-2 : tie.Need-returns-2
+returns-2 : tie.Need-returns-in-68
 unfolding block_at has_block numbers_size layout size if_eq when
-returns-2 c = let s : tie.Start = search in let e : s.args.kind ≡ SEND = omega arith in rw e c.after2.ensures
+returns-2 c = let s : tie.Start = search in let e : s.args.kind ≡ SEND = omega arith in rw e c.after-in-68.ensures
 
-returns-3 : tie.Need-returns-3
+returns-3 : tie.Need-returns-in_default
 unfolding block_at when
 returns-3 c = let s : tie.Start = search in rw (no_block s.args.kind (λ e. omega arith) (λ e. omega arith)) refl
 

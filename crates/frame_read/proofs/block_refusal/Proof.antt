@@ -8,14 +8,14 @@ use Rattle.octets.proofs.Test.{ladder}
 use Rattle.frame_read.proofs.block_refusal.Statement.{statement}
 use Rattle.frame_read.proofs.block_refusal.Tie as tie
 
-returns-3 : tie.Need-returns-3
+returns-3 : tie.Need-returns-then-rest-size-2
 returns-3 c =
     let s : tie.Start = search in
     let r = s.args.rest.now in
     let other : length r ≢ s.args.size + get_or r (s.args.size - 1) 0 = λ e. omega arith in
     search ladder
 
-returns-4 : tie.Need-returns-4
+returns-4 : tie.Need-returns
 returns-4 c =
     let s : tie.Start = search in
     let r = s.args.rest.now in

@@ -5,29 +5,29 @@ use borrow.Author.Rules.{rules}
 use Rattle.frame_read.proofs.class_of.Statement.{statement}
 use Rattle.frame_read.proofs.class_of.Tie as tie
 
-returns-2 : tie.Need-returns-2
+returns-2 : tie.Need-returns-in-1-to-9
 unfolding kind_of
 returns-2 c =
     let z : tie.Start = search in
     class_frame (kind_of z.args.s.now) (omega arith) (omega arith)
 
-returns-3 : tie.Need-returns-3
+returns-3 : tie.Need-returns-in-64-to-70
 unfolding kind_of
 returns-3 c =
     let z : tie.Start = search in
     class_request (kind_of z.args.s.now) (omega arith) (omega arith)
 
-returns-4 : tie.Need-returns-4
+returns-4 : tie.Need-returns-in_default
 unfolding kind_of
 returns-4 c = class_low (kind_of c.before.before.before.args.s.now) (omega arith)
 
-returns-5 : tie.Need-returns-5
+returns-5 : tie.Need-returns-in_default-2
 unfolding kind_of
 returns-5 c =
     let z : tie.Start = search in
     class_middle (kind_of z.args.s.now) (omega arith) (omega arith)
 
-returns-6 : tie.Need-returns-6
+returns-6 : tie.Need-returns-in_default-3
 unfolding kind_of
 returns-6 c =
     let z : tie.Start = search in

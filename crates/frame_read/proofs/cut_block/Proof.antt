@@ -17,12 +17,12 @@ unfolding cut_block block_at kind_of has_block when
 none [] h = refl
 none (x ∷ d) h = absurd (omega arith)
 
-returns : tie.Need-returns
+returns : tie.Need-returns-then-s-eq0
 returns c = let s : tie.Start = search in none s.args.s.now (omega arith)
 
-returns-2 : tie.Need-returns-2
+returns-2 : tie.Need-returns
 unfolding cut_block kind_of
-returns-2 c = let s : tie.Start = search in rw (rest_is s.args.s.now) at c.block-after.ensures
+returns-2 c = let s : tie.Start = search in rw (rest_is s.args.s.now) at c.block_after.ensures
 
 pub cut_block_spec : {M : Type 1} → statement M
 cut_block_spec =

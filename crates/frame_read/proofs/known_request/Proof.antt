@@ -15,11 +15,11 @@ unfolding meant mapped
 known_request_spec =
     tie.close
     (tie.spec (λ c κs. let s = c.before in omega (arith, request_range s.args.kind s.requires))
-    (λ c. let s : tie.Start = search in ap (mapped request) (request-refused s.args.kind s.args.rest.now s.pre c.before.size-refusal.ensures c.if1.true))
+    (λ c. let s : tie.Start = search in ap (mapped request) (request-refused s.args.kind s.args.rest.now s.requires c.before.size_refusal-refusal.ensures c.if-refusal-ne0.true))
     (λ c κs. search rules)
     (λ c.
     let s : tie.Start = search in
     let k = s.args.kind in
     let r = s.args.rest.now in
-    ap (λ (q : Request). ok (request q)) (c.request-of.ensures r)
-    ∙ sym (ap (mapped request) (request_read k r s.pre (request_no_frame k s.pre) (sym c.before.before.size-refusal.ensures ∙ c.before.if1.false)))))
+    ap (λ (q : Request). ok (request q)) (c.request_of.ensures r)
+    ∙ sym (ap (mapped request) (request_read k r s.requires (request_no_frame k s.requires) (sym c.before.before.size_refusal-refusal.ensures ∙ c.before.if-refusal-ne0.false)))))

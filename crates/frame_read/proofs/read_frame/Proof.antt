@@ -14,13 +14,13 @@ use Rattle.frame_read.proofs.read_frame.Statement.{statement}
 use Rattle.frame_read.proofs.read_frame.Tie as tie
 
 -- the kind is known, and so it is there
-abbrev start-of : tie.After-enum-told → tie.Start
+abbrev start-of : tie.In-Frame → tie.Start
 start-of c = search
 
-is : (c : tie.After-enum-told) → is_frame (kind_of (start-of c).args.s.now) ≡ true
-is c = of_frame (kind_of (start-of c).args.s.now) (sym c.before.before.class_of.ensures ∙ c.enum_told.given.1)
+is : (c : tie.In-Frame) → is_frame (kind_of (start-of c).args.s.now) ≡ true
+is c = of_frame (kind_of (start-of c).args.s.now) (sym c.before.before.class_of-class.ensures ∙ c.in-Frame.is)
 
-there : (c : tie.After-enum-told) → 1 ≤ length (start-of c).args.s.now
+there : (c : tie.In-Frame) → 1 ≤ length (start-of c).args.s.now
 there c = let s = (start-of c).args.s.now in some s (omega (arith, frame_range (kind_of s) (is c)))
 
 pub read_frame_spec : {M : Type 1} → statement M
@@ -29,6 +29,6 @@ read_frame_spec =
     tie.close
     (tie.spec (λ c κs. search rules) (λ c. search rules) (λ c. omega (arith, there c.before)) (λ c. omega (arith, there c.before))
     (λ c. omega (arith, there c.before)) (λ c. search rules) (λ c κs. is c.before.before) (λ c. search rules) (λ c. search rules)
-    (λ c. let z : tie.Start = search in let s = z.args.s.now in rw (rest_is s) at c.known-frame.ensures)
-    (λ c. let z : tie.Start = search in let s = z.args.s.now in ap (mapped frame) (unknown_frame s (of_request (kind_of s) (sym c.before.before.class_of.ensures ∙ c.enum-told2.given.1)).0))
-    (λ c. let z : tie.Start = search in let s = z.args.s.now in ap (mapped frame) (unknown_frame s (of_unknown (kind_of s) (sym c.before.before.class_of.ensures ∙ c.enum-told3.given.1)).0)))
+    (λ c. let z : tie.Start = search in let s = z.args.s.now in rw (rest_is s) at c.known_frame.ensures)
+    (λ c. let z : tie.Start = search in let s = z.args.s.now in ap (mapped frame) (unknown_frame s (of_request (kind_of s) (sym c.before.before.class_of-class.ensures ∙ c.in-Request.is)).0))
+    (λ c. let z : tie.Start = search in let s = z.args.s.now in ap (mapped frame) (unknown_frame s (of_unknown (kind_of s) (sym c.before.before.class_of-class.ensures ∙ c.in-Unknown.is)).0)))

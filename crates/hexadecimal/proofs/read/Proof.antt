@@ -10,16 +10,16 @@ use borrow.Author.Rules.{rules}
 use Rattle.hexadecimal.proofs.read.Statement.{statement}
 use Rattle.hexadecimal.proofs.read.Tie as tie
 
-returns : tie.Need-returns
+returns : tie.Need-returns-then-out-lt-LONGEST_FRAME
 returns c =
     let s : tie.Start = search in
     let short : length s.args.out.now < longest_frame = omega arith in
     refuses _ _ 10 (search ladder)
 
-returns-2 : tie.Need-returns-2
+returns-2 : tie.Need-returns-then-not-length_ok
 returns-2 c = refuses _ _ 0 (search ladder)
 
-returns-3 : tie.Need-returns-3
+returns-3 : tie.Need-returns-then-not-all_digits
 returns-3 c = refuses _ _ 1 (search ladder)
 
 decode-requires : tie.Need-decode-requires
@@ -28,7 +28,7 @@ decode-requires c κs =
     let r = right_length (length s.args.line.now) (search ladder) in
     (search ladder, (r.even, omega (arith, r.most)))
 
-returns-4 : tie.Need-returns-4
+returns-4 : tie.Need-returns
 returns-4 c =
     let s : tie.Start = search in
     let t = s.args.line.now in

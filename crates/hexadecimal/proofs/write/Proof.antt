@@ -12,29 +12,29 @@ use native.Mathlib.Omega.{arith}
 use Rattle.hexadecimal.proofs.write.Statement.{statement}
 use Rattle.hexadecimal.proofs.write.Tie as tie
 
-abbrev invariant-loop : tie.invariant-loop
+abbrev invariant-loop : tie.invariant-loop-i
 invariant-loop s out₀ i₀ out i = (i ≤ length s) × ((length out ≡ length out₀) × (out ≡ put out₀ 0 (hex (take i s))))
 
-abbrev decreases-loop : tie.decreases-loop
+abbrev decreases-loop : tie.decreases-loop-i
 decreases-loop s out₀ i₀ out i = length s - i
 
-loop-holds : tie.Need-loop-init invariant-loop decreases-loop
+loop-holds : tie.Need-loop-i-init invariant-loop decreases-loop
 unfolding hex
 loop-holds c = (search rules, (search rules, put-none c.before.before.args.out.now 0))
 
-loop-again : tie.Need-loop-preserved invariant-loop decreases-loop
+loop-again : tie.Need-loop-i-preserved invariant-loop decreases-loop
 loop-again c =
     let l = c.before.before.before in
     let a = l.before.before.before.args in
     let s = a.s.now in
-    let i = l.loop.i in
+    let i = l.loop-i.i in
     let t : length (take i s) ≡ i = length-take-le i s (omega arith) in
     let n : length (hex (take i s)) ≡ 2 * i = length-hex (take i s) ∙ ap (λ (k : ℕ). 2 * k) t in
     let e : 2 * i + 1 ≡ suc (2 * i) = omega arith in (
       search rules,
       (
         simp length-set (omega arith),
-        rw (l.loop.invariant.1.1, c.to-digits.ensures.0, c.to-digits.ensures.1, e, hex-more s i (omega arith))
+        rw (l.loop-i.invariant.1.1, c.to_digits-digits.ensures.0, c.to_digits-digits.ensures.1, e, hex-more s i (omega arith))
             (front_more a.out.now (hex (take i s)) (digit (get_or s i 0 / 16) ∷ digit (get_or s i 0 % 16) ∷ []) (2 * i) n (omega arith)),
       ),
     )
@@ -43,8 +43,8 @@ returns : tie.Need-returns invariant-loop decreases-loop
 returns c =
     let l = c.before in
     let s = l.before.before.before.args.s.now in
-    let e : l.loop.i ≡ length s = omega arith in
-    rw (e, take-length) at l.loop.invariant.1.1
+    let e : l.loop-i.i ≡ length s = omega arith in
+    rw (e, take-length) at l.loop-i.invariant.1.1
 
 pub write_spec : {M : Type 1} → statement M
 write_spec =

@@ -8,26 +8,26 @@ use native.Mathlib.Omega.{arith}
 use Rattle.line_split.proofs.line_length.Statement.{statement}
 use Rattle.line_split.proofs.line_length.Tie as tie
 
-abbrev invariant-loop : tie.invariant-loop
+abbrev invariant-loop : tie.invariant-loop-i
 invariant-loop s i₀ i = (i ≤ length s) × (line_length s ≡ i + line_length (drop i s))
 
-abbrev decreases-loop : tie.decreases-loop
+abbrev decreases-loop : tie.decreases-loop-i
 decreases-loop s i₀ i = length s - i
 
-returns : tie.Need-returns invariant-loop decreases-loop
+returns : tie.Need-returns-then-s-i-eq-LINE_FEED invariant-loop decreases-loop
 returns c =
     let s : tie.Start invariant-loop decreases-loop = search in
-    let l = c.before.before.before.loop in
-    (omega (arith, l.invariant.1, at_feed s.args.s.now l.i (omega arith) c.if1.true), omega arith)
+    let l = c.before.before.before.loop-i in
+    (omega (arith, l.invariant.1, at_feed s.args.s.now l.i (omega arith) c.if-s-i-eq-LINE_FEED.true), omega arith)
 
-loop-again : tie.Need-loop-preserved invariant-loop decreases-loop
+loop-again : tie.Need-loop-i-preserved invariant-loop decreases-loop
 loop-again c =
     let s : tie.Start invariant-loop decreases-loop = search in
-    let l = c.before.before.before.loop in
-    (omega arith, omega (arith, l.invariant.1, past_other s.args.s.now l.i (omega arith) c.if1.false))
+    let l = c.before.before.before.loop-i in
+    (omega arith, omega (arith, l.invariant.1, past_other s.args.s.now l.i (omega arith) c.if-s-i-eq-LINE_FEED.false))
 
-returns-2 : tie.Need-returns-2 invariant-loop decreases-loop
-returns-2 c = let l = c.before.loop in (omega (arith, l.invariant.1, l.invariant.0, at_end c.before.before.args.s.now l.i (omega arith)), omega arith)
+returns-2 : tie.Need-returns invariant-loop decreases-loop
+returns-2 c = let l = c.before.loop-i in (omega (arith, l.invariant.1, l.invariant.0, at_end c.before.before.args.s.now l.i (omega arith)), omega arith)
 
 pub line_length_spec : {M : Type 1} → statement M
 line_length_spec =

@@ -6,15 +6,15 @@ use native.Mathlib.Omega.{arith}
 use Rattle.page.proofs.is_page.Statement.{statement}
 use Rattle.page.proofs.is_page.Tie as tie
 
-slice-aggregate-is-clear : tie.Need-slice-aggregate-is-clear
+slice-aggregate-is-clear : tie.Need-slice_bounds-is_clear-end
 slice-aggregate-is-clear c =
-    let a = c.before.before in
+    let a : tie.Start = search in
     sym (length-take-le _ a.args.page.now (omega (arith, a.requires)))
 
 returns : tie.Need-returns
 returns c =
     let a : tie.Start = search in
-    rw (c.before.before.is-clear.ensures, c.are-unused.ensures) (is_at a.args.page.now a.pre.0 a.args.used a.pre.1)
+    rw (c.before.before.is_clear.ensures, c.are_unused.ensures) (is_at a.args.page.now a.requires.0 a.args.used a.requires.1)
 
 pub is_page_spec : {M : Type 1} → statement M
 is_page_spec =

@@ -6,22 +6,22 @@ use native.Mathlib.Omega.{arith}
 use Rattle.page.proofs.reserve.Statement.{statement}
 use Rattle.page.proofs.reserve.Tie as tie
 
-returns : tie.Need-returns
+returns : tie.Need-returns-then-local-eq0
 returns c =
     let a = c.before in
     reserved_on a.args.local a.args.page.now a.requires.0 a.requires.1 (sym (stays a.args.local a.args.page.now (omega arith)))
 
-returns-2 : tie.Need-returns-2
+returns-2 : tie.Need-returns-then-page-at-eq-USED
 returns-2 c =
     let a = c.before.before.before in
     reserved_on a.args.local a.args.page.now a.requires.0 a.requires.1
-    (keeps a.args.page.now a.requires.0.0 a.args.local _ c.if2.true (omega (arith, a.requires.1)) (omega (arith, a.requires.1)) (omega arith))
+    (keeps a.args.page.now a.requires.0.0 a.args.local _ c.if-page-at-eq-USED.true (omega (arith, a.requires.1)) (omega (arith, a.requires.1)) (omega arith))
 
-returns-3 : tie.Need-returns-3
+returns-3 : tie.Need-returns
 returns-3 c =
     let a = c.before.before.before in
     reserved_on a.args.local a.args.page.now a.requires.0 a.requires.1
-    (stores a.args.page.now a.requires.0.0 a.args.local _ c.if2.false (omega (arith, a.requires.1)) (omega (arith, a.requires.1)) (omega arith))
+    (stores a.args.page.now a.requires.0.0 a.args.local _ c.if-page-at-eq-USED.false (omega (arith, a.requires.1)) (omega (arith, a.requires.1)) (omega arith))
 
 pub reserve_spec : {M : Type 1} → statement M
 reserve_spec =

@@ -1,0 +1,55 @@
+#!/usr/bin/env python3
+"""Renames what proofs/F/Proof.antt cites of generated names, by the names.json of 'rt check --generated DIR --old-names'.
+
+usage: python3 tools/port_proofs.py CRATE_FOLDER
+"""
+import json,os,re,subprocess,sys,tempfile
+crate=os.path.abspath(sys.argv[1])
+out=tempfile.mkdtemp()
+r=subprocess.run(['rt','check','--generated',out,'--old-names'],cwd=crate,capture_output=True,text=True)
+p=out+'/names.json'
+if not os.path.exists(p):
+    print(r.stdout[-3000:],r.stderr[-2000:]); sys.exit(1)
+d=json.load(open(p))
+name=os.path.basename(crate)
+norm=lambda x: x.replace('-','_')
+for key,v in d.items():
+    m=re.match(r'Rattle-'+re.escape(name)+r'-proofs\.(.*)\.Lts$',key)
+    if not m: continue
+    f=crate+'/proofs/'+m.group(1).replace('.','/')+'/Proof.antt'
+    if not os.path.exists(f):
+        continue
+    t=open(f).read()
+    tie={}; steps={}
+    new_tie=set(); new_steps=set()
+    def put(dic,old,new):
+        dic.setdefault(norm(old),new)
+    for (old,new) in v['needs']: put(tie,'Need-'+old,'Need-'+new); new_tie.add('Need-'+new)
+    for pl,new in zip(v['places'],v['places_by_name']): put(tie,pl[0],new); new_tie.add(new)
+    for a in v['asked_at']: put(tie,a[0],a[1]); new_tie.add(a[1])
+    for pl in v['places']:
+        if pl[2] and pl[2][0] and pl[2][0]!='match':
+            if not pl[2][1].endswith('-1'): put(steps,pl[2][0],pl[2][1]); new_steps.add(pl[2][1])
+    told={}
+    where={pl[0]:pl for pl in v['places']}
+    for pl in v['places']:
+        if pl[2][0].startswith('enum_told') and pl[1] in where:
+            told[pl[2][0]]=where[pl[1]][2][1]
+    for (o,n),vars in v['loops']:
+        put(tie,'invariant-'+o,'invariant-'+n); put(tie,'decreases-'+o,'decreases-'+n)
+        put(steps,o,n); new_steps.add(n); new_tie|={'invariant-'+n,'decreases-'+n}
+    for n in list(new_steps): steps.setdefault(norm(n),n)
+    for n in list(new_tie): tie.setdefault(norm(n),n)
+    def ontie(mm):
+        w=mm.group(2)
+        return mm.group(1)+(tie.get(norm(w),w))
+    n=re.sub(r"(\btie\.)([^\s(){};,]+)",ontie,t)
+    t0=n
+    n=re.sub(r"\.(enum[-_]told\d*)\.given\.1",lambda mm: '.'+told[norm(mm.group(1))]+'.is' if norm(mm.group(1)) in told else mm.group(0),n)
+    def onstep(mm):
+        w=mm.group(1)
+        if w in('pre',): return '.requires'
+        if w=='inv': return '.invariant'
+        return '.'+steps.get(norm(w),w)
+    n=re.sub(r"(?<=[\w)'\]])\.([A-Za-z_][^\s(){};,.\]\[]*)",onstep,n)
+    if n!=t: open(f,'w').write(n); print('turned',m.group(1))
