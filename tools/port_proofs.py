@@ -12,7 +12,7 @@ if not os.path.exists(p):
     print(r.stdout[-3000:],r.stderr[-2000:]); sys.exit(1)
 d=json.load(open(p))
 name=os.path.basename(crate)
-norm=lambda x: x.replace('-','_')
+norm=lambda x: x.replace('-','_').lower()
 for key,v in d.items():
     m=re.match(r'Rattle-'+re.escape(name)+r'-proofs\.(.*)\.Lts$',key)
     if not m: continue
@@ -29,12 +29,12 @@ for key,v in d.items():
     for a in v['asked_at']: put(tie,a[0],a[1]); new_tie.add(a[1])
     for pl in v['places']:
         if pl[2] and pl[2][0] and pl[2][0]!='match':
-            if not pl[2][1].endswith('-1'): put(steps,pl[2][0],pl[2][1]); new_steps.add(pl[2][1])
+            if not pl[2][1].endswith('-1') or pl[2][1].endswith('in-1'): put(steps,pl[2][0],pl[2][1]); new_steps.add(pl[2][1])
     told={}
     where={pl[0]:pl for pl in v['places']}
     for pl in v['places']:
-        if pl[2][0].startswith('enum_told') and pl[1] in where:
-            told[pl[2][0]]=where[pl[1]][2][1]
+        if pl[1] in where and pl[2][1].endswith('-1') and re.match(r'in[-_]',where[pl[1]][2][1]):
+            told[norm(pl[2][0])]=where[pl[1]][2][1]
     for (o,n),vars in v['loops']:
         put(tie,'invariant-'+o,'invariant-'+n); put(tie,'decreases-'+o,'decreases-'+n)
         put(steps,o,n); new_steps.add(n); new_tie|={'invariant-'+n,'decreases-'+n}
@@ -45,11 +45,14 @@ for key,v in d.items():
         return mm.group(1)+(tie.get(norm(w),w))
     n=re.sub(r"(\btie\.)([^\s(){};,]+)",ontie,t)
     t0=n
-    n=re.sub(r"\.(enum[-_]told\d*)\.given\.1",lambda mm: '.'+told[norm(mm.group(1))]+'.is' if norm(mm.group(1)) in told else mm.group(0),n)
+    n=re.sub(r"(?:\.before)*\.([^\s().,;{}]+)\.given\.1",lambda mm: '.'+told[norm(mm.group(1))]+'.is' if norm(mm.group(1)) in told else mm.group(0),n)
+    n=re.sub(r"(?:\.before)*\.([^\s().,;{}]+)\.given\.0\.0",lambda mm: '.'+told[norm(mm.group(1))]+'.BOUND' if norm(mm.group(1)) in told else mm.group(0),n)
     def onstep(mm):
         w=mm.group(1)
         if w in('pre',): return '.requires'
         if w=='inv': return '.invariant'
         return '.'+steps.get(norm(w),w)
     n=re.sub(r"(?<=[\w)'\]])\.([A-Za-z_][^\s(){};,.\]\[]*)",onstep,n)
+    n=re.sub(r"(\.if-[^.\s()]+)\.left(?![\w])",r"\1.false",n)
+    n=re.sub(r"not-(true|false) ([^\s()]+) ([^\s(),;]+\.\1)(?![\w.])",r"\3",n)
     if n!=t: open(f,'w').write(n); print('turned',m.group(1))

@@ -80,7 +80,7 @@ fn block_place(start: usize, block: usize) -> usize
 
 // What a line answers. end is 0 for A and 1 for B; a block handed up stands in the log, from at on, or, where at is 0, at the start of
 // the buffer lent for it.
-#[derive(Drop)]
+#[derive(Clone, Copy)]
 pub struct BenchAnswer {
     pub end: u8,
     pub status: Status,
@@ -109,7 +109,7 @@ fn finish(end: u8, a: Answer, start: usize, log: &mut [u8], count: usize, out: &
 }
 
 // What there is to do at an end: a call, a restart, or nothing, by the number of the refusal.
-#[derive(Drop)]
+#[derive(Clone, Copy)]
 pub enum Task {
     Call(Call),
     Restart,

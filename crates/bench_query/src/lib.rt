@@ -16,7 +16,7 @@ ghost use Rattle.bench_query.specs.Internal.{BenchReady};
 use call_spec::Call;
 
 // What the question answers: a frame's number, none, or the number of a refusal.
-#[derive(Drop)]
+#[derive(Clone, Copy)]
 pub enum Found {
     Frame(usize),
     Nothing,

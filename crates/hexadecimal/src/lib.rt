@@ -8,7 +8,7 @@ ghost use Rattle.hexadecimal.specs.Line.{digit, is_digit, value, hex, unhex, all
 use octets::refusal;
 
 // What a line is read as: so many octets at the start of the buffer, or document 01's number of the refusal.
-#[derive(Drop)]
+#[derive(Clone, Copy)]
 pub enum Line {
     Decoded(usize),
     Refused(u8),

@@ -16,7 +16,7 @@ use octets::refusal;
 pub const RECORD_SIZE: usize = endpoint::RECORD_SIZE;
 
 // What a call on a lent record answers; sent is the length of the frame sent, block that of the block handed up.
-#[derive(Drop)]
+#[derive(Clone, Copy)]
 pub struct Answer {
     pub status: Status,
     pub sent: usize,

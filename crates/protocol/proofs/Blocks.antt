@@ -180,7 +180,7 @@ pub nothing_up : {h : History} → Named h → Stock h → 1 ≤ (now h).state �
 nothing_up {h} nm st p q = st.up_none (now h).local (λ d u. omega (arith, nm.past d u p))
 
 -- only an open end accepts a block
-nothing_taken : {e x : Endpoint} {f : Frame} {n : Notice} {bs : List Block} → Carry e f x n bs → x.state ≢ 4 → bs ≡ []
+nothing_taken : {e : Endpoint} {f : Frame} {x : Endpoint} {n : Notice} {bs : List Block} → Carry e f x n bs → x.state ≢ 4 → bs ≡ []
 nothing_taken (keeps t) u = refl
 nothing_taken (clears t t') u = refl
 nothing_taken (begins p q t) u = refl

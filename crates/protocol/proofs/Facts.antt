@@ -317,7 +317,7 @@ pub none_lengths : zeros (lengths_of none_held) ≡ true
 unfolding zeros lengths_of
 none_lengths = refl
 
-pub load : {e x : Endpoint} {f : Frame} {n : Notice} {bs : List Block} → Laden e → Carry e f x n bs → Laden x
+pub load : {e : Endpoint} {f : Frame} {x : Endpoint} {n : Notice} {bs : List Block} → Laden e → Carry e f x n bs → Laden x
 load l (keeps t) = l
 load l (clears t u) = record { waits = omega arith; places = omega arith; eight = refl; idle = λ n. (refl, refl, none_lengths) }
 load l (begins p q t) = record { waits = omega arith; places = omega arith; eight = refl; idle = λ n. (refl, refl, none_lengths) }

@@ -89,7 +89,7 @@ bounded_on {e} {x} {f} u v z m k = record {
     delivered (releases p q r) = v.delivered≤
     delivered (queues b p q r) = v.delivered≤
 
-sized_on : {e x : Endpoint} {f : Frame} {n : Notice} {bs : List Block} → sized e.queue ≡ true → sized bs ≡ true → Carry e f x n bs
+sized_on : {e : Endpoint} {f : Frame} {x : Endpoint} {n : Notice} {bs : List Block} → sized e.queue ≡ true → sized bs ≡ true → Carry e f x n bs
     → sized x.queue ≡ true
 sized_on q t (keeps p) = q
 sized_on q t (clears p r) = t
@@ -100,7 +100,7 @@ sized_on {e} {f = f} q t (releases p r u) = sized-drop (f.number - (e.accepted -
 sized_on {e} q t (queues b p r u) = sized-append e.queue (b ∷ []) q t
 
 -- what is held early fits
-fitting_on : {e x : Endpoint} {f : Frame} {n : Notice} {bs : List Block} → Small f → Laden e → Each (Fitting e.delivered) e.held
+fitting_on : {e : Endpoint} {f : Frame} {x : Endpoint} {n : Notice} {bs : List Block} → Small f → Laden e → Each (Fitting e.delivered) e.held
     → Carry e f x n bs → Each (Fitting x.delivered) x.held
 fitting_on u l z (keeps p) = z
 fitting_on u l z (clears p r) = λ i n. none_held_lem i n

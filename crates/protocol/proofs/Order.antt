@@ -14,7 +14,7 @@ use Rattle.protocol.specs.Table.{Notice, handed_up, Sent, delivering}
 use Rattle.protocol.specs.Requests.{accept}
 use Rattle.protocol.specs.History.{Act, Event, History, now, sent}
 use Rattle.protocol.specs.Claim.{handed_up_in, block_accepted, accepted_for, OpenedWith, Prefix, InOrder}
-use Rattle.protocol.proofs.Facts.{silent, Laden, Each, none_held, each_moved, each_held, Source, arrives, was_held, Carry, keeps, clears, begins, takes, overtakes, releases, queues, Says, crao, silence, step_to, fires}
+use Rattle.protocol.proofs.Facts.{silent, Laden, Each, none_held_lem, each_moved, each_held, Source, arrives, was_held, Carry, keeps, clears, begins, takes, overtakes, releases, queues, Says, crao, silence, step_to, fires}
 use Rattle.protocol.proofs.Calls.{event, Heard, no_frame, from, Deed, refuses, connects, listens, goes, restarts, restart_accepts}
 use Rattle.protocol.proofs.Invariant.{Back, back}
 use Rattle.protocol.proofs.Blocks.{prefix_grow, Stands, stands_grow, prefix_more, up-silent, up-other, up-here, sent-more}
@@ -144,7 +144,7 @@ module _ {a b : History} (w : Flow a b) where
   unfolding now
   early-on ld c o h (keeps t) = w.early_a
   early-on ld c o h (clears {st = x} t u) = λ p. absurd (T_not (eqb x 4) t (subst (λ (n : ℕ). T (eqb n 4)) (sym p) tt))
-  early-on ld c o h (begins p q t) = λ _ i n. none_held i n
+  early-on ld c o h (begins p q t) = λ _ i n. none_held_lem i n
   early-on ld c o h (takes p s) = λ _.
       each_moved (λ (i : ℕ) (l : Block). There ((now a).delivered + i) l) (λ (i : ℕ) (l : Block). There ((now a).delivered + 1 + i) l) (now a).held
       (λ i l z. let at : (now a).delivered + (1 + i) ≡ (now a).delivered + 1 + i = omega arith in subst (λ (n : ℕ). There n l) at z)

@@ -208,7 +208,7 @@ module _ (e : Endpoint) (bs : List Block) (l8 : length bs ≡ 8) (sz : sized bs 
   all-arrive {k} {x} h (j ∷ order) only rest =
       let o = perform (arrival e bs j) x in
       let n = arrives h j (only j (Memᴰ.head refl)) in
-      let a = all-arrive n.at order (λ i m. only i (Memᴰ.tail m)) rest in
+      let a = all-arrive {k = n.now-up} {x = endpoint_left x o} n.at order (λ i m. only i (Memᴰ.tail m)) rest in
       record {
         then-up = a.then-up;
         then_is = a.then_is;

@@ -1,7 +1,7 @@
 // The effects of the step table, by name. specs/Table.antt says which row has which effect, and what each effect is.
 #![tactic(auto)]
 
-#[derive(Drop)]
+#[derive(Clone, Copy)]
 pub enum Rule {
     Ignore,
     Refuse,

@@ -32,7 +32,7 @@ pub const HANDED_UP: u8 = 5;
 
 // What becomes of places for blocks: they stay; all are written afresh; a block joins at this place; so many of the first leave, and the others
 // move down. (In this order a call takes the machine fewer instructions.)
-#[derive(Drop)]
+#[derive(Clone, Copy)]
 pub enum Places {
     Keep,
     Clear,
@@ -41,7 +41,7 @@ pub enum Places {
 }
 
 // What is sent. A DATA carries the block that joins, or, where none does, the oldest that waits.
-#[derive(Drop)]
+#[derive(Clone, Copy)]
 pub enum Reply {
     Nothing,
     Frame(Header),
@@ -49,7 +49,7 @@ pub enum Reply {
 
 // number is document 01's number of the refusal, 0 for success; numbers the new ones of the record; queue what becomes of the waiting
 // blocks, where a send's block joins; held what becomes of the held ones, where a DATA's block does; notice the number of its notice.
-#[derive(Drop)]
+#[derive(Clone, Copy)]
 pub struct Plan {
     pub number: u8,
     pub numbers: Numbers,

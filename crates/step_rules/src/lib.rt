@@ -26,7 +26,7 @@ pub const CLOSING: u8 = 5;
 const HELD_SIZE: u32 = octets::HELD_SIZE as u32;
 
 // The numbers of an endpoint: its record without the waiting blocks and the held ones.
-#[derive(Drop)]
+#[derive(Clone, Copy)]
 pub struct Numbers {
     pub state: u8,
     pub local: u32,

@@ -10,7 +10,7 @@ use Rattle.bench_log.proofs.holds.Tie as tie
 returns : tie.Need-returns-then-n-count
 returns c = let a = c.before.args in too_high a.count a.n a.log.now (omega arith)
 
-returns-2 : tie.Need-returns-then-n-count
+returns-2 : tie.Need-returns
 unfolding holds sender_at length_at in_range
 returns-2 c = let a = c.before.before.before.args in rw (lt-ltb a.n a.count (omega arith)) (cc)
 

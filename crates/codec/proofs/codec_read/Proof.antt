@@ -9,37 +9,37 @@ use borrow.Author.Rules.{rules}
 use Rattle.codec.proofs.codec_read.Statement.{statement}
 use Rattle.codec.proofs.codec_read.Tie as tie
 
-returns : tie.Need-returns
+returns : tie.Need-returns-in-Frame
 unfolding meant number_of shown
 returns c =
     let st : tie.Start = search in
-    let m : tie.After-read-known = search in
-    let b : tie.After-cut-block = search in
+    let m : tie.After-read_known-read = search in
+    let b : tie.After-cut_block-end = search in
     let a = st.args in
     let s = a.s.now in
-    let e = sym (rw c.before.read.given.1 at m.read_Known.ensures) in
-    (rw e refl, (rw e refl, tells s a.known a.block.now e (ap length b.cut-block.ensures)))
+    let e = sym (rw c.in-Frame.is at m.read_known-read.ensures) in
+    (rw e refl, (rw e refl, tells s a.known a.block.now e (ap length b.cut_block-end.ensures)))
 
-returns-2 : tie.Need-returns-2
+returns-2 : tie.Need-returns-in-Request
 unfolding meant number_of shown
 returns-2 c =
     let st : tie.Start = search in
-    let m : tie.After-read-known = search in
-    let b : tie.After-cut-block = search in
+    let m : tie.After-read_known-read = search in
+    let b : tie.After-cut_block-end = search in
     let a = st.args in
     let s = a.s.now in
-    let e = sym (rw c.before.before.read2.given.1 at m.read_Known.ensures) in
-    let q = c.request-number.ensures (cut_block s) in
-    (rw e refl, (rw (e, q) refl, tells s a.known a.block.now e (ap length b.cut-block.ensures)))
+    let e = sym (rw c.in-Request.is at m.read_known-read.ensures) in
+    let q = c.request_number.ensures (cut_block s) in
+    (rw e refl, (rw (e, q) refl, tells s a.known a.block.now e (ap length b.cut_block-end.ensures)))
 
-returns-3 : tie.Need-returns-3
+returns-3 : tie.Need-returns-in-Refused
 unfolding meant number_of shown
 returns-3 c =
     let st : tie.Start = search in
-    let m : tie.After-read-known = search in
+    let m : tie.After-read_known-read = search in
     let a = st.args in
     let s = a.s.now in
-    let e = sym (rw c.before.read3.given.1 at m.read_Known.ensures) in
+    let e = sym (rw c.in-Refused.is at m.read_known-read.ensures) in
     rw e (refl, (refl, tells-nothing s a.block.now refl))
 
 pub codec_read_spec : {M : Type 1} → statement M

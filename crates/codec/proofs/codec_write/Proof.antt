@@ -16,16 +16,16 @@ write-requires c κs =
     let s : tie.Start = search in
     (search ladder, (omega arith, (within 1 longest_block (length s.args.block.now) (search ladder)).1))
 
-returns-4 : tie.Need-returns-4
+returns-4 : tie.Need-returns-then-kind-eq-DATA
 returns-4 c = fills _ _ _ (search (ladder, picks)) _ c.before.before.write.ensures
 
-returns-5 : tie.Need-returns-5
+returns-5 : tie.Need-returns
 returns-5 c =
-    let o : tie.Else3 = search in
+    let o : tie.Else-kind-eq-DATA = search in
     let s : tie.Start = search in
     let a = s.args in
     let h = header_of a.kind a.sender a.quoted a.number in
-    fills h _ _ (search (ladder, picks)) _ (rw (← no_block h a.block.now o.if3.left) at c.before.before.write2.ensures)
+    fills h _ _ (search (ladder, picks)) _ (rw (← no_block h a.block.now o.if-kind-eq-DATA.false) at c.before.before.write-2.ensures)
 
 pub codec_write_spec : {M : Type 1} → statement M
 codec_write_spec =

@@ -10,13 +10,13 @@ use borrow.Author.Rules.{rules}
 use Rattle.codec.proofs.codec_write_line.Statement.{statement}
 use Rattle.codec.proofs.codec_write_line.Tie as tie
 
-returns : tie.Need-returns
+returns : tie.Need-returns-then-out-s
 unfolding write_line first when outcome number_of left
 returns c =
     let a = c.before.before.before.args in
     rw (lt-leb (2 * length a.s.now) (length a.out.now) (omega arith)) (refl, refl)
 
-returns-2 : tie.Need-returns-2
+returns-2 : tie.Need-returns
 unfolding write_line first when outcome number_of left
 returns-2 c =
     let s : tie.Start = search in

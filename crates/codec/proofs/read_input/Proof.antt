@@ -6,29 +6,29 @@ use borrow.Author.Rules.{rules}
 use Rattle.codec.proofs.read_input.Statement.{statement}
 use Rattle.codec.proofs.read_input.Tie as tie
 
-returns : tie.Need-returns
+returns : tie.Need-returns-in-Frame
 unfolding read_input when
 returns c =
     let s : tie.Start = search in
-    let m : tie.After-class-of = search in
+    let m : tie.After-class_of-class = search in
     let k = kind_of s.args.s.now in
-    rw (frame_no_request k (of_frame k (sym m.class_of.ensures ∙ c.before.enum_told.given.1))) c.read-frame.ensures
+    rw (frame_no_request k (of_frame k (sym m.class_of-class.ensures ∙ c.in-Frame.is))) c.read_frame.ensures
 
-returns-2 : tie.Need-returns-2
+returns-2 : tie.Need-returns-in-Request
 unfolding read_input when
 returns-2 c =
     let s : tie.Start = search in
-    let m : tie.After-class-of = search in
+    let m : tie.After-class_of-class = search in
     let k = kind_of s.args.s.now in
-    rw (of_request k (sym m.class_of.ensures ∙ c.before.enum-told2.given.1)).1 c.read-request.ensures
+    rw (of_request k (sym m.class_of-class.ensures ∙ c.in-Request.is)).1 c.read_request.ensures
 
-returns-3 : tie.Need-returns-3
+returns-3 : tie.Need-returns-in-Unknown
 unfolding read_input when
 returns-3 c =
     let s : tie.Start = search in
-    let m : tie.After-class-of = search in
+    let m : tie.After-class_of-class = search in
     let k = kind_of s.args.s.now in
-    rw (of_unknown k (sym m.class_of.ensures ∙ c.before.enum-told3.given.1)).1 c.read-frame2.ensures
+    rw (of_unknown k (sym m.class_of-class.ensures ∙ c.in-Unknown.is)).1 c.read_frame-in-Unknown.ensures
 
 pub read_input_spec : {M : Type 1} → statement M
 read_input_spec =

@@ -8,19 +8,19 @@ use borrow.Author.Rules.{rules}
 use Rattle.codec.proofs.read_known.Statement.{statement}
 use Rattle.codec.proofs.read_known.Tie as tie
 
-returns : tie.Need-returns
+returns : tie.Need-returns-in-1
 unfolding read_known if_eq when
-returns c = let s : tie.Start = search in let e : s.args.known ≡ 1 = omega arith in rw e c.read-frame.ensures
+returns c = let s : tie.Start = search in let e : s.args.known ≡ 1 = omega arith in rw e c.read_frame.ensures
 
-returns-2 : tie.Need-returns-2
+returns-2 : tie.Need-returns-in-2
 unfolding read_known if_eq when
-returns-2 c = let s : tie.Start = search in let e : s.args.known ≡ 2 = omega arith in rw e c.read-request.ensures
+returns-2 c = let s : tie.Start = search in let e : s.args.known ≡ 2 = omega arith in rw e c.read_request.ensures
 
-returns-3 : tie.Need-returns-3
+returns-3 : tie.Need-returns-in-3
 unfolding read_known if_eq when
-returns-3 c = let s : tie.Start = search in let e : s.args.known ≡ 3 = omega arith in rw e c.read-input.ensures
+returns-3 c = let s : tie.Start = search in let e : s.args.known ≡ 3 = omega arith in rw e c.read_input.ensures
 
-returns-4 : tie.Need-returns-4
+returns-4 : tie.Need-returns-in_default
 unfolding read_known meant
 returns-4 c =
     let s : tie.Start = search in

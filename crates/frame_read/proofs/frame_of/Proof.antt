@@ -31,7 +31,7 @@ returns-2 c =
     let s : tie.Start = search in
     let r = s.args.rest.now in
     let m : tie.After-numbers_ok = search in
-    rw (sym (seven m) ∙ not-false m.numbers_ok.result c.if-not-numbers_ok.false)
+    rw (sym (seven m) ∙ c.if-not-numbers_ok.false)
     (ap (λ (f : Frame). ok (frame f))
     ((λ i. frame_of (header_of s.args.kind ((m.before.before.before.load32-sender.ensures ∙ sym (says s).sender) i) ((m.before.before.load32-quoted.ensures ∙ sym (says s).quoted) i) (m.before.number_of-number.ensures i)) (block_at s.args.kind r))
     ∙ sym (says s).whole))
@@ -41,4 +41,4 @@ unfolding when meant mapped
 frame_of_spec =
     tie.close
     (tie.spec (λ c κs. let s = c.before in omega (arith, (says s).two, s.requires.1)) (λ c κs. let s : tie.Start = search in omega (arith, (says s).two, s.requires.1))
-    (λ c κs. search rules) (λ c κs. search rules) (λ c. rw (sym (seven c.before) ∙ not-true c.before.numbers_ok.result c.if-not-numbers_ok.true) refl) returns-2)
+    (λ c κs. search rules) (λ c κs. search rules) (λ c. rw (sym (seven c.before) ∙ c.if-not-numbers_ok.true) refl) returns-2)

@@ -18,7 +18,7 @@ abbrev start-of : tie.In-Frame → tie.Start
 start-of c = search
 
 is : (c : tie.In-Frame) → is_frame (kind_of (start-of c).args.s.now) ≡ true
-is c = of_frame (kind_of (start-of c).args.s.now) (sym c.before.before.class_of-class.ensures ∙ c.in-Frame.is)
+is c = of_frame (kind_of (start-of c).args.s.now) (sym c.before.class_of-class.ensures ∙ c.in-Frame.is)
 
 there : (c : tie.In-Frame) → 1 ≤ length (start-of c).args.s.now
 there c = let s = (start-of c).args.s.now in some s (omega (arith, frame_range (kind_of s) (is c)))
@@ -30,5 +30,5 @@ read_frame_spec =
     (tie.spec (λ c κs. search rules) (λ c. search rules) (λ c. omega (arith, there c.before)) (λ c. omega (arith, there c.before))
     (λ c. omega (arith, there c.before)) (λ c. search rules) (λ c κs. is c.before.before) (λ c. search rules) (λ c. search rules)
     (λ c. let z : tie.Start = search in let s = z.args.s.now in rw (rest_is s) at c.known_frame.ensures)
-    (λ c. let z : tie.Start = search in let s = z.args.s.now in ap (mapped frame) (unknown_frame s (of_request (kind_of s) (sym c.before.before.class_of-class.ensures ∙ c.in-Request.is)).0))
-    (λ c. let z : tie.Start = search in let s = z.args.s.now in ap (mapped frame) (unknown_frame s (of_unknown (kind_of s) (sym c.before.before.class_of-class.ensures ∙ c.in-Unknown.is)).0)))
+    (λ c. let z : tie.Start = search in let s = z.args.s.now in ap (mapped frame) (unknown_frame s (of_request (kind_of s) (sym c.before.class_of-class.ensures ∙ c.in-Request.is)).0))
+    (λ c. let z : tie.Start = search in let s = z.args.s.now in ap (mapped frame) (unknown_frame s (of_unknown (kind_of s) (sym c.before.class_of-class.ensures ∙ c.in-Unknown.is)).0)))

@@ -18,7 +18,7 @@ abbrev start-of : tie.In-Request → tie.Start
 start-of c = search
 
 is : (c : tie.In-Request) → is_request (kind_of (start-of c).args.s.now) ≡ true
-is c = (of_request (kind_of (start-of c).args.s.now) (sym c.before.before.class_of-class.ensures ∙ c.in-Request.is)).1
+is c = (of_request (kind_of (start-of c).args.s.now) (sym c.before.class_of-class.ensures ∙ c.in-Request.is)).1
 
 there : (c : tie.In-Request) → 1 ≤ length (start-of c).args.s.now
 there c = let s = (start-of c).args.s.now in some s (omega (arith, request_range (kind_of s) (is c)))
@@ -29,6 +29,6 @@ read_request_spec =
     tie.close
     (tie.spec (λ c κs. search rules) (λ c. search rules) (λ c. search rules) (λ c. omega (arith, there c.before)) (λ c. omega (arith, there c.before))
     (λ c. omega (arith, there c.before)) (λ c. search rules) (λ c κs. is c.before.before) (λ c. search rules)
-    (λ c. let z : tie.Start = search in let s = z.args.s.now in ap (mapped request) (unknown_request s (frame_no_request (kind_of s) (of_frame (kind_of s) (sym c.before.before.class_of-class.ensures ∙ c.in-Frame.is)))))
+    (λ c. let z : tie.Start = search in let s = z.args.s.now in ap (mapped request) (unknown_request s (frame_no_request (kind_of s) (of_frame (kind_of s) (sym c.before.class_of-class.ensures ∙ c.in-Frame.is)))))
     (λ c. let z : tie.Start = search in let s = z.args.s.now in rw (rest_is s) at c.known_request.ensures)
-    (λ c. let z : tie.Start = search in let s = z.args.s.now in ap (mapped request) (unknown_request s (of_unknown (kind_of s) (sym c.before.before.class_of-class.ensures ∙ c.in-Unknown.is)).1)))
+    (λ c. let z : tie.Start = search in let s = z.args.s.now in ap (mapped request) (unknown_request s (of_unknown (kind_of s) (sym c.before.class_of-class.ensures ∙ c.in-Unknown.is)).1)))

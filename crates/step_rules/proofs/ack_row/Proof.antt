@@ -4,15 +4,15 @@ use borrow.Author.Rules.{rules}
 use Rattle.step_rules.proofs.ack_row.Statement.{statement}
 use Rattle.step_rules.proofs.ack_row.Tie as tie
 
-returns : tie.Need-returns
+returns : tie.Need-returns-then-e-f-2
 unfolding ack_row
 returns c = λ q s b h. rw h (search picks)
 
-returns-2 : tie.Need-returns-2
+returns-2 : tie.Need-returns-then-e-f
 unfolding ack_row
 returns-2 c = λ q s b h. rw h (search picks)
 
-returns-3 : tie.Need-returns-3
+returns-3 : tie.Need-returns
 unfolding ack_row
 returns-3 c = λ q s b h. rw h (search picks)
 

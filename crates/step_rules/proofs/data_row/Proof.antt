@@ -6,14 +6,14 @@ use Rattle.octets.proofs.Test.{picks}
 use Rattle.step_rules.proofs.data_row.Statement.{statement}
 use Rattle.step_rules.proofs.data_row.Tie as tie
 
-returns-3 : tie.Need-returns-3
+returns-3 : tie.Need-returns-then-f-e-lt-HELD_SIZE
 unfolding data_row
 returns-3 c = λ q s b h.
     let z : tie.Start = search in let a = z.args in
     let near : a.f.number < a.e.delivered + held_size = omega arith in
     search picks
 
-returns-4 : tie.Need-returns-4
+returns-4 : tie.Need-returns
 unfolding data_row
 returns-4 c = λ q s b h.
     let z : tie.Start = search in let a = z.args in

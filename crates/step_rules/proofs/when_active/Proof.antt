@@ -14,8 +14,8 @@ when_active_spec =
     tie.close
     (tie.spec (λ c κs. search rules) (λ c κs. search rules) (λ c κs. search rules) (λ c κs. search rules) (λ c κs. search rules)
     (λ c q s b h. let e : c.before.before.args.f.kind ≡ CRAO = omega arith in rw e c.quotes.ensures)
-    (λ c q s b h. let e : c.before.before.args.f.kind ≡ CRPO = omega arith in rw e c.quotes2.ensures)
-    (λ c q s b h. let e : c.before.before.args.f.kind ≡ CRACK = omega arith in rw e c.quotes3.ensures)
-    (λ c q s b h. let e : c.before.before.args.f.kind ≡ REJ = omega arith in rw e c.quotes4.ensures)
-    (λ c q s b h. let e : c.before.before.args.f.kind ≡ DR = omega arith in rw e c.quotes5.ensures)
+    (λ c q s b h. let e : c.before.before.args.f.kind ≡ CRPO = omega arith in rw e c.quotes-in-2.ensures)
+    (λ c q s b h. let e : c.before.before.args.f.kind ≡ CRACK = omega arith in rw e c.quotes-in-3.ensures)
+    (λ c q s b h. let e : c.before.before.args.f.kind ≡ REJ = omega arith in rw e c.quotes-in-4.ensures)
+    (λ c q s b h. let e : c.before.before.args.f.kind ≡ DR = omega arith in rw e c.quotes-in-6.ensures)
     (λ c q s b h. let k = c.before.args.f.kind in rw (ne_eqb k CRAO (λ z. omega arith), ne_eqb k CRPO (λ z. omega arith), ne_eqb k CRACK (λ z. omega arith), ne_eqb k REJ (λ z. omega arith), ne_eqb k DR (λ z. omega arith)) refl))

@@ -12,5 +12,5 @@ when_established_spec =
     tie.close
     (tie.spec (λ c κs. search rules) (λ c q s b h. c.quotes.ensures ∙ sym (eq_yes _ _ _ _ (omega arith))) (λ c κs. search rules) (λ c κs. search rules) (λ c κs. search rules)
     (λ c q s b h.
-    let rows = rw (c.before.quotes2.ensures, c.before.before.open-rows.ensures q s b h) at c.matches.ensures in
+    let rows = rw (c.before.quotes-2.ensures, c.before.before.open_rows-rows.ensures q s b h) at c.matches.ensures in
     rows ∙ sym (eq_no _ _ _ _ (omega arith))))
