@@ -54,5 +54,6 @@ for key,v in d.items():
         return '.'+steps.get(norm(w),w)
     n=re.sub(r"(?<=[\w)'\]])\.([A-Za-z_][^\s(){};,.\]\[]*)",onstep,n)
     n=re.sub(r"(\.if-[^.\s()]+)\.left(?![\w])",r"\1.false",n)
+    n=re.sub(r"(\.if-[^.\s()]+)\.taken(?![\w])",r"\1.true",n)
     n=re.sub(r"not-(true|false) ([^\s()]+) ([^\s(),;]+\.\1)(?![\w.])",r"\3",n)
     if n!=t: open(f,'w').write(n); print('turned',m.group(1))

@@ -160,8 +160,8 @@ module _ (st e : ℕ) (l b : List ℕ) (l8 : length l ≡ held_size) (l512 : len
         get_or-take (longest_block - n) d j 0 v' ∙ get_or-drop (i * longest_block + n) b j 0 ∙ zeros-at b (i * longest_block + n + j) t)))
         (λ t. zeros_of b (λ k v. clear_at l b t k (omega arith) (omega (arith, zeros-at l (k / longest_block) z))))
 
-    pub none_held : zeros b ≡ (all_of (held_sound st e l) && unused_ok l b)
-    none_held = none-unused ∙ sym (rw none-sound refl)
+    pub none_held_lem : zeros b ≡ (all_of (held_sound st e l) && unused_ok l b)
+    none_held_lem = none-unused ∙ sym (rw none-sound refl)
 
   -- where one is
   pub some-held : zeros l ≡ false
@@ -185,9 +185,9 @@ module _ (e : Endpoint) (s : sound e ≡ true) (long : Long e) where
   abbrev Holds : Bool
   Holds = all_of (held_sound e.state e.delivered e.held_lengths)
 
-  numbers_ok : Numbers e ≡ true
+  numbers_ok_lem : Numbers e ≡ true
   unfolding sound
-  numbers_ok = (both (Numbers e) _ s).0
+  numbers_ok_lem = (both (Numbers e) _ s).0
 
   places-ok : (Waits ≡ true) × ((Holds && unused_ok e.held_lengths e.held_blocks) ≡ true)
   unfolding sound

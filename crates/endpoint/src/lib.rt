@@ -44,7 +44,7 @@ pub const RECORD_SIZE: usize = HELD_BLOCKS_AT + PLACES_SIZE;
 
 // Document 01's record of an end: L and D are local and remote, t is accepted, e is delivered, w is waiting. N2: the held places are
 // those of the numbers e to e + 7, and a length of 0 is none.
-#[derive(Drop)]
+#[derive(Clone, Copy)]
 pub struct Endpoint {
     pub state: u8,
     pub local: u32,

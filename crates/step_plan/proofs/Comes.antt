@@ -79,7 +79,7 @@ module _ (z : List ℕ) (h : List Block) (lz : lengths_of h ≡ z) (l8 : length 
   none-moved e i zero l = get_or-eq_default h [] {n = i} (omega (arith, eight))
   none-moved e i (suc j) l = ap (λ (q : List Block). get_or q i []) (sym e) ∙ get_d_moved h i ∙ none-moved e (1 + i) j (omega arith)
 
-  none_held : ((i : ℕ) → get_or h i [] ≡ []) → zeros z ≡ true
+  none_held_lem : ((i : ℕ) → get_or h i [] ≡ []) → zeros z ≡ true
   none_held_lem f = ap zeros (sym lz) ∙ zeros_of (lengths_of h) (λ i _. length_at h i ∙ ap length (f i))
 
   still-held : zeros z ≡ false → drop 1 h ++ replicate 1 [] ≢ h

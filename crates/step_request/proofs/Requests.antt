@@ -43,15 +43,15 @@ module _ (a : Endpoint) where
   unfolding request refusal request_questions
   end-listening-0 h = yes (accept endListening a) 8 (eqb a.state listening) _ (eq-eqb a.state listening h) ∙ done (accept endListening a)
 
-  pub close-8 : not (closable a) ≡ true → request close a ≡ refused 8
+  pub close-8 : closable a ≡ false → request close a ≡ refused 8
   unfolding request refusal request_questions
-  close-8 h = no (accept close a) 7 (closable a) _ (not-true (closable a) h)
+  close-8 h = no (accept close a) 7 (closable a) _ h
 
-  close-0 : not (closable a) ≡ false → request close a ≡ ok (hung_up a)
+  close-0 : closable a ≡ true → request close a ≡ ok (hung_up a)
   unfolding request refusal request_questions accept
-  close-0 h = yes (accept close a) 8 (closable a) _ (not-false (closable a) h) ∙ done (accept close a)
+  close-0 h = yes (accept close a) 8 (closable a) _ h ∙ done (accept close a)
 
-  module _ (h : not (closable a) ≡ false) where
+  module _ (h : closable a ≡ true) where
     pub close-unheard : a.remote ≡ 0 → request close a ≡ ok (quiet (turned closed 0 a) closeFinished)
     unfolding hung_up
     close-unheard z = close-0 h ∙ ap ok (eq_yes _ _ _ _ z)

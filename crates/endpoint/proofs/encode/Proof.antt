@@ -12,14 +12,14 @@ long c = record { lengths = search rules; blocks = search rules; held_lengths = 
 
 returns : tie.Need-returns
 returns c =
-    let m3 : tie.After-copy3 = search in
-    let m2 : tie.After-copy2 = search in
+    let m3 : tie.After-copy-3 = search in
+    let m2 : tie.After-copy-2 = search in
     let m1 : tie.After-copy = search in
-    let n : tie.After-store-numbers = search in
+    let n : tie.After-store_numbers = search in
     let s : tie.Start = search in
     let e = s.args.e in
-    encode_puts (numbers_of e) e.lengths e.blocks e.held_lengths e.held_blocks s.args.out.now (long s) s.pre
-    (rw n.before.before.Numbers-of.ensures at n.store-numbers.ensures) m1.copy.ensures m2.copy2.ensures m3.copy3.ensures c.before.before.copy4.ensures
+    encode_puts (numbers_of e) e.lengths e.blocks e.held_lengths e.held_blocks s.args.out.now (long s) s.requires
+    (rw n.before.before.numbers_of.ensures at n.store_numbers.ensures) m1.copy.ensures m2.copy-2.ensures m3.copy-3.ensures c.before.before.copy-4.ensures
 
 pub encode_spec : {M : Type 1} → statement M
 encode_spec =

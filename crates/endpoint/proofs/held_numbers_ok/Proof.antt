@@ -9,15 +9,15 @@ use borrow.Author.Rules.{rules}
 use Rattle.endpoint.proofs.held_numbers_ok.Statement.{statement}
 use Rattle.endpoint.proofs.held_numbers_ok.Tie as tie
 
-returns : tie.Need-returns
+returns : tie.Need-returns-then-left-ge-HELD_SIZE
 unfolding zeros
 returns c =
     let a = c.before.before.args in
     let none = drop_of_length-le a.lengths.now {i = last_number - a.delivered} (omega arith) in
     rw none refl
 
-returns-2 : tie.Need-returns-2
-returns-2 c = let s : tie.Start = search in let a = s.args in c.is-clear.ensures ∙ ap zeros (whole a.lengths.now (last_number - a.delivered))
+returns-2 : tie.Need-returns
+returns-2 c = let s : tie.Start = search in let a = s.args in c.is_clear.ensures ∙ ap zeros (whole a.lengths.now (last_number - a.delivered))
 
 pub held_numbers_ok_spec : {M : Type 1} → statement M
 held_numbers_ok_spec =

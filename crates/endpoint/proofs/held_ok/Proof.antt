@@ -17,20 +17,20 @@ all-lengths c = ap zeros (take_all held_size c.args.lengths.now (omega (arith, c
 all_blocks : (c : tie.Start) → zeros (take places_size c.args.blocks.now) ≡ zeros c.args.blocks.now
 all_blocks c = ap zeros (take_all places_size c.args.blocks.now (omega (arith, c.requires.0)))
 
-returns : tie.Need-returns
+returns : tie.Need-returns-then-is_clear
 returns c =
     let s : tie.Start = search in
-    let z = sym (c.before.before.before.is-clear.ensures ∙ all-lengths s) ∙ c.before.before.if1.true in
-    c.is-clear2.ensures
+    let z = sym (c.before.before.before.is_clear.ensures ∙ all-lengths s) ∙ c.before.before.if-is_clear.true in
+    c.is_clear-then-is_clear.ensures
     ∙ all_blocks s
-    ∙ none_held_lem s.args.state s.args.delivered s.args.lengths.now s.args.blocks.now s.pre.1 s.pre.0 z
+    ∙ none_held_lem s.args.state s.args.delivered s.args.lengths.now s.args.blocks.now s.requires.1 s.requires.0 z
 
-returns-2 : tie.Need-returns-2
+returns-2 : tie.Need-returns
 returns-2 c =
     let s : tie.Start = search in
-    let z = sym (c.before.before.before.is-clear.ensures ∙ all-lengths s) ∙ c.before.before.if1.false in
-    rw (c.before.held-numbers-ok.ensures, c.places-ok.ensures)
-    (some-held s.args.state s.args.delivered s.args.lengths.now s.args.blocks.now s.pre.1 s.pre.0 z)
+    let z = sym (c.before.before.before.is_clear.ensures ∙ all-lengths s) ∙ c.before.before.if-is_clear.false in
+    rw (c.before.held_numbers_ok.ensures, c.places_ok.ensures)
+    (some-held s.args.state s.args.delivered s.args.lengths.now s.args.blocks.now s.requires.1 s.requires.0 z)
 
 pub held_ok_spec : {M : Type 1} → statement M
 held_ok_spec =

@@ -12,17 +12,17 @@ use Rattle.endpoint.proofs.is_sound.Tie as tie
 abbrev asked : tie.Start → Endpoint
 asked c = record_of c.args.n c.args.lengths.now c.args.blocks.now c.args.held_lengths.now c.args.held_blocks.now
 
-returns : tie.Need-returns
+returns : tie.Need-returns-then-not-numbers_ok
 unfolding sound
 returns c =
-    rw (said_no (rw c.before.before.wide32.ensures.0 at c.before.numbers_ok.ensures) c.if1.true) refl
+    rw (said_no (rw c.before.before.wide32.ensures.0 at c.before.numbers_ok.ensures) c.if-not-numbers_ok.true) refl
 
-returns-2 : tie.Need-returns-2
+returns-2 : tie.Need-returns
 returns-2 c =
-    let m : tie.Else1 = search in
+    let m : tie.Else-not-numbers_ok = search in
     let s : tie.Start = search in
-    places_decide (asked s) (said_yes (rw m.before.before.wide32.ensures.0 at m.before.numbers_ok.ensures) m.if1.left)
-    (rw c.before.before.wide.ensures.0 at c.before.places-ok.ensures) c.held-ok.ensures
+    places_decide (asked s) (said_yes (rw m.before.before.wide32.ensures.0 at m.before.numbers_ok.ensures) m.if-not-numbers_ok.false)
+    (rw c.before.before.wide-waiting.ensures.0 at c.before.places_ok.ensures) c.held_ok.ensures
 
 pub is_sound_spec : {M : Type 1} → statement M
 is_sound_spec =

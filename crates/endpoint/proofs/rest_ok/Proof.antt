@@ -32,27 +32,27 @@ rest_more b at n i h =
     let more = zeros-more (drop (at + n) b) (i - n) (omega (arith, length-drop (at + n) b)) in
     rw (x, le-ltb i n m) (rw (get_or-drop (at + n) b (i - n) 0, y) at more))
 
-abbrev invariant-loop : tie.invariant-loop
+abbrev invariant-loop : tie.invariant-loop-i
 invariant-loop n blocks at ok₀ i₀ j₀ ok i j = (i ≤ longest_block) × ((j ≡ i) × (ok ≡ zeros (take (i - n) (drop (at + n) blocks))))
 
-abbrev decreases-loop : tie.decreases-loop
+abbrev decreases-loop : tie.decreases-loop-i
 decreases-loop n blocks at ok₀ i₀ j₀ ok i j = longest_block - i
 
-loop-holds : tie.Need-loop-init invariant-loop decreases-loop
+loop-holds : tie.Need-loop-i-init invariant-loop decreases-loop
 unfolding zeros
 loop-holds c = (search rules, (search rules, rw zero-sub refl))
 
-loop-again : tie.Need-loop-preserved invariant-loop decreases-loop
+loop-again : tie.Need-loop-i-preserved invariant-loop decreases-loop
 loop-again c =
     let l = c.before.before in
     let a = l.before.args in
-    (search rules, (search rules, rw (l.loop.invariant.1.0, l.loop.invariant.1.1) (rest_more a.blocks.now a.at a.n l.loop.i (omega arith))))
+    (search rules, (search rules, rw (l.loop-i.invariant.1.0, l.loop-i.invariant.1.1) (rest_more a.blocks.now a.at a.n l.loop-i.i (omega arith))))
 
 returns : tie.Need-returns invariant-loop decreases-loop
 returns c =
     let l = c.before in
-    let e : l.loop.i ≡ longest_block = omega arith in
-    rw e at l.loop.invariant.1.1
+    let e : l.loop-i.i ≡ longest_block = omega arith in
+    rw e at l.loop-i.invariant.1.1
 
 pub rest_ok_spec : {M : Type 1} → statement M
 rest_ok_spec =

@@ -24,19 +24,19 @@ module _ (c : tie.Start) where
   unfolding block_part
   received h = there c.args.n c.args.block.now (rw h at c.requires)
 
-slice-aggregate-result : tie.Need-slice-aggregate-result
-slice-aggregate-result c = let s : tie.Start = search in sym (length-take-le _ _ (collected s c.before.enum_told.given.1))
+slice-aggregate-result : tie.Need-slice_bounds-result-end
+slice-aggregate-result c = let s : tie.Start = search in sym (length-take-le _ _ (collected s c.in-Request.is))
 
-slice-aggregate-result-2 : tie.Need-slice-aggregate-result-2
-slice-aggregate-result-2 c = let s : tie.Start = search in sym (length-take-le _ _ (received s c.before.enum-told2.given.1))
+slice-aggregate-result-2 : tie.Need-slice_bounds-result-end-in-Receive
+slice-aggregate-result-2 c = let s : tie.Start = search in sym (length-take-le _ _ (received s c.in-Receive.is))
 
-returns : tie.Need-returns
+returns : tie.Need-returns-in-Request
 unfolding block_part
-returns c = rw c.before.enum_told.given.1 refl
+returns c = rw c.in-Request.is refl
 
-returns-2 : tie.Need-returns-2
+returns-2 : tie.Need-returns-in-Receive
 unfolding block_part
-returns-2 c = rw c.before.enum-told2.given.1 refl
+returns-2 c = rw c.in-Receive.is refl
 
 pub block_part_spec : {M : Type 1} → statement M
 block_part_spec = tie.close (tie.spec (λ c. search rules) slice-aggregate-result (λ c. search rules) slice-aggregate-result-2 returns returns-2)

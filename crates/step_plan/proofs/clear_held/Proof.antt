@@ -9,5 +9,5 @@ pub clear_held_spec : {M : Type 1} → statement M
 unfolding clearing when
 clear_held_spec =
     tie.close
-    (tie.spec (λ c κs. search rules) (λ c. rw (sym c.before.is-clear.ensures ∙ c.if1.true) refl)
-    (λ c. rw (sym c.before.is-clear.ensures ∙ c.if1.false) refl))
+    (tie.spec (λ c κs. search rules) (λ c. rw (sym c.before.is_clear.ensures ∙ c.if-is_clear.true) refl)
+    (λ c. rw (sym c.before.is_clear.ensures ∙ c.if-is_clear.false) refl))

@@ -6,4 +6,4 @@ use Rattle.step_plan.proofs.clear_queue.Tie as tie
 
 pub clear_queue_spec : {M : Type 1} → statement M
 unfolding emptying
-clear_queue_spec = tie.close (tie.spec (λ c. sym (eq_yes _ _ _ _ c.if1.true)) (λ c. sym (eq_no _ _ _ _ c.if1.false)))
+clear_queue_spec = tie.close (tie.spec (λ c. sym (eq_yes _ _ _ _ c.if-waiting-eq0.true)) (λ c. sym (eq_no _ _ _ _ c.if-waiting-eq0.false)))

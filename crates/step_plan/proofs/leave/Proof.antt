@@ -9,5 +9,5 @@ pub leave_spec : {M : Type 1} → statement M
 unfolding leaving when
 leave_spec =
     tie.close
-    (tie.spec (λ c κs. search rules) (λ c. rw (sym c.before.is-clear.ensures ∙ c.if1.true) refl)
-    (λ c. rw (sym c.before.is-clear.ensures ∙ c.if1.false) refl))
+    (tie.spec (λ c κs. search rules) (λ c. rw (sym c.before.is_clear.ensures ∙ c.if-is_clear.true) refl)
+    (λ c. rw (sym c.before.is_clear.ensures ∙ c.if-is_clear.false) refl))

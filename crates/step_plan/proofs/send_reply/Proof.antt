@@ -19,11 +19,11 @@ short Clear b old h g = g
 write-requires : tie.Need-write-requires
 write-requires c κs =
     let s : tie.Start = search in
-    (s.pre.0, (search rules, rw c.before.block_out.ensures (short s.args.p.queue s.args.joined.now s.args.oldest.now s.pre.1.1.1 s.pre.1.1.0)))
+    (s.requires.0, (search rules, rw c.before.block_out.ensures (short s.args.p.queue s.args.joined.now s.args.oldest.now s.requires.1.1.1 s.requires.1.1.0)))
 
 returns : tie.Need-returns
 returns c =
-    let at-block-out : tie.After-block-out = search in
+    let at-block-out : tie.After-block_out = search in
     rw at-block-out.block_out.ensures at c.before.before.write.ensures
 
 pub send_reply_spec : {M : Type 1} → statement M

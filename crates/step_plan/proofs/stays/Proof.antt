@@ -8,5 +8,5 @@ pub stays_spec : {M : Type 1} → statement M
 unfolding staying
 stays_spec =
     tie.close
-    (tie.spec (λ c. search rules) (λ c. search rules) (λ c. search rules) (λ c. search rules) (λ c. rw c.enum_told.given.1 refl) (λ c. rw c.enum-told2.given.1 refl)
-    (λ c. rw c.enum-told3.given.1 refl) (λ c. rw c.enum-told4.given.1 refl))
+    (tie.spec (λ c. search rules) (λ c. search rules) (λ c. search rules) (λ c. search rules) (λ c. rw c.in-Keep.is refl) (λ c. rw c.in-Join.is refl)
+    (λ c. rw c.in-Release.is refl) (λ c. rw c.in-Clear.is refl))

@@ -7,17 +7,16 @@ use Rattle.step_plan.proofs.write.Statement.{statement}
 use Rattle.step_plan.proofs.write.Tie as tie
 
 write-requires : tie.Need-write-requires
-write-requires c κs = let s : tie.Start = search in (rw c.before.before.reply.given.1 at s.pre.0, (search rules, search rules))
+write-requires c κs = let s : tie.Start = search in (rw c.in-Frame.is at s.requires.0, (search rules, search rules))
 
-returns : tie.Need-returns
+returns : tie.Need-returns-in-Nothing
 unfolding sent_by wire
-returns c = let s : tie.Start = search in rw c.enum_told.given.1 (record { count = refl; octets = put-none s.args.out.now 0 })
+returns c = let s : tie.Start = search in rw c.in-Nothing.is (record { count = refl; octets = put-none s.args.out.now 0 })
 
-returns-2 : tie.Need-returns-2
+returns-2 : tie.Need-returns-in-Frame
 unfolding sent_by wire
 returns-2 c =
-    let at-reply : tie.After-reply = search in
-    let w = c.before.before.write.ensures in rw at-reply.reply.given.1 (record { count = w.count; octets = w.octets })
+    let w = c.write.ensures in rw c.in-Frame.is (record { count = w.count; octets = w.octets })
 
 pub write_spec : {M : Type 1} → statement M
 write_spec =

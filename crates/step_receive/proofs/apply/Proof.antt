@@ -56,21 +56,21 @@ module _ (c : tie.Start) where
 hold-requires : tie.Need-hold-requires
 hold-requires c κs =
     let s : tie.Start = search in
-    (s.pre.0, omega (arith, found-hold s c.before.before.enum-told16.given.1))
+    (s.requires.0, omega (arith, found-hold s c.in-Hold.is))
 
-hands-it-up : tie.Need-returns-15
+hands-it-up : tie.Need-returns-in-HandUp
 unfolding apply notice_number sent_by if_eq when
 hands-it-up c = λ b d q h old w _ lz.
     let s : tie.Start = search in
-    hands s.args.n q h b old w _ lz s.pre.0 (if_eq s.args.f.kind DATA b []) (does s q h b c.before.enum-told15.given.1) c.hand_up.ensures
+    hands s.args.n q h b old w _ lz s.requires.0 (if_eq s.args.f.kind DATA b []) (does s q h b c.in-HandUp.is) c.hand_up.ensures
 
-holds-it : tie.Need-returns-16
+holds-it : tie.Need-returns-in-Hold
 unfolding apply notice_number sent_by is_frame in_range if_eq when
 holds-it c = λ b d q h old w _ lz.
     let s : tie.Start = search in
     let n = s.args.n in
     let i : ℕ = s.args.f.number - n.delivered in
-    let told = c.before.before.before.enum-told16.given.1 in
+    let told = c.in-Hold.is in
     let f = found-hold s told in
     let v = d f.0 in
     let l = sym (length_at h i) ∙ ap (λ (z : List ℕ). get_or z i 0) lz in
@@ -95,28 +95,28 @@ apply_spec =
     (λ c κs. search rules) (λ c κs. search rules) (λ c. search rules) (λ c κs. search rules) (λ c. search rules) (λ c κs. search rules)
     (λ c. search rules) (λ c κs. search rules) (λ c κs. search rules) (λ c. search rules) (λ c κs. search rules) (λ c. search rules)
     (λ c κs. search rules) (λ c κs. search rules) (λ c. search rules) (λ c κs. search rules) (λ c. search rules) (λ c κs. search rules)
-    (λ c κs. search rules) (λ c. search rules) (λ c κs. let s : tie.Start = search in found-hand-up s c.enum-told15.given.1) (λ c. search rules)
-    (λ c. let s : tie.Start = search in omega (arith, found-hold s c.before.before.enum-told16.given.1)) (λ c. search rules) hold-requires
+    (λ c κs. search rules) (λ c. search rules) (λ c κs. let s : tie.Start = search in found-hand-up s c.in-HandUp.is) (λ c. search rules)
+    (λ c. let s : tie.Start = search in omega (arith, found-hold s c.in-Hold.is)) (λ c. search rules) hold-requires
     (λ c. search rules) (λ c κs. search rules) (λ c κs. search rules) (λ c. search rules)
-    (λ c κs. let s : tie.Start = search in (s.pre.1.0, found-release s c.enum-told18.given.1)) (λ c. search rules) (λ c κs. search rules)
+    (λ c κs. let s : tie.Start = search in (s.requires.1.0, found-release s c.in-Release.is)) (λ c. search rules) (λ c κs. search rules)
     (λ c κs. search rules) (λ c. search rules) (λ c κs. search rules)
-    (λ c b d q h old w _ lz. let s : tie.Start = search in let n = s.args.n in keeps n q h b old w none Nothing tt (does s q h b c.before.enum_told.given.1) c.keep.ensures)
-    (λ c b d q h old w _ lz. let s : tie.Start = search in let n = s.args.n in keeps n q h b old w none (Frame (header_of REJ n.local s.args.f.sender 0)) refl (does s q h b c.before.before.enum-told2.given.1) (rw c.before.say.ensures at c.keep2.ensures))
-    (λ c b d q h old w _ lz. let s : tie.Start = search in let n = s.args.n in keeps n q h b old w none (Frame (header_of DRACK n.local s.args.f.sender 0)) refl (does s q h b c.before.before.enum-told3.given.1) (rw c.before.say2.ensures at c.keep3.ensures))
-    (λ c b d q h old w _ lz. let s : tie.Start = search in let n = s.args.n in turns n q h b old w _ lz s.pre.0 passive_opening s.args.f.sender none (Frame (header_of CRPO n.local s.args.f.sender 0)) refl (does s q h b c.before.before.enum-told4.given.1) (rw c.before.say3.ensures at c.turn.ensures))
-    (λ c b d q h old w _ lz. let s : tie.Start = search in let n = s.args.n in keeps n q h b old w none (Frame (header_of RESET n.local s.args.f.sender 0)) refl (does s q h b c.before.before.enum-told5.given.1) (rw c.before.say4.ensures at c.keep4.ensures))
-    (λ c b d q h old w _ lz. let s : tie.Start = search in let n = s.args.n in turns n q h b old w _ lz s.pre.0 established s.args.f.sender connected (Frame (header_of CRACK n.local s.args.f.sender 0)) refl (does s q h b c.before.before.enum-told6.given.1) (rw c.before.say5.ensures at c.turn2.ensures))
-    (λ c b d q h old w _ lz. let s : tie.Start = search in let n = s.args.n in turns n q h b old w _ lz s.pre.0 active_opening s.args.f.sender none (Frame (header_of CRAO n.local s.args.f.sender 0)) refl (does s q h b c.before.before.enum-told7.given.1) (rw c.before.say6.ensures at c.turn3.ensures))
-    (λ c b d q h old w _ lz. let s : tie.Start = search in let n = s.args.n in turns n q h b old w _ lz s.pre.0 established s.args.f.sender connected Nothing tt (does s q h b c.before.enum-told8.given.1) c.turn4.ensures)
-    (λ c b d q h old w _ lz. let s : tie.Start = search in let n = s.args.n in turns n q h b old w _ lz s.pre.0 closed 0 rejected Nothing tt (does s q h b c.before.enum-told9.given.1) c.turn5.ensures)
-    (λ c b d q h old w _ lz. let s : tie.Start = search in let n = s.args.n in turns n q h b old w _ lz s.pre.0 closed 0 rejected (Frame (header_of DRACK n.local s.args.f.sender 0)) refl (does s q h b c.before.before.enum-told10.given.1) (rw c.before.say7.ensures at c.turn6.ensures))
-    (λ c b d q h old w _ lz. let s : tie.Start = search in let n = s.args.n in turns n q h b old w _ lz s.pre.0 listening 0 none Nothing tt (does s q h b c.before.enum-told11.given.1) c.turn7.ensures)
-    (λ c b d q h old w _ lz. let s : tie.Start = search in let n = s.args.n in turns n q h b old w _ lz s.pre.0 closed 0 closedByPartner (Frame (header_of DRACK n.local s.args.f.sender 0)) refl (does s q h b c.before.before.enum-told12.given.1) (rw c.before.say8.ensures at c.turn8.ensures))
-    (λ c b d q h old w _ lz. let s : tie.Start = search in let n = s.args.n in turns n q h b old w _ lz s.pre.0 closed 0 closedByPartner Nothing tt (does s q h b c.before.enum-told13.given.1) c.turn9.ensures)
-    (λ c b d q h old w _ lz. let s : tie.Start = search in let n = s.args.n in keeps n q h b old w none (Frame (header_of CRACK n.local n.remote 0)) refl (does s q h b c.before.before.enum-told14.given.1) (rw c.before.say9.ensures at c.keep5.ensures))
+    (λ c b d q h old w _ lz. let s : tie.Start = search in let n = s.args.n in keeps n q h b old w none Nothing tt (does s q h b c.in-Ignore.is) c.keep.ensures)
+    (λ c b d q h old w _ lz. let s : tie.Start = search in let n = s.args.n in keeps n q h b old w none (Frame (header_of REJ n.local s.args.f.sender 0)) refl (does s q h b c.in-Refuse.is) (rw c.before.say.ensures at c.keep-in-Refuse.ensures))
+    (λ c b d q h old w _ lz. let s : tie.Start = search in let n = s.args.n in keeps n q h b old w none (Frame (header_of DRACK n.local s.args.f.sender 0)) refl (does s q h b c.in-AcceptDisconnect.is) (rw c.before.say-in-AcceptDisconnect.ensures at c.keep-in-AcceptDisconnect.ensures))
+    (λ c b d q h old w _ lz. let s : tie.Start = search in let n = s.args.n in turns n q h b old w _ lz s.requires.0 passive_opening s.args.f.sender none (Frame (header_of CRPO n.local s.args.f.sender 0)) refl (does s q h b c.in-Answer.is) (rw c.before.say-in-Answer.ensures at c.turn.ensures))
+    (λ c b d q h old w _ lz. let s : tie.Start = search in let n = s.args.n in keeps n q h b old w none (Frame (header_of RESET n.local s.args.f.sender 0)) refl (does s q h b c.in-Reset.is) (rw c.before.say-in-Reset.ensures at c.keep-in-Reset.ensures))
+    (λ c b d q h old w _ lz. let s : tie.Start = search in let n = s.args.n in turns n q h b old w _ lz s.requires.0 established s.args.f.sender connected (Frame (header_of CRACK n.local s.args.f.sender 0)) refl (does s q h b c.in-OpenAndConfirm.is) (rw c.before.say-in-OpenAndConfirm.ensures at c.turn-in-OpenAndConfirm.ensures))
+    (λ c b d q h old w _ lz. let s : tie.Start = search in let n = s.args.n in turns n q h b old w _ lz s.requires.0 active_opening s.args.f.sender none (Frame (header_of CRAO n.local s.args.f.sender 0)) refl (does s q h b c.in-CallAgain.is) (rw c.before.say-in-CallAgain.ensures at c.turn-in-CallAgain.ensures))
+    (λ c b d q h old w _ lz. let s : tie.Start = search in let n = s.args.n in turns n q h b old w _ lz s.requires.0 established s.args.f.sender connected Nothing tt (does s q h b c.in-Open.is) c.turn-in-Open.ensures)
+    (λ c b d q h old w _ lz. let s : tie.Start = search in let n = s.args.n in turns n q h b old w _ lz s.requires.0 closed 0 rejected Nothing tt (does s q h b c.in-Rejected.is) c.turn-in-Rejected.ensures)
+    (λ c b d q h old w _ lz. let s : tie.Start = search in let n = s.args.n in turns n q h b old w _ lz s.requires.0 closed 0 rejected (Frame (header_of DRACK n.local s.args.f.sender 0)) refl (does s q h b c.in-RejectedByDisconnect.is) (rw c.before.say-in-RejectedByDisconnect.ensures at c.turn-in-RejectedByDisconnect.ensures))
+    (λ c b d q h old w _ lz. let s : tie.Start = search in let n = s.args.n in turns n q h b old w _ lz s.requires.0 listening 0 none Nothing tt (does s q h b c.in-ListenAgain.is) c.turn-in-ListenAgain.ensures)
+    (λ c b d q h old w _ lz. let s : tie.Start = search in let n = s.args.n in turns n q h b old w _ lz s.requires.0 closed 0 closedByPartner (Frame (header_of DRACK n.local s.args.f.sender 0)) refl (does s q h b c.in-ClosedByPartner.is) (rw c.before.say-in-ClosedByPartner.ensures at c.turn-in-ClosedByPartner.ensures))
+    (λ c b d q h old w _ lz. let s : tie.Start = search in let n = s.args.n in turns n q h b old w _ lz s.requires.0 closed 0 closedByPartner Nothing tt (does s q h b c.in-ClosedByRejection.is) c.turn-in-ClosedByRejection.ensures)
+    (λ c b d q h old w _ lz. let s : tie.Start = search in let n = s.args.n in keeps n q h b old w none (Frame (header_of CRACK n.local n.remote 0)) refl (does s q h b c.in-Confirm.is) (rw c.before.say-in-Confirm.ensures at c.keep-in-Confirm.ensures))
     hands-it-up
     holds-it
-    (λ c b d q h old w _ lz. let s : tie.Start = search in let n = s.args.n in keeps n q h b old w none (Frame (header_of ACK n.local n.remote n.delivered)) refl (does s q h b c.before.before.enum-told17.given.1) (rw c.before.say10.ensures at c.keep6.ensures))
-    (λ c b d q h old w _ lz. let s : tie.Start = search in let n = s.args.n in let t = c.before.enum-told18.given.1 in releases n q h b old w s.args.f.number s.pre.1.0 (found-release s t).1 (does s q h b t) c.release.ensures)
-    (λ c b d q h old w _ lz. let s : tie.Start = search in let n = s.args.n in turns n q h b old w _ lz s.pre.0 closed 0 closeFinished (Frame (header_of DRACK n.local s.args.f.sender 0)) refl (does s q h b c.before.before.enum-told19.given.1) (rw c.before.say11.ensures at c.turn10.ensures))
-    (λ c b d q h old w _ lz. let s : tie.Start = search in let n = s.args.n in turns n q h b old w _ lz s.pre.0 closed 0 closeFinished Nothing tt (does s q h b c.before.enum-told20.given.1) c.turn11.ensures))
+    (λ c b d q h old w _ lz. let s : tie.Start = search in let n = s.args.n in keeps n q h b old w none (Frame (header_of ACK n.local n.remote n.delivered)) refl (does s q h b c.in-Acknowledge.is) (rw c.before.say-in-Acknowledge.ensures at c.keep-in-Acknowledge.ensures))
+    (λ c b d q h old w _ lz. let s : tie.Start = search in let n = s.args.n in let t = c.in-Release.is in releases n q h b old w s.args.f.number s.requires.1.0 (found-release s t).1 (does s q h b t) c.release.ensures)
+    (λ c b d q h old w _ lz. let s : tie.Start = search in let n = s.args.n in turns n q h b old w _ lz s.requires.0 closed 0 closeFinished (Frame (header_of DRACK n.local s.args.f.sender 0)) refl (does s q h b c.in-FinishedByDisconnect.is) (rw c.before.say-in-FinishedByDisconnect.ensures at c.turn-in-FinishedByDisconnect.ensures))
+    (λ c b d q h old w _ lz. let s : tie.Start = search in let n = s.args.n in turns n q h b old w _ lz s.requires.0 closed 0 closeFinished Nothing tt (does s q h b c.in-Finished.is) c.turn-in-Finished.ensures))

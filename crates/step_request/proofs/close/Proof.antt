@@ -13,24 +13,24 @@ use borrow.Author.Rules.{rules}
 use Rattle.step_request.proofs.close.Statement.{statement}
 use Rattle.step_request.proofs.close.Tie as tie
 
-returns : tie.Need-returns
-returns c = λ b q h old w _ lz. let s : tie.Start = search in let a = s.args in refuses a.n q h b old w 8 (close-8 (holding a.n q h) c.before.if1.true) c.refuse.ensures
+returns : tie.Need-returns-then-not-allowed
+returns c = λ b q h old w _ lz. let s : tie.Start = search in let a = s.args in refuses a.n q h b old w 8 (close-8 (holding a.n q h) c.before.if-not-allowed.true) c.refuse.ensures
 
-returns-2 : tie.Need-returns-2
+returns-2 : tie.Need-returns-then-n-eq0
 unfolding notice_number sent_by
 returns-2 c = λ b q h old w _ lz.
     let s : tie.Start = search in let a = s.args in
-    turns a.n q h b old w _ lz s.pre 0 0 closeFinished Nothing tt
-    (close-unheard (holding a.n q h) c.before.before.before.if1.false c.before.if2.true) c.turn.ensures
+    turns a.n q h b old w _ lz s.requires 0 0 closeFinished Nothing tt
+    (close-unheard (holding a.n q h) c.before.before.before.if-not-allowed.false c.before.if-n-eq0.true) c.turn.ensures
 
-returns-3 : tie.Need-returns-3
+returns-3 : tie.Need-returns
 unfolding notice_number sent_by is_frame in_range if_eq when
 returns-3 c =
-    let else1 : tie.Else1 = search in
+    let else1 : tie.Else-not-allowed = search in
     λ b q h old w _ lz.
     let s : tie.Start = search in let a = s.args in
-    turns a.n q h b old w _ lz s.pre 5 a.n.remote none (Frame (header_of DR a.n.local a.n.remote 0)) refl
-    (close-heard (holding a.n q h) else1.if1.left c.before.before.if2.false) (rw c.before.say.ensures at c.turn2.ensures)
+    turns a.n q h b old w _ lz s.requires 5 a.n.remote none (Frame (header_of DR a.n.local a.n.remote 0)) refl
+    (close-heard (holding a.n q h) else1.if-not-allowed.false c.before.before.if-n-eq0.false) (rw c.before.say-reply.ensures at c.turn-2.ensures)
 
 pub close_spec : {M : Type 1} → statement M
 close_spec =

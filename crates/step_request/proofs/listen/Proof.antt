@@ -13,16 +13,16 @@ use borrow.Author.Rules.{rules}
 use Rattle.step_request.proofs.listen.Statement.{statement}
 use Rattle.step_request.proofs.listen.Tie as tie
 
-room : (c : tie.Else1) → c.before.before.before.args.n.local < last_incarnation
-room c = left _ c.before.before.before.args.n.local last_incarnation (sym c.before.refusal-of.ensures ∙ c.if1.false)
+room : (c : tie.Else-refusal-ne0) → c.before.before.before.args.n.local < last_incarnation
+room c = left _ c.before.before.before.args.n.local last_incarnation (sym c.before.refusal_of-refusal.ensures ∙ c.if-refusal-ne0.false)
 
 pub listen_spec : {M : Type 1} → statement M
 unfolding refusal request_questions accept sent_by
 listen_spec =
     tie.close
     (tie.spec (λ c κs. search rules) (λ c κs. search rules)
-    (λ c b q h old w _ lz. let s : tie.Start = search in let n = s.args.n in refuses n q h b old w _ (refused-by (holding n q h) listen c.before.before.refusal-of.ensures c.before.if1.true) c.refuse.ensures)
+    (λ c b q h old w _ lz. let s : tie.Start = search in let n = s.args.n in refuses n q h b old w _ (refused-by (holding n q h) listen c.before.before.refusal_of-refusal.ensures c.before.if-refusal-ne0.true) c.refuse.ensures)
     (λ c κs. room c)
     (λ c b q h old w _ lz.
     let s : tie.Start = search in let n = s.args.n in
-    begins n q h b old w _ lz s.pre listening Nothing tt (allowed (holding n q h) listen (sym c.before.before.refusal-of.ensures ∙ c.before.if1.false)) c.begin.ensures))
+    begins n q h b old w _ lz s.requires listening Nothing tt (allowed (holding n q h) listen (sym c.before.before.refusal_of-refusal.ensures ∙ c.before.if-refusal-ne0.false)) c.begin.ensures))

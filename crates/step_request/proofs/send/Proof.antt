@@ -14,30 +14,30 @@ use Rattle.step_request.proofs.send.Statement.{statement}
 use Rattle.step_request.proofs.send.Tie as tie
 
 -- questions 8 and 9 are passed
-passed : (c : tie.Else1) → first ((8, eqb c.before.before.args.n.state established) ∷ (9, ltb c.before.before.args.n.accepted last_number) ∷ []) ≡ 0
-passed c = sym c.before.refusal-of.ensures ∙ c.if1.false
+passed : (c : tie.Else-refusal-ne0) → first ((8, eqb c.before.before.args.n.state established) ∷ (9, ltb c.before.before.args.n.accepted last_number) ∷ []) ≡ 0
+passed c = sym c.before.refusal_of-refusal.ensures ∙ c.if-refusal-ne0.false
 
-returns : tie.Need-returns
+returns : tie.Need-returns-then-refusal-ne0
 returns c = λ z b _ _ q h old w _ _.
     let s : tie.Start = search in
     let n = s.args.n in
-    refuses n q h b old w _ (send-refused (holding n q h) b c.before.before.refusal-of.ensures c.before.if1.true) c.refuse.ensures
+    refuses n q h b old w _ (send-refused (holding n q h) b c.before.before.refusal_of-refusal.ensures c.before.if-refusal-ne0.true) c.refuse.ensures
 
-returns-2 : tie.Need-returns-2
+returns-2 : tie.Need-returns-then-n-ge-QUEUE_SIZE
 returns-2 c = λ z b _ _ q h old w _ _.
     let s : tie.Start = search in
-    let e : tie.Else1 = search in
+    let e : tie.Else-refusal-ne0 = search in
     let n = s.args.n in
-    refuses n q h b old w _ (send-10 (holding n q h) b (passed e) (omega arith)) c.refuse2.ensures
+    refuses n q h b old w _ (send-10 (holding n q h) b (passed e) (omega arith)) c.refuse-then-n-ge-QUEUE_SIZE.ensures
 
 join-requires : tie.Need-join-requires
-join-requires c κs = let s : tie.Start = search in let e : tie.Else1 = search in (left _ s.args.n.accepted last_number (passed e), search rules)
+join-requires c κs = let s : tie.Start = search in let e : tie.Else-refusal-ne0 = search in (left _ s.args.n.accepted last_number (passed e), search rules)
 
-returns-3 : tie.Need-returns-3
+returns-3 : tie.Need-returns
 unfolding accept
 returns-3 c = λ z b lo hi q h old w _ _.
     let s : tie.Start = search in
-    let e : tie.Else1 = search in
+    let e : tie.Else-refusal-ne0 = search in
     let n = s.args.n in
     joins n q h b old w (omega arith) lo hi (send-0 (holding n q h) b (passed e) (omega arith)) c.join.ensures
 

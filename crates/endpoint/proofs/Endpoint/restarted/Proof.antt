@@ -11,7 +11,7 @@ use Rattle.endpoint.proofs.Endpoint.restarted.Tie as tie
 returns : tie.Need-returns
 unfolding pack
 returns c =
-    let f = c.fresh.ensures in
+    let f = c.fresh-e.ensures in
     let l : c.before.args.used * numbers_each ≡ numbers_each * c.before.args.used = omega arith in
     λ i. record {
       state = (f i).state;
