@@ -13,6 +13,24 @@ if not os.path.exists(p):
 d=json.load(open(p))
 name=os.path.basename(crate)
 norm=lambda x: x.replace('-','_').lower()
+def lent(ps,fn):
+    """The parameters of fn without its shared references and plain numbers."""
+    if not ps or not fn: return ps
+    cr,f=fn.split('::')[0],fn.split('::')[-1]
+    src=''
+    for root in (crate+'/../'+cr+'/src',):
+        if os.path.isdir(root):
+            for x in sorted(os.listdir(root)): src+=open(root+'/'+x).read()
+    mm=re.search(r'fn '+f+r"(?:<[^>]*>)?\((.*?)\)\s*(?:->|requires|ensures|\{|\n)",src,re.S)
+    if not mm: return ps
+    types=dict(re.findall(r'(\w+)\s*:\s*([^,]+)',mm.group(1)))
+    keep=[]
+    for q in ps:
+        ty=types.get(q,'')
+        if re.match(r"&('\w+ )?(?!mut)",ty) and not re.match(r"&('\w+ )?mut",ty): continue
+        if re.match(r'(u8|u16|u32|u64|usize|bool)\b',ty): continue
+        keep.append(q)
+    return keep
 for key,v in d.items():
     m=re.match(r'Rattle-'+re.escape(name)+r'-proofs\.(.*)\.Lts$',key)
     if not m: continue
@@ -40,9 +58,14 @@ for key,v in d.items():
         put(steps,o,n); new_steps.add(n); new_tie|={'invariant-'+n,'decreases-'+n}
     for n in list(new_steps): steps.setdefault(norm(n),n)
     for n in list(new_tie): tie.setdefault(norm(n),n)
+    landed=subprocess.run(['git','show','61652aa:crates/%s/proofs/%s/Proof.antt'%({'hexadecimal':'hex'}.get(name,name),m.group(1).replace('.','/'))],cwd=crate,capture_output=True,text=True).stdout
+    olds=re.findall(r"\btie\.([^\s(){};,]+)",landed)
+    curs=re.findall(r"\btie\.([^\s(){};,]+)",t)
+    it=iter(olds if len(olds)==len(curs) else curs)
+    if len(olds)!=len(curs): print('tie counts differ',f)
     def ontie(mm):
-        w=mm.group(2)
-        return mm.group(1)+(tie.get(norm(w),w))
+        w=next(it)
+        return mm.group(1)+(tie.get(norm(w)) or tie.get(norm(mm.group(2)),mm.group(2)))
     n=re.sub(r"(\btie\.)([^\s(){};,]+)",ontie,t)
     t0=n
     n=re.sub(r"(?:\.before)*\.([^\s().,;{}]+)\.given\.1",lambda mm: '.'+told[norm(mm.group(1))]+'.is' if norm(mm.group(1)) in told else mm.group(0),n)
@@ -55,5 +78,20 @@ for key,v in d.items():
     n=re.sub(r"(?<=[\w)'\]])\.([A-Za-z_][^\s(){};,.\]\[]*)",onstep,n)
     n=re.sub(r"(\.if-[^.\s()]+)\.left(?![\w])",r"\1.false",n)
     n=re.sub(r"(\.if-[^.\s()]+)\.taken(?![\w])",r"\1.true",n)
+    by_step={pl[2][1]:v['params'][pl[3]] for pl in v['places'] if pl[3] and pl[3] in v['params']}
+    pl3={pl[2][1]:pl[3] for pl in v['places'] if pl[3]}
+    def onlast(mm):
+        ps=lent(by_step.get(mm.group(1)),pl3.get(mm.group(1))); k=int(mm.group(3))
+        return '.%s.new.%s'%(mm.group(1),ps[k]) if ps and k<len(ps) else mm.group(0)
+    n=re.sub(r"\.([^\s().,;{}]+)\.(last|new)\.(\d+)",onlast,n)
+    for var,step in re.findall(r"let (\w+) = [\w.'-]*\.([^\s().,;{}]+) in",n):
+        n=re.sub(r"(?<![\w.])"+re.escape(var)+r"\.(last|new)\.(\d+)",lambda mm: onlast(re.match(r"\.([^\s().,;{}]+)\.(last|new)\.(\d+)",'.%s.%s.%s'%(step,mm.group(1),mm.group(2)))).replace('.'+step,var,1),n)
+    for var,pl in re.findall(r"let ([\w'-]+) : tie\.(In-[\w-]+-\d) = search in",n):
+        use=re.findall(r"(?<![\w.'-])"+re.escape(var)+r"(?![\w'-])(\S*)",n)
+        if all(u=='' or u.startswith('.in-') for u in use) and sum(u=='' for u in use)==len(re.findall(r"let "+re.escape(var)+" : tie",n)):
+            n=re.sub(r"(?<![\w.'-])"+re.escape(var)+r"\.(in-)",r"c.\1",n)
+            n=re.sub(r"[ ]*let "+re.escape(var)+r" : tie\.In-[\w-]+-\d = search in\n?","",n)
+    flat=new_steps|{'args','requires','ranges','lifetimes','well_formed'}
+    n=re.sub(r"(?<![\w.])([A-Za-z_]\w*)((?:\.before)+)\.([^\s(){},;.]+)",lambda mm: mm.group(1)+'.'+mm.group(3) if mm.group(3) in flat or mm.group(3).startswith('in-') or mm.group(3).startswith('if-') else mm.group(0),n)
     n=re.sub(r"not-(true|false) ([^\s()]+) ([^\s(),;]+\.\1)(?![\w.])",r"\3",n)
     if n!=t: open(f,'w').write(n); print('turned',m.group(1))

@@ -11,7 +11,7 @@ returns : tie.Need-returns
 unfolding view decode
 returns c =
     let z : tie.Start = search in let p = z.args.page.now in
-    c.Goes-with.ensures ∙ ap (λ (n : Numbers). goes_with n.local p) c.before.load-numbers.ensures
+    c.goes_with.ensures ∙ ap (λ (n : Numbers). goes_with n.local p) c.load_numbers-n.ensures
 
 pub is_paged_spec : {M : Type 1} → statement M
 is_paged_spec = tie.close (tie.spec (λ c κs. search rules) (λ c κs. search rules) returns)

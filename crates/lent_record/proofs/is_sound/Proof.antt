@@ -6,8 +6,8 @@ use Rattle.lent_record.proofs.is_sound.Tie as tie
 returns : tie.Need-returns
 unfolding decode
 returns c =
-    let at-load-numbers : tie.After-load-numbers = search in
-    rw at-load-numbers.load-numbers.ensures at c.is_sound.ensures
+    let at-load-numbers : tie.After-load_numbers-n = search in
+    rw at-load-numbers.load_numbers-n.ensures at c.is_sound.ensures
 
 pub is_sound_spec : {M : Type 1} → statement M
 is_sound_spec =

@@ -7,10 +7,10 @@ use borrow.Author.Rules.{rules}
 use Rattle.lent_record.proofs.refuse.Statement.{statement}
 use Rattle.lent_record.proofs.refuse.Tie as tie
 
-returns : tie.Need-returns
-returns c = let a = c.before.before.args in tells_short a.rec.now a.number c.if1.true
+returns : tie.Need-returns-then-rec-lt-RECORD_SIZE
+returns c = let a = c.args in tells_short a.rec.now a.number c.if-rec-lt-RECORD_SIZE.true
 
-returns-2 : tie.Need-returns-2
+returns-2 : tie.Need-returns
 unfolding answer_of sent_of block_of
 returns-2 c = ap (λ (t : Status). record { status = t; sent = 0; block = 0 }) c.tell.ensures
 

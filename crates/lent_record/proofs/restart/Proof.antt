@@ -7,41 +7,41 @@ use Rattle.lent_record.proofs.Restarts.{restart-refused, short-record, short-pag
 use Rattle.lent_record.proofs.restart.Statement.{statement}
 use Rattle.lent_record.proofs.restart.Tie as tie
 
-returns : tie.Need-returns
+returns : tie.Need-returns-then-rec-lt-RECORD_SIZE
 returns c =
     let z : tie.Start = search in let a = z.args in
-    restart-refused a.rec.now a.page.now (short-record a.rec.now a.page.now (omega (arith, c.before.before.if1.true))) c.refuse.ensures
+    restart-refused a.rec.now a.page.now (short-record a.rec.now a.page.now (omega (arith, c.if-rec-lt-RECORD_SIZE.true))) c.refuse.ensures
 
-returns-2 : tie.Need-returns-2
+returns-2 : tie.Need-returns-then-page-lt-PAGE_SIZE
 returns-2 c =
     let z : tie.Start = search in let a = z.args in
-    restart-refused a.rec.now a.page.now (short-page a.rec.now a.page.now (omega (arith, c.before.before.before.if1.false)) (omega (arith, c.before.before.if2.true))) c.refuse2.ensures
+    restart-refused a.rec.now a.page.now (short-page a.rec.now a.page.now (omega (arith, c.if-rec-lt-RECORD_SIZE.false)) (omega (arith, c.if-page-lt-PAGE_SIZE.true))) c.refuse-then-page-lt-PAGE_SIZE.ensures
 
-returns-3 : tie.Need-returns-3
+returns-3 : tie.Need-returns-then-not-is_run
 returns-3 c =
-    let else1 : tie.Else1 = search in
-    let else2 : tie.Else2 = search in
+    let else1 : tie.Else-rec-lt-RECORD_SIZE = search in
+    let else2 : tie.Else-page-lt-PAGE_SIZE = search in
     let z : tie.Start = search in let a = z.args in
-    let r = c.before.before.before.is-run in
-    restart-refused a.rec.now a.page.now (wrong-page a.rec.now a.page.now (omega (arith, else1.if1.left)) (omega (arith, else2.if2.left)) (sym r.ensures ∙ not-true r.result c.before.before.if3.true)) c.refuse3.ensures
+    let r = c.is_run in
+    restart-refused a.rec.now a.page.now (wrong-page a.rec.now a.page.now (omega (arith, else1.if-rec-lt-RECORD_SIZE.false)) (omega (arith, else2.if-page-lt-PAGE_SIZE.false)) (sym r.ensures ∙ c.if-not-is_run.true)) c.refuse-then-not-is_run.ensures
 
-restarted-requires : tie.Need-restarted-requires
-restarted-requires c κs = c.count-used.ensures.0
+restarted-requires : tie.Need-restarted-e-requires
+restarted-requires c κs = c.count_used.ensures.0
 
-returns-4 : tie.Need-returns-4
+returns-4 : tie.Need-returns
 returns-4 c =
-    let at-is-run : tie.After-is-run = search in
-    let else3 : tie.Else3 = search in
-    let at-count-used : tie.After-count-used = search in
-    let at-restarted : tie.After-restarted = search in
-    let else1 : tie.Else1 = search in
-    let else2 : tie.Else2 = search in
+    let at-is-run : tie.After-is_run = search in
+    let else3 : tie.Else-not-is_run = search in
+    let at-count-used : tie.After-count_used = search in
+    let at-restarted : tie.After-restarted-e = search in
+    let else1 : tie.Else-rec-lt-RECORD_SIZE = search in
+    let else2 : tie.Else-page-lt-PAGE_SIZE = search in
     let z : tie.Start = search in let a = z.args in
-    let r = at-is-run.is-run in
-    let run = sym r.ensures ∙ not-false r.result else3.if3.left in
-    let n = at-count-used.count-used.ensures.1 run in
-    let e = at-restarted.restarted.ensures in
-    restarts a.rec.now a.page.now (omega (arith, else1.if1.left)) (omega (arith, else2.if2.left)) run n e c.before.before.encode.ensures
+    let r = at-is-run.is_run in
+    let run = sym r.ensures ∙ else3.if-not-is_run.false in
+    let n = at-count-used.count_used.ensures.1 run in
+    let e = at-restarted.restarted-e.ensures in
+    restarts a.rec.now a.page.now (omega (arith, else1.if-rec-lt-RECORD_SIZE.false)) (omega (arith, else2.if-page-lt-PAGE_SIZE.false)) run n e c.encode.ensures
 
 pub restart_spec : {M : Type 1} → statement M
 restart_spec =

@@ -9,7 +9,7 @@ returns : tie.Need-returns
 unfolding decode
 returns c =
     let s = c.before.before in
-    let n = c.load-numbers.ensures in
+    let n = c.load_numbers-n.ensures in
     (λ i. record { number = s.args.number; state = (n i).state; notice = 0; local = (n i).local; remote = (n i).remote }) ∙ tells s.args.rec.now s.args.number s.requires
 
 pub tell_spec : {M : Type 1} → statement M
