@@ -13,24 +13,6 @@ if not os.path.exists(p):
 d=json.load(open(p))
 name=os.path.basename(crate)
 norm=lambda x: x.replace('-','_').lower()
-def lent(ps,fn):
-    """The parameters of fn without its shared references and plain numbers."""
-    if not ps or not fn: return ps
-    cr,f=fn.split('::')[0],fn.split('::')[-1]
-    src=''
-    for root in (crate+'/../'+cr+'/src',):
-        if os.path.isdir(root):
-            for x in sorted(os.listdir(root)): src+=open(root+'/'+x).read()
-    mm=re.search(r'fn '+f+r"(?:<[^>]*>)?\((.*?)\)\s*(?:->|requires|ensures|\{|\n)",src,re.S)
-    if not mm: return ps
-    types=dict(re.findall(r'(\w+)\s*:\s*([^,]+)',mm.group(1)))
-    keep=[]
-    for q in ps:
-        ty=types.get(q,'')
-        if re.match(r"&('\w+ )?(?!mut)",ty) and not re.match(r"&('\w+ )?mut",ty): continue
-        if re.match(r'(u8|u16|u32|u64|usize|bool)\b',ty): continue
-        keep.append(q)
-    return keep
 for key,v in d.items():
     m=re.match(r'Rattle-'+re.escape(name)+r'-proofs\.(.*)\.Lts$',key)
     if not m: continue
@@ -79,13 +61,12 @@ for key,v in d.items():
     n=re.sub(r"(\.if-[^.\s()]+)\.left(?![\w])",r"\1.false",n)
     n=re.sub(r"(\.if-[^.\s()]+)\.taken(?![\w])",r"\1.true",n)
     by_step={pl[2][1]:v['params'][pl[3]] for pl in v['places'] if pl[3] and pl[3] in v['params']}
-    pl3={pl[2][1]:pl[3] for pl in v['places'] if pl[3]}
     def onlast(mm):
-        ps=lent(by_step.get(mm.group(1)),pl3.get(mm.group(1))); k=int(mm.group(3))
+        ps=by_step.get(mm.group(1)); k=mm.group(3).count('1')
         return '.%s.new.%s'%(mm.group(1),ps[k]) if ps and k<len(ps) else mm.group(0)
-    n=re.sub(r"\.([^\s().,;{}]+)\.(last|new)\.(\d+)",onlast,n)
+    n=re.sub(r"\.([^\s().,;{}]+)\.(last|new)((?:\.1)*)\.0(?![\w])",onlast,n)
     for var,step in re.findall(r"let (\w+) = [\w.'-]*\.([^\s().,;{}]+) in",n):
-        n=re.sub(r"(?<![\w.])"+re.escape(var)+r"\.(last|new)\.(\d+)",lambda mm: onlast(re.match(r"\.([^\s().,;{}]+)\.(last|new)\.(\d+)",'.%s.%s.%s'%(step,mm.group(1),mm.group(2)))).replace('.'+step,var,1),n)
+        n=re.sub(r"(?<![\w.])"+re.escape(var)+r"\.(last|new)((?:\.1)*)\.0(?![\w])",lambda mm: onlast(re.match(r"\.([^\s().,;{}]+)\.(last|new)((?:\.1)*)\.0",'.%s.%s%s.0'%(step,mm.group(1),mm.group(2)))).replace('.'+step,var,1),n)
     for var,pl in re.findall(r"let ([\w'-]+) : tie\.(In-[\w-]+-\d) = search in",n):
         use=re.findall(r"(?<![\w.'-])"+re.escape(var)+r"(?![\w'-])(\S*)",n)
         if all(u=='' or u.startswith('.in-') for u in use) and sum(u=='' for u in use)==len(re.findall(r"let "+re.escape(var)+" : tie",n)):

@@ -11,25 +11,25 @@ use Rattle.answer_text.proofs.write_answer.Statement.{statement}
 use Rattle.answer_text.proofs.write_answer.Tie as tie
 
 -- the octets of the answer line
-fits : (c : tie.After-octets2) → (c.before.tell.result ≤ longest_answer) × (length c.before.tell.new.1.1.0 ≡ longest_answer)
-fits c = let s : tie.Start = search in told_room s.args.t s.args.block.now (replicate longest_answer 0) s.pre.0 refl c.before.tell.ensures
+fits : (c : tie.After-octets-2-1) → (c.tell-n.result ≤ longest_answer) × (length c.tell-n.new.out ≡ longest_answer)
+fits c = let s : tie.Start = search in told_room s.args.t s.args.block.now (replicate longest_answer 0) s.requires.0 refl c.tell-n.ensures
 
-octets : (c : tie.After-octets2) → let s : tie.Start = search in take c.before.tell.result c.before.tell.new.1.1.0 ≡ answer_octets s.args.t s.args.block.now
-octets c = let w = c.before.tell.ensures in taken (replicate longest_answer 0) _ w.buffer w.count
+octets : (c : tie.After-octets-2-1) → let s : tie.Start = search in take c.tell-n.result c.tell-n.new.out ≡ answer_octets s.args.t s.args.block.now
+octets c = let w = c.tell-n.ensures in taken (replicate longest_answer 0) _ w.buffer w.count
 
-array-share-prefix-octets : tie.Need-array-share-prefix-octets
+array-share-prefix-octets : tie.Need-slice_bounds-octets-end
 array-share-prefix-octets c = omega (arith, fits c)
 
-slice-aggregate-write-line : tie.Need-slice-aggregate-write-line
+slice-aggregate-write-line : tie.Need-slice_bounds-write_line-end
 slice-aggregate-write-line c = sym (length-take-le _ _ (omega (arith, fits c.before)))
 
-write-line-requires : tie.Need-write-line-requires
+write-line-requires : tie.Need-write_line-requires
 write-line-requires c κs =
     let s : tie.Start = search in
-    omega (arith, ap length (octets c.before.before), length_line (answer_octets s.args.t s.args.block.now), s.pre.1)
+    omega (arith, ap length (octets c.before.before), length_line (answer_octets s.args.t s.args.block.now), s.requires.1)
 
 returns : tie.Need-returns
-returns c = let o : tie.After-octets2 = search in rw (octets o) at c.before.before.write-line.ensures
+returns c = let o : tie.After-octets-2-1 = search in rw (octets o) at c.write_line.ensures
 
 pub write_answer_spec : {M : Type 1} → statement M
 write_answer_spec =

@@ -7,7 +7,7 @@ returns : tie.Need-returns
 returns c =
     let s : tie.Start = search in
     let w : tie.After-write = search in
-    line_puts s.args.s.now s.args.out.now s.pre w.write.ensures c.before.before.store8.ensures
+    line_puts s.args.s.now s.args.out.now s.requires w.write.ensures c.store8.ensures
 
 pub write_line_spec : {M : Type 1} → statement M
 write_line_spec =

@@ -16,40 +16,38 @@ joins c h = rw h at c.requires
 leaves : (c : tie.Start) {k : ℕ} → c.args.places ≡ Release k → (k ≤ queue_size) × ((c.args.width ≤ longest_block) × (length c.args.d.now ≡ queue_size * c.args.width))
 leaves c h = rw h at c.requires
 
-mul-copy : tie.Need-overflow-mul-copy
-mul-copy c = let s : tie.Start = search in omega (arith, joins s c.before.before.places.given.1)
+mul-copy : tie.Need-overflow_mul-i
+mul-copy c = let s : tie.Start = search in omega (arith, joins s c.in-Join.is)
 
 copy-requires : tie.Need-copy-requires
 copy-requires c κs =
     let s : tie.Start = search in
-    joins s c.before.before.places.given.1
+    joins s c.in-Join.is
 
-drop-front-requires : tie.Need-drop-front-requires
+drop-front-requires : tie.Need-drop_front-requires
 drop-front-requires c κs =
     let s : tie.Start = search in
-    leaves s c.before.before.places2.given.1
+    leaves s c.in-Release.is
 
-returns : tie.Need-returns
+returns : tie.Need-returns-in-Keep
 unfolding places_after
-returns c = rw c.enum_told.given.1 refl
+returns c = rw c.in-Keep.is refl
 
-returns-2 : tie.Need-returns-2
+returns-2 : tie.Need-returns-in-Join
 unfolding places_after
 returns-2 c =
-    let at_places : tie.After-places = search in
-    rw at_places.places.given.1 c.before.before.copy.ensures
+    rw c.in-Join.is c.copy.ensures
 
-returns-3 : tie.Need-returns-3
+returns-3 : tie.Need-returns-in-Release
 unfolding places_after
 returns-3 c =
-    let at-places2 : tie.After-places2 = search in
-    rw at-places2.places2.given.1 c.before.before.drop-front.ensures
+    rw c.in-Release.is c.drop_front.ensures
 
-returns-4 : tie.Need-returns-4
+returns-4 : tie.Need-returns-in-Clear
 unfolding places_after
 returns-4 c =
-    let at-enum-told2 : tie.After-enum-told2 = search in
-    rw at-enum-told2.enum-told2.given.1 c.before.before.clear.ensures
+    let at-enum-told2 : tie.In-Clear = search in
+    rw at-enum-told2.in-Clear.is c.clear.ensures
 
 pub change_places_spec : {M : Type 1} → statement M
 change_places_spec =

@@ -14,10 +14,10 @@ use Rattle.endpoint_places.proofs.clear.Tie as tie
 abbrev none : List ℕ → List ℕ
 none d = replicate (length d) 0
 
-abbrev invariant-loop : tie.invariant-loop
+abbrev invariant-loop : tie.invariant-loop-i
 invariant-loop d₀ i₀ d i = (i ≤ length d₀) × ((length d ≡ length d₀) × (d ≡ put d₀ 0 (take i (none d₀))))
 
-abbrev decreases-loop : tie.decreases-loop
+abbrev decreases-loop : tie.decreases-loop-i
 decreases-loop d₀ i₀ d i = length d₀ - i
 
 -- one zero more
@@ -33,18 +33,18 @@ unfolding put
 all-over d =
     ap (λ (s : List ℕ). none d ++ s) (drop_of_length-le d {i = 0 + length (none d)} (omega (arith, length-replicate {A = ℕ} (length d) 0))) ∙ append-nil (none d)
 
-loop-again : tie.Need-loop-preserved invariant-loop decreases-loop
+loop-again : tie.Need-loop-i-preserved invariant-loop decreases-loop
 loop-again c =
     let l = c.before in
-    let a = l.before.args in
-    (search rules, (search rules, rw l.loop.invariant.1.1 (one_more a.d.now l.loop.i (omega arith))))
+    let a = l.args in
+    (search rules, (search rules, rw l.loop-i.invariant.1.1 (one_more a.d.now l.loop-i.i (omega arith))))
 
 returns : tie.Need-returns invariant-loop decreases-loop
 returns c =
     let l = c.before in
-    let d = l.before.args.d.now in
-    let e : l.loop.i ≡ length (none d) = omega (arith, length-replicate {A = ℕ} (length d) 0) in
-    rw (e, take-length) at l.loop.invariant.1.1 ∙ all-over d
+    let d = l.args.d.now in
+    let e : l.loop-i.i ≡ length (none d) = omega (arith, length-replicate {A = ℕ} (length d) 0) in
+    rw (e, take-length) at l.loop-i.invariant.1.1 ∙ all-over d
 
 pub clear_spec : {M : Type 1} → statement M
 clear_spec =

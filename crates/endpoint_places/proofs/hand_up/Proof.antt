@@ -7,15 +7,15 @@ use Rattle.endpoint_places.proofs.hand_up.Statement.{statement}
 use Rattle.endpoint_places.proofs.hand_up.Tie as tie
 
 collect-requires : tie.Need-collect-requires
-collect-requires c κs = let s : tie.Start = search in (s.pre.0, rw c.before.enum_told.given.1 at s.pre.1)
+collect-requires c κs = let s : tie.Start = search in (s.requires.0, rw c.in-Request.is at s.requires.1)
 
-returns : tie.Need-returns
+returns : tie.Need-returns-in-Request
 unfolding block_from
-returns c = let e : tie.After-enum-told = search in rw e.enum_told.given.1 c.before.before.collect.ensures
+returns c = let e : tie.In-Request = search in rw e.in-Request.is c.collect.ensures
 
-returns-2 : tie.Need-returns-2
+returns-2 : tie.Need-returns-in-Receive
 unfolding block_from handed_to
-returns-2 c = rw c.before.enum-told2.given.1 (record { count = ap (λ (b : Block). length b) c.handed_up.ensures; octets = refl })
+returns-2 c = rw c.in-Receive.is (record { count = ap (λ (b : Block). length b) c.handed_up-up.ensures; octets = refl })
 
 pub hand_up_spec : {M : Type 1} → statement M
 hand_up_spec =

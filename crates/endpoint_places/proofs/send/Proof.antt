@@ -7,8 +7,8 @@ use Rattle.endpoint_places.proofs.send.Tie as tie
 returns : tie.Need-returns
 unfolding place_block
 returns c =
-    let at_wide : tie.After-wide = search in
-    rw (at_wide.wide.ensures.0, sub-zero) at c.before.before.send-reply.ensures
+    let at_wide : tie.After-wide-count = search in
+    rw (at_wide.wide-count.ensures.0, sub-zero) at c.send_reply.ensures
 
 pub send_spec : {M : Type 1} → statement M
 send_spec =

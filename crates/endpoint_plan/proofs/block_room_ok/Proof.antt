@@ -8,4 +8,4 @@ pub block_room_ok_spec : {M : Type 1} → statement M
 unfolding block_room_ok
 block_room_ok_spec =
     tie.close
-    (tie.spec (λ c. search rules) (λ c. search rules) (λ c. rw c.enum_told.given.1 refl) (λ c. rw c.enum-told2.given.1 refl))
+    (tie.spec (λ c. search rules) (λ c. search rules) (λ c. rw c.in-Request.is refl) (λ c. rw c.in-Receive.is refl))

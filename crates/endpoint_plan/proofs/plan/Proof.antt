@@ -10,28 +10,28 @@ use Rattle.endpoint_plan.proofs.plan.Statement.{statement}
 use Rattle.endpoint_plan.proofs.plan.Tie as tie
 
 ask-requires : tie.Need-ask-requires
-ask-requires c κs = let s : tie.Start = search in rw c.before.m.given.1 at s.pre
+ask-requires c κs = let s : tie.Start = search in rw c.in-Request.is at s.requires
 
 hear-requires : tie.Need-hear-requires
-hear-requires c κs = let s : tie.Start = search in rw c.before.m2.given.1 at s.pre
+hear-requires c κs = let s : tie.Start = search in rw c.in-Frame.is at s.requires
 
-returns : tie.Need-returns
+returns : tie.Need-returns-in-Request
 unfolding follows perform
 returns c =
-    let e = c.before.before.m.given.1 in
+    let e = c.in-Request.is in
     record { comes = rw e c.ask.ensures; refuses = λ k h. absurd (let z : ◌≡◌ {A = ℕ} 0 1 = cc (e, h) in omega arith) }
 
-returns-2 : tie.Need-returns-2
+returns-2 : tie.Need-returns-in-Frame
 unfolding follows
 returns-2 c =
-    let e = c.before.before.m2.given.1 in
+    let e = c.in-Frame.is in
     record { comes = rw e c.hear.ensures; refuses = λ k h. absurd (let z : ◌≡◌ {A = ℕ} 0 1 = cc (e, h) in omega arith) }
 
-returns-3 : tie.Need-returns-3
+returns-3 : tie.Need-returns-in-Refused
 unfolding follows
 returns-3 c =
     let s : tie.Start = search in
-    let e = c.before.before.m3.given.1 in
+    let e = c.in-Refused.is in
     record {
       comes = rw e (λ b _ q h old w _ _. refuses s.args.n q h b old w _ refl c.refuse.ensures);
       refuses = λ k h. c.refuse.ensures ∙ ap (refused_plan s.args.n) (cc (e, h));

@@ -7,5 +7,5 @@ pub read_spec : {M : Type 1} → statement M
 unfolding input_of
 read_spec =
     tie.close
-    (tie.spec (λ c. search rules) (λ c κs. search rules) (λ c. search rules) (λ c κs. search rules) (λ c. rw c.before.enum_told.given.1 c.read-request.ensures)
-    (λ c. rw c.before.enum-told2.given.1 c.read-frame.ensures))
+    (tie.spec (λ c. search rules) (λ c κs. search rules) (λ c. search rules) (λ c κs. search rules) (λ c. rw c.in-Request.is c.read_request.ensures)
+    (λ c. rw c.in-Receive.is c.read_frame.ensures))

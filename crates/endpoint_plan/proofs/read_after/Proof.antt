@@ -10,5 +10,5 @@ pub read_after_spec : {M : Type 1} → statement M
 unfolding meant refusing
 read_after_spec =
     tie.close
-    (tie.spec (λ c. let s : tie.Start = search in sym (refusing_of _ s.args.number c.if1.true)) (λ c κs. search rules)
-    (λ c. rw c.before.if1.false c.read.ensures))
+    (tie.spec (λ c. let s : tie.Start = search in sym (refusing_of _ s.args.number c.if-number-ne0.true)) (λ c κs. search rules)
+    (λ c. rw c.if-number-ne0.false c.read.ensures))

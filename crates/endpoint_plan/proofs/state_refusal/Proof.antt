@@ -8,6 +8,6 @@ pub state_refusal_spec : {M : Type 1} → statement M
 unfolding first when
 state_refusal_spec =
     tie.close
-    (tie.spec (λ c. let s : tie.Start = search in rw (not-true s.args.sound c.if1.true) refl)
-    (λ c. let s : tie.Start = search in rw (not-false s.args.sound c.before.if1.false, not-true s.args.goes c.if2.true) refl)
-    (λ c. let s : tie.Start = search in rw (not-false s.args.sound c.before.if1.false, not-false s.args.goes c.if2.false) refl))
+    (tie.spec (λ c. let s : tie.Start = search in rw (c.if-not-sound.true) refl)
+    (λ c. let s : tie.Start = search in rw (c.if-not-sound.false, c.if-not-goes.true) refl)
+    (λ c. let s : tie.Start = search in rw (c.if-not-sound.false, c.if-not-goes.false) refl))
