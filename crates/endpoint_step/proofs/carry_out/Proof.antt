@@ -8,33 +8,33 @@ use Rattle.endpoint_step.proofs.carry_out.Tie as tie
 long : (c : tie.Start) → Long c.args.e
 long c = record { lengths = search rules; blocks = search rules; held_lengths = search rules; held_blocks = search rules }
 
-lengths-after-requires : tie.Need-lengths-after-requires
+lengths-after-requires : tie.Need-lengths_after-lengths-requires
 lengths-after-requires c κs =
     let s : tie.Start = search in
-    for-lengths s.args.block.now s.pre.1 s.args.p.queue s.pre.0.0 s.args.e.lengths (long s).lengths
+    for-lengths s.args.block.now s.requires.1 s.args.p.queue s.requires.0.0 s.args.e.lengths (long s).lengths
 
-blocks-after-requires : tie.Need-blocks-after-requires
+blocks-after-requires : tie.Need-blocks_after-blocks-requires
 blocks-after-requires c κs =
     let s : tie.Start = search in
-    for-blocks s.args.block.now s.pre.1 s.args.p.queue s.pre.0.0 s.args.e.blocks (long s).blocks
+    for-blocks s.args.block.now s.requires.1 s.args.p.queue s.requires.0.0 s.args.e.blocks (long s).blocks
 
-lengths-after-requires-2 : tie.Need-lengths-after-requires-2
+lengths-after-requires-2 : tie.Need-lengths_after-held_lengths-requires
 lengths-after-requires-2 c κs =
     let s : tie.Start = search in
-    for-lengths s.args.block.now s.pre.1 s.args.p.held s.pre.0.1 s.args.e.held_lengths (long s).held_lengths
+    for-lengths s.args.block.now s.requires.1 s.args.p.held s.requires.0.1 s.args.e.held_lengths (long s).held_lengths
 
-blocks-after-requires-2 : tie.Need-blocks-after-requires-2
+blocks-after-requires-2 : tie.Need-blocks_after-held_blocks-requires
 blocks-after-requires-2 c κs =
     let s : tie.Start = search in
-    for-blocks s.args.block.now s.pre.1 s.args.p.held s.pre.0.1 s.args.e.held_blocks (long s).held_blocks
+    for-blocks s.args.block.now s.requires.1 s.args.p.held s.requires.0.1 s.args.e.held_blocks (long s).held_blocks
 
 returns : tie.Need-returns
 unfolding carried
 returns c =
-    let hb : tie.After-blocks-after2 = search in
-    let hl : tie.After-lengths-after2 = search in
-    let eb : tie.After-blocks-after = search in
-    let el : tie.After-lengths-after = search in
+    let hb : tie.After-blocks_after-held_blocks = search in
+    let hl : tie.After-lengths_after-held_lengths = search in
+    let eb : tie.After-blocks_after-blocks = search in
+    let el : tie.After-lengths_after-lengths = search in
     let s : tie.Start = search in
     let n = s.args.p.numbers in
     λ i. record {
@@ -44,10 +44,10 @@ returns c =
       accepted = n.accepted;
       delivered = n.delivered;
       waiting = n.waiting;
-      lengths = el.lengths-after.ensures i;
-      blocks = eb.blocks-after.ensures i;
-      held_lengths = hl.lengths-after2.ensures i;
-      held_blocks = hb.blocks-after2.ensures i;
+      lengths = el.lengths_after-lengths.ensures i;
+      blocks = eb.blocks_after-blocks.ensures i;
+      held_lengths = hl.lengths_after-held_lengths.ensures i;
+      held_blocks = hb.blocks_after-held_blocks.ensures i;
     }
 
 pub carry_out_spec : {M : Type 1} → statement M

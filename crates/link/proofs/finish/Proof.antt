@@ -13,56 +13,56 @@ use Rattle.link.proofs.finish.Tie as tie
 abbrev rooms-of : tie.Start → Rooms
 rooms-of c = rooms (length c.args.out.now) (length c.args.up.now)
 
-octets : (c : tie.After-slice-known) → Octets c.before.before.args.rec.now
+octets : (c : tie.After-slice_known-1) → Octets c.args.rec.now
 unfolding Octets
-octets c i = omega (arith, c.slice-known.given i)
+octets c = search rules
 
-returns : tie.Need-returns
+returns : tie.Need-returns-then-p-ne-ACCEPTED
 returns c =
     let s : tie.Start = search in
-    λ o w. refuses s.args.rec.now s.pre.0 s.args.call (rooms-of s) s.args.block.now o w c.before.before.if1.true s.args.out.now s.args.up.now c.refuse.ensures
+    λ o w. refuses s.args.rec.now s.requires.0 s.args.call (rooms-of s) s.args.block.now o w c.if-p-ne-ACCEPTED.true s.args.out.now s.args.up.now c.refuse.ensures
 
-send-requires : tie.Need-send-requires
+send-requires : tie.Need-send-sent-requires
 unfolding decode
 send-requires c κs =
     let s : tie.Start = search in
-    let e : tie.Else1 = search in
+    let e : tie.Else-p-ne-ACCEPTED = search in
     let d = s.args.rec.now in
-    let w = s.pre.1.1 in
-    let r = sendable (decode d) (decode_long d s.pre.0) s.args.call (rooms-of s) s.args.block.now w.0 w.1 e.if1.left in
+    let w = s.requires.1.1 in
+    let r = sendable (decode d) (decode_long d s.requires.0) s.args.call (rooms-of s) s.args.block.now w.0 w.1 e.if-p-ne-ACCEPTED.false in
     (r.0, (search rules, (search rules, r.1)))
 
-hand-up-requires : tie.Need-hand-up-requires
+hand-up-requires : tie.Need-hand_up-handed-requires
 unfolding decode
 hand-up-requires c κs =
     let s : tie.Start = search in
-    let e : tie.Else1 = search in
+    let e : tie.Else-p-ne-ACCEPTED = search in
     let d = s.args.rec.now in
-    let w = s.pre.1.1 in
-    ((search rules, search rules), λ _. handy (decode d) (decode_long d s.pre.0) s.args.call (rooms-of s) s.args.block.now w.0 w.1 e.if1.left)
+    let w = s.requires.1.1 in
+    ((search rules, search rules), λ _. handy (decode d) (decode_long d s.requires.0) s.args.call (rooms-of s) s.args.block.now w.0 w.1 e.if-p-ne-ACCEPTED.false)
 
 -- the end is too far from the start for one search
-starts : (c : tie.After-send) → tie.Start × tie.Else1 × tie.After-slice-known
+starts : (c : tie.After-send-sent) → tie.Start × tie.Else-p-ne-ACCEPTED × tie.After-slice_known-1
 starts c = (search, search, search)
 
 store-requires : tie.Need-store-requires
 unfolding starts
 store-requires c κs =
-    let m : tie.After-send = search in
+    let m : tie.After-send-sent = search in
     let s = (starts m).0 in
     let d = s.args.rec.now in
-    let w = s.pre.1.1 in
-    (search rules, ready-to (decode d) (decode_long d s.pre.0) s.args.call (rooms-of s) s.args.block.now w.0 w.1 (starts m).1.if1.left)
+    let w = s.requires.1.1 in
+    (search rules, ready-to (decode d) (decode_long d s.requires.0) s.args.call (rooms-of s) s.args.block.now w.0 w.1 (starts m).1.if-p-ne-ACCEPTED.false)
 
-returns-2 : tie.Need-returns-2
+returns-2 : tie.Need-returns
 unfolding starts decode
 returns-2 c =
     let t : tie.After-store = search in
-    let h : tie.After-hand-up = search in
-    let m : tie.After-send = search in
+    let h : tie.After-hand_up-handed = search in
+    let m : tie.After-send-sent = search in
     let s = (starts m).0 in
-    λ o w. accepts s.args.rec.now s.pre.0 s.args.call (rooms-of s) s.args.block.now o w (octets (starts m).2) (starts m).1.if1.left
-    m.send.ensures h.hand_up.ensures t.store.ensures
+    λ o w. accepts s.args.rec.now s.requires.0 s.args.call (rooms-of s) s.args.block.now o w (octets (starts m).2) (starts m).1.if-p-ne-ACCEPTED.false
+    m.send-sent.ensures h.hand_up-handed.ensures t.store.ensures
 
 pub finish_spec : {M : Type 1} → statement M
 finish_spec =

@@ -5,7 +5,7 @@ use Rattle.link.proofs.plan_call.Tie as tie
 
 returns : tie.Need-returns
 unfolding decode
-returns c = let m : tie.After-load-numbers = search in rw m.load-numbers.ensures at c.plan-call.ensures
+returns c = let m : tie.After-load_numbers-n = search in rw m.load_numbers-n.ensures at c.plan_call.ensures
 
 pub plan_call_spec : {M : Type 1} → statement M
 plan_call_spec =

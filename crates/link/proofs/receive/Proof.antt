@@ -20,26 +20,26 @@ use Rattle.link.proofs.receive.Tie as tie
 abbrev comes : tie.Start → Outcome Step
 comes c = lent_outcome Receive c.args.rec.now c.args.page.now c.args.s.now c.args.out.now []
 
-abbrev start-of : tie.After-hear → tie.Start
+abbrev start-of : tie.After-hear-a → tie.Start
 start-of c = search
 
-notice-is : (c : tie.After-hear) → c.hear.result.status.notice ≡ notice_of (comes (start-of c))
+notice-is : (c : tie.After-hear-a) → c.hear-a.result.status.notice ≡ notice_of (comes (start-of c))
 unfolding answer_of status_of
-notice-is c = ap (λ (x : Answer). x.status.notice) c.hear.ensures.answer
+notice-is c = ap (λ (x : Answer). x.status.notice) c.hear-a.ensures.answer
 
-hear-requires : tie.Need-hear-requires
-hear-requires c κs = let b : tie.After-cut-block = search in b.cut-block.ensures
+hear-requires : tie.Need-hear-a-requires
+hear-requires c κs = let b : tie.After-cut_block-block = search in b.cut_block-block.ensures
 
 returns : tie.Need-returns
 unfolding answer_of
 returns c =
-    let m : tie.After-hear = search in
-    let k : tie.After-cut-block = search in
+    let m : tie.After-hear-a = search in
+    let k : tie.After-cut_block-block = search in
     let s = start-of m in
-    let r = m.hear in
-    let e = k.cut-block.ensures in
+    let r = m.hear-a in
+    let e = k.cut_block-block.ensures in
     let b =
-    c.handed_up.ensures ∙ ap (λ (n : ℕ). block_by n k.cut-block.result.now) (notice-is m) ∙ ap (block_by (notice_of (comes s))) e
+    c.handed_up.ensures ∙ ap (λ (n : ℕ). block_by n k.cut_block-block.result.now) (notice-is m) ∙ ap (block_by (notice_of (comes s))) e
     ∙ hands-it-up s.args.rec.now s.args.page.now s.args.s.now (rooms (length s.args.out.now) 0) in
     (with_block r.result (of_block e (received_same r.ensures)) _ (ap length b ∙ sym (ap (λ (x : Answer). x.block) r.ensures.answer)), b)
 

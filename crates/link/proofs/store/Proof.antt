@@ -4,50 +4,50 @@ use borrow.Author.Rules.{rules}
 use Rattle.link.proofs.store.Statement.{statement}
 use Rattle.link.proofs.store.Tie as tie
 
-returns : tie.Need-returns
+returns : tie.Need-returns-then-keeps
 returns c =
     let s : tie.Start = search in
-    let t : tie.Then1 = search in
-    let n : tie.After-store-numbers = search in
-    let all = t.before.keeps.ensures t.if1.taken in
-    kept s.args.rec.now s.args.p s.args.block.now s.pre.0 all.0 all.1 s.pre.1 n.store-numbers.ensures
+    let t : tie.Then-keeps = search in
+    let n : tie.After-store_numbers = search in
+    let all = t.keeps.ensures t.if-keeps.true in
+    kept s.args.rec.now s.args.p s.args.block.now s.requires.0 all.0 all.1 s.requires.1 n.store_numbers.ensures
 
-returns-2 : tie.Need-returns-2
+returns-2 : tie.Need-returns-then-clears
 returns-2 c =
     let s : tie.Start = search in
-    let n : tie.After-store-numbers = search in
-    let t : tie.Then2 = search in
+    let n : tie.After-store_numbers = search in
+    let t : tie.Then-clears = search in
     let e : tie.After-clear = search in
-    let all = t.before.clears.ensures t.if2.taken in
-    cleared s.args.rec.now s.args.p s.args.block.now s.pre.0 all.0 all.1 n.store-numbers.ensures e.clear.ensures
+    let all = t.clears.ensures t.if-clears.true in
+    cleared s.args.rec.now s.args.p s.args.block.now s.requires.0 all.0 all.1 n.store_numbers.ensures e.clear.ensures
 
-change-places-requires : tie.Need-change-places-requires
-change-places-requires c κs = let s : tie.Start = search in for-lengths s.args.block.now s.pre.1.1 s.args.p.queue s.pre.1.0.0 _ (search rules)
+change-places-requires : tie.Need-change_places-requires
+change-places-requires c κs = let s : tie.Start = search in for-lengths s.args.block.now s.requires.1.1 s.args.p.queue s.requires.1.0.0 _ (search rules)
 
-change-places-requires-2 : tie.Need-change-places-requires-2
-change-places-requires-2 c κs = let s : tie.Start = search in for-blocks s.args.block.now s.pre.1.1 s.args.p.queue s.pre.1.0.0 _ (search rules)
+change-places-requires-2 : tie.Need-change_places-requires-2
+change-places-requires-2 c κs = let s : tie.Start = search in for-blocks s.args.block.now s.requires.1.1 s.args.p.queue s.requires.1.0.0 _ (search rules)
 
-change-places-requires-3 : tie.Need-change-places-requires-3
-change-places-requires-3 c κs = let s : tie.Start = search in for-lengths s.args.block.now s.pre.1.1 s.args.p.held s.pre.1.0.1 _ (search rules)
+change-places-requires-3 : tie.Need-change_places-requires-3
+change-places-requires-3 c κs = let s : tie.Start = search in for-lengths s.args.block.now s.requires.1.1 s.args.p.held s.requires.1.0.1 _ (search rules)
 
-change-places-requires-4 : tie.Need-change-places-requires-4
-change-places-requires-4 c κs = let s : tie.Start = search in for-blocks s.args.block.now s.pre.1.1 s.args.p.held s.pre.1.0.1 _ (search rules)
+change-places-requires-4 : tie.Need-change_places-requires-4
+change-places-requires-4 c κs = let s : tie.Start = search in for-blocks s.args.block.now s.requires.1.1 s.args.p.held s.requires.1.0.1 _ (search rules)
 
 -- the last return is too far from the start for one search
-starts : (c : tie.After-change-places) → tie.Start × tie.After-store-numbers
+starts : (c : tie.After-change_places) → tie.Start × tie.After-store_numbers
 starts c = (search, search)
 
-returns-3 : tie.Need-returns-3
+returns-3 : tie.Need-returns
 unfolding starts
 returns-3 c =
-    let f : tie.After-change-places4 = search in
-    let e : tie.After-change-places3 = search in
-    let b : tie.After-change-places2 = search in
-    let a : tie.After-change-places = search in
+    let f : tie.After-change_places-4 = search in
+    let e : tie.After-change_places-3 = search in
+    let b : tie.After-change_places-2 = search in
+    let a : tie.After-change_places = search in
     let s = (starts a).0 in
     let n = (starts a).1 in
-    carried-out s.args.rec.now s.args.p s.args.block.now s.pre.0 n.store-numbers.ensures
-    a.change-places.ensures b.change-places2.ensures e.change-places3.ensures f.change-places4.ensures s.pre.1
+    carried-out s.args.rec.now s.args.p s.args.block.now s.requires.0 n.store_numbers.ensures
+    a.change_places.ensures b.change_places-2.ensures e.change_places-3.ensures f.change_places-4.ensures s.requires.1
 
 pub store_spec : {M : Type 1} → statement M
 store_spec =
