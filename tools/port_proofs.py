@@ -49,6 +49,7 @@ for key,v in d.items():
         w=next(it)
         return mm.group(1)+(tie.get(norm(w)) or tie.get(norm(mm.group(2)),mm.group(2)))
     n=re.sub(r"(\btie\.)([^\s(){};,]+)",ontie,t)
+    n=re.sub(r"\btie\.(In-[\w-]+?)-\d+(?![\w-])",lambda mm: 'tie.'+mm.group(1) if mm.group(1) in new_tie else mm.group(0),n)
     t0=n
     n=re.sub(r"(?:\.before)*\.([^\s().,;{}]+)\.given\.1",lambda mm: '.'+told[norm(mm.group(1))]+'.is' if norm(mm.group(1)) in told else mm.group(0),n)
     n=re.sub(r"(?:\.before)*\.([^\s().,;{}]+)\.given\.0\.0",lambda mm: '.'+told[norm(mm.group(1))]+'.BOUND' if norm(mm.group(1)) in told else mm.group(0),n)

@@ -189,7 +189,7 @@ one_more {w} {e} l ls g r =
 goes_all : {w : Bench} {e : RunEnds} → Beside w e → (ls : List LentLine) → GoesAll w e ls
 unfolding line_after lines_after calls_of
 goes_all h [] = record { left = h; due = tt }
-goes_all h (l ∷ ls) = let g = line_goes h l in one_more l ls g (goes_all g.left ls)
+goes_all {w = w} h (l ∷ ls) = let g = line_goes h l in one_more l ls g (goes_all {w = line_after w l} g.left ls)
 
 -- at the start
 fresh-ends : (p q : Lent) → BothNew ends ends (new_ends p q)

@@ -4,8 +4,8 @@ use Rattle.c_end.proofs.dock_request.Tie as tie
 
 returns : tie.Need-returns
 returns c =
-    let m : tie.After-perform = search in
-    m.perform.ensures
+    let m : tie.After-perform-a = search in
+    m.perform-a.ensures
 
 pub dock_request_spec : {M : Type 1} → statement M
 dock_request_spec =

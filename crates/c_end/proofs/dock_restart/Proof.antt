@@ -7,7 +7,7 @@ use Rattle.c_end.proofs.dock_restart.Tie as tie
 
 returns : tie.Need-returns
 unfolding answer_of status_of
-returns c = let r = c.before.before.before.restart.ensures in (ap (λ (x : Answer). x.status.number) r.answer, r.end)
+returns c = let r = c.restart-a.ensures in (ap (λ (x : Answer). x.status.number) r.answer, r.end)
 
 pub dock_restart_spec : {M : Type 1} → statement M
 dock_restart_spec = tie.close (tie.spec (λ c κs. search rules) (λ c. search rules) returns)

@@ -16,79 +16,79 @@ use borrow.Author.Rules.{rules}
 use Rattle.line_answer.proofs.answer.Statement.{statement}
 use Rattle.line_answer.proofs.answer.Tie as tie
 
-octets : (c : tie.After-slice-known) → Octets c.before.args.rec.now
+octets : (c : tie.After-slice_known-1) → Octets c.args.rec.now
 unfolding Octets
 octets c i = omega (arith, c.slice-known.given i)
 
 -- 11, 12 and 15 of the record and its page are passed
-is_ready : (c : tie.Else1) → let s : tie.Start = search in first (record_questions s.args.rec.now s.args.page.now) ≡ 0
-is_ready c = let z : c.before.ready.result ≡ 0 = omega (arith, c.if1.false) in sym c.before.ready.ensures ∙ z
+is_ready : (c : tie.Else-asked-ne0) → let s : tie.Start = search in first (record_questions s.args.rec.now s.args.page.now) ≡ 0
+is_ready c = let z : c.ready-asked.result ≡ 0 = omega (arith, c.if-asked-ne0.false) in sym c.ready-asked.ensures ∙ z
 
 -- the octets of the line
-abbrev line : tie.After-read2 → List ℕ
+abbrev line : tie.In-Decoded → List ℕ
 line c = let s : tie.Start = search in s.args.line.now
 
 abbrev buffer : List ℕ
 buffer = replicate longest_frame 0
 
-is_read : (c : tie.After-read2) → Passed (line c) buffer refl c.read2.given.0.0 c.before.before.before.read.new.1.0
-is_read c = let r = c.before.before.before.read in passed (line c) buffer refl _ _ (sym r.ensures.0 ∙ c.read2.given.1) r.ensures.1
+is_read : (c : tie.In-Decoded) → Passed (line c) buffer refl c.in-Decoded.BOUND c.read-read.new.out
+is_read c = let r = c.read-read in passed (line c) buffer refl _ _ (sym r.ensures.0 ∙ c.in-Decoded.is) r.ensures.1
 
-returns : tie.Need-returns
+returns : tie.Need-returns-then-asked-ne0
 returns c =
     let a : tie.Start = search in
-    let y : tie.After-ready = search in
-    let t : tie.Then1 = search in
+    let y : tie.After-ready-asked = search in
+    let t : tie.Then-asked-ne0 = search in
     let rec = a.args.rec.now in
     let page = a.args.page.now in
-    refuses (unready rec page a.args.line.now y.ready.ensures (λ z. omega (arith, t.if1.taken))) rec page a.args.out.now c.before.before.refuse.ensures
+    refuses (unready rec page a.args.line.now y.ready-asked.ensures (λ z. omega (arith, t.if-asked-ne0.true))) rec page a.args.out.now c.refuse.ensures
 
 stand-requires : tie.Need-stand-requires
 stand-requires c κs =
     let a : tie.Start = search in
-    let y : tie.Else1 = search in
-    ((asked_of a.args.rec.now a.args.page.now (is_ready y)).long, omega (arith, standing-long a.args.rec.now, a.pre))
+    let y : tie.Else-asked-ne0 = search in
+    ((asked_of a.args.rec.now a.args.page.now (is_ready y)).long, omega (arith, standing-long a.args.rec.now, a.requires))
 
-returns-2 : tie.Need-returns-2
+returns-2 : tie.Need-returns-then-line-eq0
 returns-2 c =
     let a : tie.Start = search in
-    let y : tie.Else1 = search in
-    let t : tie.Then2 = search in
-    let k : tie.After-slice-known = search in
+    let y : tie.Else-asked-ne0 = search in
+    let t : tie.Then-line-eq0 = search in
+    let k : tie.After-slice_known-1 = search in
     let rec = a.args.rec.now in
     let page = a.args.page.now in
-    rw (asks-standing rec page a.args.line.now (is_ready y) t.if2.taken) (stands-there rec page a.args.out.now (octets k) (is_ready y) c.before.before.stand.ensures)
+    rw (asks-standing rec page a.args.line.now (is_ready y) t.if-line-eq0.true) (stands-there rec page a.args.out.now (octets k) (is_ready y) c.stand.ensures)
 
-array-share-prefix-s : tie.Need-array-share-prefix-s
-array-share-prefix-s c = let d : tie.After-read2 = search in omega (arith, fits (line d) buffer refl (is_read d) (search rules))
+array-share-prefix-s : tie.Need-slice_bounds-s-end
+array-share-prefix-s c = let d : tie.In-Decoded = search in omega (arith, fits (line d) buffer refl (is_read d) (search rules))
 
-slice-aggregate-ask : tie.Need-slice-aggregate-ask
-slice-aggregate-ask c = let d : tie.After-read2 = search in sym (length-take-le _ _ (omega (arith, fits (line d) buffer refl (is_read d) (search rules))))
+slice-aggregate-ask : tie.Need-slice_bounds-ask-end
+slice-aggregate-ask c = let d : tie.In-Decoded = search in sym (length-take-le _ _ (omega (arith, fits (line d) buffer refl (is_read d) (search rules))))
 
 ask-requires : tie.Need-ask-requires
 ask-requires c κs =
     let a : tie.Start = search in
-    let y : tie.Else1 = search in
-    let d : tie.After-read2 = search in
-    (is_ready y, (omega (arith, fits (line d) buffer refl (is_read d) (search rules), (is_read d).count, ap length (reads (line d) buffer refl (is_read d))), a.pre))
+    let y : tie.Else-asked-ne0 = search in
+    let d : tie.In-Decoded = search in
+    (is_ready y, (omega (arith, fits (line d) buffer refl (is_read d) (search rules), (is_read d).count, ap length (reads (line d) buffer refl (is_read d))), a.requires))
 
-returns-3 : tie.Need-returns-3
+returns-3 : tie.Need-returns-in-Decoded
 returns-3 c =
     let a : tie.Start = search in
-    let y : tie.Else1 = search in
-    let d : tie.After-read2 = search in
+    let y : tie.Else-asked-ne0 = search in
+    let d : tie.In-Decoded = search in
     let k : tie.After-ask = search in
     rw (line-asks a.args.rec.now a.args.page.now (line d) (is_ready y) (is_read d).all_yes) (rw (reads (line d) buffer refl (is_read d)) at k.ask.ensures)
 
-returns-4 : tie.Need-returns-4
+returns-4 : tie.Need-returns-in-Refused
 returns-4 c =
     let a : tie.Start = search in
-    let y : tie.Else1 = search in
-    let e : tie.Else2 = search in
-    let d : tie.After-read3 = search in
+    let y : tie.Else-asked-ne0 = search in
+    let e : tie.Else-line-eq0 = search in
+    let d : tie.In-Refused = search in
     let rec = a.args.rec.now in
     let page = a.args.page.now in
-    refuses (declined rec page a.args.line.now (is_ready y) e.if2.left buffer refl (sym d.before.before.before.read.ensures.0 ∙ d.read3.given.1)) rec page a.args.out.now c.before.before.refuse2.ensures
+    refuses (declined rec page a.args.line.now (is_ready y) e.if-line-eq0.false buffer refl (sym d.read-read.ensures.0 ∙ d.in-Refused.is)) rec page a.args.out.now c.refuse-in-Refused.ensures
 
 pub answer_spec : {M : Type 1} → statement M
 answer_spec =

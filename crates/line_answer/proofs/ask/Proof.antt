@@ -36,33 +36,33 @@ comes c = performed format c.args.rec.now c.args.page.now (line_call c.args.s.no
 asked : (c : tie.Start) → Asked c.args.rec.now c.args.page.now
 asked c = asked_of c.args.rec.now c.args.page.now c.requires.0
 
-plan-sound-requires : tie.Need-plan-sound-requires
+plan-sound-requires : tie.Need-plan_sound-p-requires
 plan-sound-requires c κs = let s : tie.Start = search in let k = asked s in (k.long, k.is_sound)
 
 -- the start
-abbrev start-of : tie.After-plan-sound → tie.Start
+abbrev start-of : tie.After-plan_sound-p → tie.Start
 start-of c = search
 
 -- the call that is planned, and the block of its message
-abbrev call-made : tie.After-plan-sound → tie.After-call-in
+abbrev call-made : tie.After-plan_sound-p → tie.After-call_in-call
 call-made c = search
 
-abbrev cut : tie.After-plan-sound → tie.After-cut-block
+abbrev cut : tie.After-plan_sound-p → tie.After-cut_block-block
 cut c = search
 
-abbrev call-of : tie.After-plan-sound → Arguments
-call-of c = given (call-made c).call-in.result (start-of c).args.s.now (rooms longest_frame longest_block)
+abbrev call-of : tie.After-plan_sound-p → Arguments
+call-of c = given (call-made c).call_in-call.result (start-of c).args.s.now (rooms longest_frame longest_block)
 
-planned : (c : tie.After-plan-sound) → Plans (decode (start-of c).args.rec.now) (start-of c).args.page.now (call-of c) c.plan-sound.result
+planned : (c : tie.After-plan_sound-p) → Plans (decode (start-of c).args.rec.now) (start-of c).args.page.now (call-of c) c.plan_sound-p.result
 unfolding view
 planned c =
     let s = start-of c in
-    c.plan-sound.ensures s.args.page.now (rooms longest_frame longest_block) (joined (le-leb longest_frame longest_frame (omega arith)) (has_room _ longest_block (omega arith))) (asked s).page_long (asked s).goes
+    c.plan_sound-p.ensures s.args.page.now (rooms longest_frame longest_block) (joined (le-leb longest_frame longest_frame (omega arith)) (has_room _ longest_block (omega arith))) (asked s).page_long (asked s).goes
 
 -- what the other stores ask of the page is there once its own store is made
-finish-requires : tie.Need-finish-requires
+finish-requires : tie.Need-finish-a-requires
 finish-requires c κs =
-    (let p : tie.After-plan-sound = search in (asked (start-of p)).long, (omega arith, (let p : tie.After-plan-sound = search in (_, by_block (cut p).cut-block.ensures (planned p)))))
+    (let p : tie.After-plan_sound-p = search in (asked (start-of p)).long, (omega arith, (let p : tie.After-plan_sound-p = search in (_, by_block (cut p).cut_block-block.ensures (planned p)))))
 
 reserve-requires : tie.Need-reserve-requires
 reserve-requires c κs = λ z.
@@ -71,75 +71,75 @@ reserve-requires c κs = λ z.
     reservable (decode d) (decode_long d (asked s).long) s.args.page.now (call-of c.before) (planned c.before) z
 
 -- the page after the call's one store
-page_is : (c : tie.After-reserve) → c.reserve.new.1.0 ≡ page_after (start-of c.before.before).args.page.now (comes (start-of c.before.before))
+page_is : (c : tie.After-reserve) → c.reserve.new.page ≡ page_after (start-of c.before.before).args.page.now (comes (start-of c.before.before))
 page_is c =
     let s = start-of c.before.before in
     let page = s.args.page.now in
     reserved s.args.rec.now (asked s).long page (call-of c.before.before) (planned c.before.before) c.reserve.ensures.0
-    ∙ ap (λ (k : Call). page_after page (performed format s.args.rec.now page (given k s.args.s.now (rooms longest_frame longest_block)))) (let i : tie.After-call-in = search in i.call-in.ensures)
+    ∙ ap (λ (k : Call). page_after page (performed format s.args.rec.now page (given k s.args.s.now (rooms longest_frame longest_block)))) (let i : tie.After-call_in-call = search in i.call_in-call.ensures)
 
 -- the plan that is carried out
-abbrev plan-of : tie.After-finish → tie.After-plan-sound
+abbrev plan-of : tie.After-finish-a → tie.After-plan_sound-p
 plan-of c = search
 
-called : (c : tie.After-finish)
+called : (c : tie.After-finish-a)
     → let s = start-of (plan-of c) in
-    Called (call_in s.args.s.now) (comes s) s.args.rec.now (cut (plan-of c)).cut-block.result.now room block_room c.finish.new.1.1.1.0 c.finish.new.1.1.1.1.1.0 c.finish.new.1.1.1.1.1.1.0 c.finish.result
+    Called (call_in s.args.s.now) (comes s) s.args.rec.now (cut (plan-of c)).cut_block-block.result.now room block_room c.finish-a.new.rec c.finish-a.new.out c.finish-a.new.up c.finish-a.result
 called c =
     let s = start-of (plan-of c) in
     let rec = s.args.rec.now in
     let page = s.args.page.now in
     let line = s.args.s.now in
-    let b = (cut (plan-of c)).cut-block in
-    subst (λ (k : Call). Called k (performed format rec page (given k line (rooms longest_frame longest_block))) rec b.result.now room block_room c.finish.new.1.1.1.0 c.finish.new.1.1.1.1.1.0 c.finish.new.1.1.1.1.1.1.0 c.finish.result)
-    (call-made (plan-of c)).call-in.ensures (at_record rec (asked s).long page (call-of (plan-of c)) (c.finish.ensures _ (by_block b.ensures (planned (plan-of c)))))
+    let b = (cut (plan-of c)).cut_block-block in
+    subst (λ (k : Call). Called k (performed format rec page (given k line (rooms longest_frame longest_block))) rec b.result.now room block_room c.finish-a.new.rec c.finish-a.new.out c.finish-a.new.up c.finish-a.result)
+    (call-made (plan-of c)).call_in-call.ensures (at_record rec (asked s).long page (call-of (plan-of c)) (c.finish-a.ensures _ (by_block b.ensures (planned (plan-of c)))))
 
 -- the frame sent has room
-fits : (c : tie.After-finish) → (length c.finish.new.1.1.1.1.1.0 ≡ longest_frame) × (c.finish.result.sent ≤ longest_frame)
+fits : (c : tie.After-finish-a) → (length c.finish-a.new.out ≡ longest_frame) × (c.finish-a.result.sent ≤ longest_frame)
 unfolding answer_of
 fits c =
-    let l : length c.finish.new.1.1.1.1.1.0 ≡ longest_frame = search rules in
+    let l : length c.finish-a.new.out ≡ longest_frame = search rules in
     (l, sent_fits room (comes (start-of (plan-of c))) (called c).buffer l (ap (λ (x : Answer). x.sent) (called c).answer))
 
 -- the block handed up
-abbrev finish-of : tie.After-block-part → tie.After-finish
+abbrev finish-of : tie.After-block_part-handed → tie.After-finish-a
 finish-of c = search
 
-block_is : (c : tie.After-block-part) → c.block_part.result.now ≡ block_of (comes (start-of (plan-of (finish-of c))))
+block_is : (c : tie.After-block_part-handed) → c.block_part-handed.result.now ≡ block_of (comes (start-of (plan-of (finish-of c))))
 block_is c =
     let f = finish-of c in
-    c.block_part.ensures
-    ∙ ap (λ (k : Call). block_part k (cut (plan-of f)).cut-block.result.now f.finish.last.1.1.1.1.1.1.0 f.finish.result.block) (call-made (plan-of f)).call-in.ensures
+    c.block_part-handed.ensures
+    ∙ ap (λ (k : Call). block_part k (cut (plan-of f)).cut_block-block.result.now f.finish-a.new.up f.finish-a.result.block) (call-made (plan-of f)).call_in-call.ensures
     ∙ (called f).block
 
-block-part-requires : tie.Need-block-part-requires
-block-part-requires c κs = let f : tie.After-finish = search in let p = plan-of f in part_long (f.finish.ensures _ (by_block (cut p).cut-block.ensures (planned p)))
+block-part-requires : tie.Need-block_part-handed-requires
+block-part-requires c κs = let f : tie.After-finish-a = search in let p = plan-of f in part_long (f.finish-a.ensures _ (by_block (cut p).cut_block-block.ensures (planned p)))
 
-array-share-prefix-frame : tie.Need-array-share-prefix-frame
-array-share-prefix-frame c = let f : tie.After-finish = search in omega (arith, fits f)
+array-share-prefix-frame : tie.Need-slice_bounds-frame-end
+array-share-prefix-frame c = let f : tie.After-finish-a = search in omega (arith, fits f)
 
-slice-aggregate-write-text : tie.Need-slice-aggregate-write-text
-slice-aggregate-write-text c = let f : tie.After-finish = search in sym (length-take-le _ _ (omega (arith, fits f)))
+slice-aggregate-write-text : tie.Need-slice_bounds-write_text-end
+slice-aggregate-write-text c = let f : tie.After-finish-a = search in sym (length-take-le _ _ (omega (arith, fits f)))
 
-write-text-requires : tie.Need-write-text-requires
+write-text-requires : tie.Need-write_text-requires
 write-text-requires c κs =
-    let b : tie.After-block-part = search in
+    let b : tie.After-block_part-handed = search in
     let f = finish-of b in
     let s = start-of (plan-of f) in (
       search rules,
       (
         omega (arith, ap length (block_is b), block_short s.args.rec.now s.args.page.now (line_call s.args.s.now)),
-        omega (arith, fits f, length-take-le f.finish.result.sent f.finish.last.1.1.1.1.1.0 (omega (arith, fits f))),
+        omega (arith, fits f, length-take-le f.finish-a.result.sent f.finish-a.new.out (omega (arith, fits f))),
       ),
     )
 
 returns : tie.Need-returns
 returns c =
-    let b : tie.After-block-part = search in
+    let b : tie.After-block_part-handed = search in
     let f = finish-of b in
     let r : tie.After-reserve = search in
     let s = start-of (plan-of f) in
-    gives _ s.args.rec.now s.args.page.now (cut (plan-of f)).cut-block.result.now s.args.out.now (called f) (page_is r) (block_is b) c.before.before.write-text.ensures
+    gives _ s.args.rec.now s.args.page.now (cut (plan-of f)).cut_block-block.result.now s.args.out.now (called f) (page_is r) (block_is b) c.write_text.ensures
 
 pub ask_spec : {M : Type 1} → statement M
 ask_spec =

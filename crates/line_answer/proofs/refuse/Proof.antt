@@ -7,14 +7,14 @@ use borrow.Author.Rules.{rules}
 use Rattle.line_answer.proofs.refuse.Statement.{statement}
 use Rattle.line_answer.proofs.refuse.Tie as tie
 
-write-answer-requires : tie.Need-write-answer-requires
-write-answer-requires c κs = let s : tie.Start = search in (omega arith, omega (arith, length_told c.before.before.before.refuse.result.status, s.pre))
+write-answer-requires : tie.Need-write_answer-requires
+write-answer-requires c κs = let s : tie.Start = search in (omega arith, omega (arith, length_told c.refuse-a.result.status, s.requires))
 
 returns : tie.Need-returns
 returns c =
     let s : tie.Start = search in
-    let r : tie.After-refuse = search in
-    tells_refusal s.args.rec.now s.args.out.now s.args.number r.refuse.ensures (text-none _ [] [] s.args.out.now refl c.before.before.write-answer.ensures)
+    let r : tie.After-refuse-a = search in
+    tells_refusal s.args.rec.now s.args.out.now s.args.number r.refuse-a.ensures (text-none _ [] [] s.args.out.now refl c.write_answer.ensures)
 
 pub refuse_spec : {M : Type 1} → statement M
 refuse_spec =

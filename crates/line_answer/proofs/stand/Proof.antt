@@ -5,16 +5,16 @@ use borrow.Author.Rules.{rules}
 use Rattle.line_answer.proofs.stand.Statement.{statement}
 use Rattle.line_answer.proofs.stand.Tie as tie
 
-write-answer-requires : tie.Need-write-answer-requires
+write-answer-requires : tie.Need-write_answer-requires
 write-answer-requires c κs =
     let s : tie.Start = search in
-    (omega arith, rw (c.before.before.stands.ensures, sym (standing-is s.args.rec.now)) s.pre.1)
+    (omega arith, rw (c.stands-told.ensures, sym (standing-is s.args.rec.now)) s.requires.1)
 
 returns : tie.Need-returns
 returns c =
     let s : tie.Start = search in
-    let t : tie.After-stands = search in
-    rw (standing-is s.args.rec.now, sym t.stands.ensures) c.before.before.write-answer.ensures
+    let t : tie.After-stands-told = search in
+    rw (standing-is s.args.rec.now, sym t.stands-told.ensures) c.write_answer.ensures
 
 pub stand_spec : {M : Type 1} → statement M
 stand_spec =
