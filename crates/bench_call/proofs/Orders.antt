@@ -69,7 +69,7 @@ module _ (l : Lent) (s log : List ℕ) (count : ℕ) (out up : List ℕ) where
   short (order.Restart i) h = omega (arith, (restarts-quietly l.rec l.page count).0)
   short (order.Refused n) h = omega arith
 
-  pub place_left : (x : Order) → Ready x → sent_of (outcome_of x) ≢ 0 → (count < places) × (log_size ≤ length log)
+  pub place_left_lem : (x : Order) → Ready x → sent_of (outcome_of x) ≢ 0 → (count < places) × (log_size ≤ length log)
   unfolding task_of task_outcome sent_of
   place_left_lem (order.Request i) h z = (has_place_lem l count _ z, h.1.0)
   place_left_lem (order.Deliver n) h z = (has_place_lem l count _ z, h.1.0)

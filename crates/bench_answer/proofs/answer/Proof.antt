@@ -21,7 +21,7 @@ tell-requires c κs =
     let p : tie.After-perform = search in
     let s = start-of p.before in
     let a = s.args in
-    (s.pre, tellable p.perform.ensures (fine (bench_of (lent a.a.now a.a-page.now) (lent a.b.now a.b-page.now) a.log.now a.count.now) a.line.now (rooms longest_frame longest_block)) (omega (arith, f.frame2.given)) c.before.before.block_of.ensures)
+    (s.pre, tellable p.perform.ensures (fine (bench_of (lent a.a.now a.a_page.now) (lent a.b.now a.b_page.now) a.log.now a.count.now) a.line.now (rooms longest_frame longest_block)) (omega (arith, f.frame2.given)) c.before.before.block_of.ensures)
 
 returns : tie.Need-returns
 returns c =

@@ -6,4 +6,4 @@ use Rattle.bench_call.proofs.block_place.Tie as tie
 
 pub block_place_spec : {M : Type 1} → statement M
 unfolding block_place
-block_place_spec = tie.close (tie.spec (λ c. sym (eq_yes _ _ _ _ c.if1.true)) (λ c. sym (eq_no _ _ _ _ c.if1.false)))
+block_place_spec = tie.close (tie.spec (λ c. sym (eq_yes _ _ _ _ c.if-block-eq0.true)) (λ c. sym (eq_no _ _ _ _ c.if-block-eq0.false)))

@@ -8,29 +8,29 @@ use borrow.Author.Rules.{rules}
 use Rattle.bench_call.proofs.do_task.Statement.{statement}
 use Rattle.bench_call.proofs.do_task.Tie as tie
 
-call-end-requires : tie.Need-call-end-requires
-call-end-requires c κs = let d : tie.After-task = search in let s : tie.Start = search in rw d.task.given.1 at s.pre
+call-end-requires : tie.Need-call_end-requires
+call-end-requires c κs = let d : tie.In-Call = search in let s : tie.Start = search in rw d.in-Call.is at s.requires
 
-returns : tie.Need-returns
+returns : tie.Need-returns-in-Call
 unfolding call_by task_outcome
-returns c = let d : tie.After-task = search in let e : tie.After-call-end = search in rw d.task.given.1 e.call-end.ensures
+returns c = let d : tie.In-Call = search in let e : tie.After-call_end = search in rw d.in-Call.is e.call_end.ensures
 
-returns-2 : tie.Need-returns-2
+returns-2 : tie.Need-returns-in-Restart
 unfolding call_by task_outcome
 returns-2 c =
-    let d : tie.After-enum-told = search in
+    let d : tie.In-Restart = search in
     let e : tie.After-restart = search in
     let s : tie.Start = search in
     let a = s.args in
-    rw d.enum_told.given.1 (restarts a.rec.now a.page.now a.count (cut_block a.s.now) a.out.now a.up.now e.restart.ensures)
+    rw d.in-Restart.is (restarts a.rec.now a.page.now a.count (cut_block a.s.now) a.out.now a.up.now e.restart.ensures)
 
-returns-3 : tie.Need-returns-3
+returns-3 : tie.Need-returns-in-Refuse
 unfolding call_by task_outcome
 returns-3 c =
-    let d : tie.After-task2 = search in
+    let d : tie.In-Refuse = search in
     let s : tie.Start = search in
     let a = s.args in
-    rw d.task2.given.1 (turned_down refl Receive a.rec.now (cut_block a.s.now) a.out.now a.up.now c.refuse.ensures, page_unchanged refl)
+    rw d.in-Refuse.is (turned_down refl Receive a.rec.now (cut_block a.s.now) a.out.now a.up.now c.refuse.ensures, page_unchanged refl)
 
 pub do_task_spec : {M : Type 1} → statement M
 do_task_spec =

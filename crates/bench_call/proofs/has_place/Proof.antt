@@ -4,13 +4,13 @@ use borrow.Author.Rules.{rules}
 use Rattle.bench_call.proofs.has_place.Statement.{statement}
 use Rattle.bench_call.proofs.has_place.Tie as tie
 
-returns : tie.Need-returns
+returns : tie.Need-returns-in-Nothing
 unfolding has_place
-returns c = rw c.enum_told.given.1 refl
+returns c = rw c.in-Nothing.is refl
 
-returns-2 : tie.Need-returns-2
+returns-2 : tie.Need-returns-in-Frame
 unfolding has_place
-returns-2 c = rw c.enum-told2.given.1 refl
+returns-2 c = rw c.in-Frame.is refl
 
 pub has_place_spec : {M : Type 1} → statement M
 has_place_spec = tie.close (tie.spec (λ c. search rules) (λ c. search rules) returns returns-2)

@@ -6,30 +6,30 @@ use borrow.Author.Rules.{rules}
 use Rattle.bench_call.proofs.octets_of.Statement.{statement}
 use Rattle.bench_call.proofs.octets_of.Tie as tie
 
-sub-result : tie.Need-overflow-sub-result
-sub-result c = let s : tie.Start = search in let l = rw c.enum_told.given.1 at s.pre in omega (arith, l)
+sub-result : tie.Need-slice_bounds-result-count
+sub-result c = let s : tie.Start = search in let l = rw c.in-Request.is at s.requires in omega (arith, l)
 
-part-result-start : tie.Need-slice-bounds-result-start
-part-result-start c = let s : tie.Start = search in let l = rw c.enum_told.given.1 at s.pre in omega (arith, l)
+part-result-start : tie.Need-slice_bounds-result-start
+part-result-start c = let s : tie.Start = search in let l = rw c.in-Request.is at s.requires in omega (arith, l)
 
-frame-of-requires : tie.Need-frame-of-requires
-frame-of-requires c κs = let s : tie.Start = search in rw c.before.order.given.1 at s.pre
+frame-of-requires : tie.Need-frame_of-requires
+frame-of-requires c κs = let s : tie.Start = search in rw c.in-Deliver.is at s.requires
 
-returns : tie.Need-returns
+returns : tie.Need-returns-in-Request
 unfolding octets_in
-returns c = let s : tie.Start = search in rw c.before.enum_told.given.1 (whole s.args.s.now 1)
+returns c = let s : tie.Start = search in rw c.in-Request.is (whole s.args.s.now 1)
 
-returns-2 : tie.Need-returns-2
+returns-2 : tie.Need-returns-in-Deliver
 unfolding octets_in
-returns-2 c = let d : tie.After-order = search in rw d.order.given.1 c.frame-of.ensures
+returns-2 c = let d : tie.In-Deliver = search in rw d.in-Deliver.is c.frame_of.ensures
 
-returns-3 : tie.Need-returns-3
+returns-3 : tie.Need-returns-in-Restart
 unfolding octets_in
-returns-3 c = rw c.enum-told2.given.1 refl
+returns-3 c = rw c.in-Restart.is refl
 
-returns-4 : tie.Need-returns-4
+returns-4 : tie.Need-returns-in-Refused
 unfolding octets_in
-returns-4 c = rw c.enum-told3.given.1 refl
+returns-4 c = rw c.in-Refused.is refl
 
 pub octets_of_spec : {M : Type 1} → statement M
 octets_of_spec =

@@ -5,27 +5,27 @@ use borrow.Author.Rules.{rules}
 use Rattle.bench_call.proofs.start_of.Statement.{statement}
 use Rattle.bench_call.proofs.start_of.Tie as tie
 
-mul-result : tie.Need-overflow-mul-result
-mul-result c = let d : tie.After-order = search in let s : tie.Start = search in let l = rw d.order.given.1 at s.pre in omega (arith, l)
+mul-result : tie.Need-overflow_mul-result
+mul-result c = let d : tie.In-Deliver = search in let s : tie.Start = search in let l = rw d.in-Deliver.is at s.requires in omega (arith, l)
 
-add-result : tie.Need-overflow-add-result
-add-result c = let d : tie.After-order = search in let s : tie.Start = search in let l = rw d.order.given.1 at s.pre in omega (arith, l)
+add-result : tie.Need-overflow_add-result
+add-result c = let d : tie.In-Deliver = search in let s : tie.Start = search in let l = rw d.in-Deliver.is at s.requires in omega (arith, l)
 
-returns : tie.Need-returns
+returns : tie.Need-returns-in-Request
 unfolding start_of
-returns c = rw c.enum_told.given.1 refl
+returns c = rw c.in-Request.is refl
 
-returns-2 : tie.Need-returns-2
+returns-2 : tie.Need-returns-in-Deliver
 unfolding start_of block_start
-returns-2 c = let d : tie.After-order = search in rw d.order.given.1 refl
+returns-2 c = let d : tie.In-Deliver = search in rw d.in-Deliver.is refl
 
-returns-3 : tie.Need-returns-3
+returns-3 : tie.Need-returns-in-Restart
 unfolding start_of
-returns-3 c = rw c.enum-told2.given.1 refl
+returns-3 c = rw c.in-Restart.is refl
 
-returns-4 : tie.Need-returns-4
+returns-4 : tie.Need-returns-in-Refused
 unfolding start_of
-returns-4 c = rw c.enum-told3.given.1 refl
+returns-4 c = rw c.in-Refused.is refl
 
 pub start_of_spec : {M : Type 1} → statement M
 start_of_spec =

@@ -7,7 +7,7 @@ use Rattle.bench_checks.proofs.are_sound.Tie as tie
 
 returns : tie.Need-returns
 unfolding all_of
-returns c = rw (c.is-sound2.ensures, c.before.is_sound.ensures) (simp and-true refl)
+returns c = rw (c.is_sound-2.ensures, c.is_sound.ensures) (simp and-true refl)
 
 pub are_sound_spec : {M : Type 1} → statement M
 are_sound_spec = tie.close (tie.spec (λ c κs. search rules) (λ c κs. search rules) returns)

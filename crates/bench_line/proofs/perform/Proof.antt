@@ -16,10 +16,10 @@ use Rattle.bench_line.proofs.perform.Statement.{statement}
 use Rattle.bench_line.proofs.perform.Tie as tie
 
 abbrev end_a : tie.Start → Lent
-end_a s = lent s.args.a.now s.args.a-page.now
+end_a s = lent s.args.a.now s.args.a_page.now
 
 abbrev end_b : tie.Start → Lent
-end_b s = lent s.args.b.now s.args.b-page.now
+end_b s = lent s.args.b.now s.args.b_page.now
 
 -- how the line was read, measured and understood before 11, 12 and 15 were asked
 abbrev understood : tie.After-ready → tie.After-order-in

@@ -21,7 +21,7 @@ abbrev decreases-loop : tie.decreases-loop
 decreases-loop a b pa pb log count refusal i₀ i = places - i
 
 abbrev bench : tie.Start invariant-loop decreases-loop → Bench
-bench c = bench_of (lent c.args.a.now c.args.a-page.now) (lent c.args.b.now c.args.b-page.now) c.args.log.now c.args.count
+bench c = bench_of (lent c.args.a.now c.args.a_page.now) (lent c.args.b.now c.args.b_page.now) c.args.log.now c.args.count
 
 -- all is asked of the records, the pages, the log and the count
 asks : (c : tie.After-ready invariant-loop decreases-loop) → c.ready.result ≡ first (query_questions (bench (search)))
@@ -41,11 +41,11 @@ loop-holds : tie.Need-loop-init invariant-loop decreases-loop
 loop-holds c = let f = (ready (bench (search)) (passed c)).few in (f, (omega arith, all_left _ _))
 
 would-change-requires : tie.Need-would-change-requires invariant-loop decreases-loop
-would-change-requires c κs = let s : tie.Start invariant-loop decreases-loop = search in (s.args.a-page.now, (s.args.b-page.now, passed c.before.before))
+would-change-requires c κs = let s : tie.Start invariant-loop decreases-loop = search in (s.args.a_page.now, (s.args.b_page.now, passed c.before.before))
 
 -- what it tells of frame i, with these pages
 tells : (c : tie.After-would-change invariant-loop decreases-loop) → c.would-change.result ≡ would_change (bench (search)) c.before.before.loop.i
-tells c = let s : tie.Start invariant-loop decreases-loop = search in c.would-change.ensures s.args.a-page.now s.args.b-page.now (passed c.before.before.before)
+tells c = let s : tie.Start invariant-loop decreases-loop = search in c.would-change.ensures s.args.a_page.now s.args.b_page.now (passed c.before.before.before)
 
 add-i : tie.Need-overflow-add-i invariant-loop decreases-loop
 add-i c = search rules

@@ -11,7 +11,7 @@ use Rattle.bench_run.proofs.step.Tie as tie
 
 -- the bench that is lent
 abbrev bench-of : tie.Start → Bench
-bench-of s = let a = s.args in bench_of (lent a.a.now a.a-page.now) (lent a.b.now a.b-page.now) a.log.now a.count.now
+bench-of s = let a = s.args in bench_of (lent a.a.now a.a_page.now) (lent a.b.now a.b_page.now) a.log.now a.count.now
 
 returns : tie.Need-returns
 returns c = let s : tie.Start = search in step-none (bench-of s) s.args.out.now c.before.before.next.ensures c.if1.true

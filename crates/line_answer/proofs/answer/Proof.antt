@@ -18,7 +18,7 @@ use Rattle.line_answer.proofs.answer.Tie as tie
 
 octets : (c : tie.After-slice_known-1) → Octets c.args.rec.now
 unfolding Octets
-octets c i = omega (arith, c.slice-known.given i)
+octets c = search rules
 
 -- 11, 12 and 15 of the record and its page are passed
 is_ready : (c : tie.Else-asked-ne0) → let s : tie.Start = search in first (record_questions s.args.rec.now s.args.page.now) ≡ 0
@@ -31,7 +31,7 @@ line c = let s : tie.Start = search in s.args.line.now
 abbrev buffer : List ℕ
 buffer = replicate longest_frame 0
 
-is_read : (c : tie.In-Decoded) → Passed (line c) buffer refl c.in-Decoded.BOUND c.read-read.new.out
+is_read : (c : tie.In-Decoded) → Passed (line c) buffer refl c.in-Decoded.n c.read-read.new.out
 is_read c = let r = c.read-read in passed (line c) buffer refl _ _ (sym r.ensures.0 ∙ c.in-Decoded.is) r.ensures.1
 
 returns : tie.Need-returns-then-asked-ne0
