@@ -18,11 +18,11 @@ abbrev room_of : tie.Start → Rooms
 room_of c = rooms c.args.room c.args.block_room
 
 -- there is room
-has_room : (s : tie.Start) {r : Bool} → r ≡ all_of (room_tests (bench-of s).a (bench-of s).b (bench-of s).log (room_of s)) → not r ≡ false
+has_room : (s : tie.Start) {r : Bool} → r ≡ all_of (room_tests (bench-of s).a (bench-of s).b (bench-of s).log (room_of s)) → r ≡ true
     → all_of (room_tests (bench-of s).a (bench-of s).b (bench-of s).log (room_of s)) ≡ true
-has_room s {r} e h = sym e ∙ not-false r h
+has_room s e h = sym e ∙ h
 
-is-long : (s : tie.Start) {r : Bool} → r ≡ all_of (room_tests (bench-of s).a (bench-of s).b (bench-of s).log (room_of s)) → not r ≡ false
+is-long : (s : tie.Start) {r : Bool} → r ≡ all_of (room_tests (bench-of s).a (bench-of s).b (bench-of s).log (room_of s)) → r ≡ true
     → Long (bench-of s).a (bench-of s).b
 is-long s e h = long (bench-of s).a (bench-of s).b (bench-of s).log (room_of s) (has_room s e h)
 

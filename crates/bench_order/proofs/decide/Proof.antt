@@ -16,14 +16,14 @@ kept : {n : ℕ} (x : Order) → n ≡ 0 → x ≡ unless n x
 unfolding unless
 kept x h = rw h refl
 
-returns : tie.Need-returns
-returns c = let s : tie.Start = search in turned s.args.number _ c.if1.true
+returns : tie.Need-returns-then-number-ne0
+returns c = let s : tie.Start = search in turned s.args.number _ c.if-number-ne0.true
 
 find-requires : tie.Need-find-requires
-find-requires c κs = let d : tie.Else1 = search in let s : tie.Start = search in s.pre d.if1.left
+find-requires c κs = let d : tie.Else-number-ne0 = search in let s : tie.Start = search in s.requires d.if-number-ne0.false
 
-returns-2 : tie.Need-returns-2
-returns-2 c = let d : tie.Else1 = search in c.find.ensures ∙ kept _ d.if1.left
+returns-2 : tie.Need-returns
+returns-2 c = let d : tie.Else-number-ne0 = search in c.find.ensures ∙ kept _ d.if-number-ne0.false
 
 pub decide_spec : {M : Type 1} → statement M
 decide_spec = tie.close (tie.spec returns find-requires returns-2)

@@ -6,34 +6,34 @@ use borrow.Author.Rules.{rules}
 use Rattle.bench_order.proofs.end_for.Statement.{statement}
 use Rattle.bench_order.proofs.end_for.Tie as tie
 
-sender-of-requires : tie.Need-sender-of-requires
-sender-of-requires c κs = let d : tie.After-order2 = search in let s : tie.Start = search in (rw d.order2.given.1 at s.pre).0
+sender-of-requires : tie.Need-sender_of-requires
+sender-of-requires c κs = let d : tie.In-Deliver = search in let s : tie.Start = search in (rw d.in-Deliver.is at s.requires).0
 
-sub-result : tie.Need-overflow-sub-result
+sub-result : tie.Need-overflow_sub-result
 sub-result c =
-    let d : tie.After-order2 = search in
+    let d : tie.In-Deliver = search in
     let s : tie.Start = search in
-    let p = rw d.order2.given.1 at s.pre in
-    omega (arith, p.1, c.sender-of.ensures)
+    let p = rw d.in-Deliver.is at s.requires in
+    omega (arith, p.1, c.sender_of.ensures)
 
-returns : tie.Need-returns
+returns : tie.Need-returns-in-Request
 unfolding end_for
-returns c = let d : tie.After-order = search in rw d.order.given.1 refl
+returns c = let d : tie.In-Request = search in rw d.in-Request.is refl
 
-returns-2 : tie.Need-returns-2
+returns-2 : tie.Need-returns-in-Deliver
 unfolding end_for
 returns-2 c =
-    let d : tie.After-order2 = search in
-    let e : tie.After-sender-of = search in
-    rw d.order2.given.1 (ap (λ (k : ℕ). 1 - k) e.sender-of.ensures)
+    let d : tie.In-Deliver = search in
+    let e : tie.After-sender_of = search in
+    rw d.in-Deliver.is (ap (λ (k : ℕ). 1 - k) e.sender_of.ensures)
 
-returns-3 : tie.Need-returns-3
+returns-3 : tie.Need-returns-in-Restart
 unfolding end_for
-returns-3 c = let d : tie.After-order3 = search in rw d.order3.given.1 refl
+returns-3 c = let d : tie.In-Restart = search in rw d.in-Restart.is refl
 
-returns-4 : tie.Need-returns-4
+returns-4 : tie.Need-returns-in-Refused
 unfolding end_for
-returns-4 c = rw c.enum_told.given.1 refl
+returns-4 c = rw c.in-Refused.is refl
 
 pub end_for_spec : {M : Type 1} → statement M
 end_for_spec =

@@ -4,21 +4,21 @@ use borrow.Author.Rules.{rules}
 use Rattle.bench_order.proofs.end_restarted.Statement.{statement}
 use Rattle.bench_order.proofs.end_restarted.Tie as tie
 
-returns : tie.Need-returns
+returns : tie.Need-returns-in-Request
 unfolding end_restarted
-returns c = rw c.enum_told.given.1 refl
+returns c = rw c.in-Request.is refl
 
-returns-2 : tie.Need-returns-2
+returns-2 : tie.Need-returns-in-Deliver
 unfolding end_restarted
-returns-2 c = rw c.enum-told2.given.1 refl
+returns-2 c = rw c.in-Deliver.is refl
 
-returns-3 : tie.Need-returns-3
+returns-3 : tie.Need-returns-in-Restart
 unfolding end_restarted
-returns-3 c = let d : tie.After-order = search in rw d.order.given.1 refl
+returns-3 c = let d : tie.In-Restart = search in rw d.in-Restart.is refl
 
-returns-4 : tie.Need-returns-4
+returns-4 : tie.Need-returns-in-Refused
 unfolding end_restarted
-returns-4 c = rw c.enum-told3.given.1 refl
+returns-4 c = rw c.in-Refused.is refl
 
 pub end_restarted_spec : {M : Type 1} → statement M
 end_restarted_spec =

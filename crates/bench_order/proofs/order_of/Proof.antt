@@ -17,47 +17,47 @@ use Rattle.bench_order.proofs.order_of.Tie as tie
 number_of : (s : List ℕ) → length s ≡ 3 → field 2 1 s ≡ get_or s 1 0 * 256 + get_or s 2 0
 number_of s h = field-more 1 1 s (omega arith) ∙ ap (λ (x : ℕ). x * 256 + get_or s 2 0) (field-one 1 s (omega arith))
 
-returns : tie.Need-returns
+returns : tie.Need-returns-then-kind-eq-REQUEST_A
 unfolding order_of kind_of
-returns c = sym (eq_yes _ _ _ _ c.if1.true)
+returns c = sym (eq_yes _ _ _ _ c.if-kind-eq-REQUEST_A.true)
 
-returns-2 : tie.Need-returns-2
+returns-2 : tie.Need-returns-then-kind-eq-REQUEST_B
 unfolding order_of kind_of
-returns-2 c = let e : tie.Else1 = search in sym (eq_no _ _ _ _ e.if1.left ∙ eq_yes _ _ _ _ c.if2.true)
+returns-2 c = let e : tie.Else-kind-eq-REQUEST_A = search in sym (eq_no _ _ _ _ e.if-kind-eq-REQUEST_A.false ∙ eq_yes _ _ _ _ c.if-kind-eq-REQUEST_B.true)
 
-returns-3 : tie.Need-returns-3
+returns-3 : tie.Need-returns-then-kind-eq-RESTART
 unfolding order_of kind_of
 returns-3 c =
-    let e : tie.Else1 = search in
-    let f : tie.Else2 = search in
-    let g : tie.Then3 = search in
-    let k = g.if3.taken in
-    c.restart-order.ensures ∙ sym (eq_no _ _ _ _ e.if1.left ∙ eq_no _ _ _ _ f.if2.left ∙ eq_no _ _ _ _ (λ z. omega (arith, k, z)) ∙ eq_yes _ _ _ _ k)
+    let e : tie.Else-kind-eq-REQUEST_A = search in
+    let f : tie.Else-kind-eq-REQUEST_B = search in
+    let g : tie.Then-kind-eq-RESTART = search in
+    let k = g.if-kind-eq-RESTART.true in
+    c.restart_order.ensures ∙ sym (eq_no _ _ _ _ e.if-kind-eq-REQUEST_A.false ∙ eq_no _ _ _ _ f.if-kind-eq-REQUEST_B.false ∙ eq_no _ _ _ _ (λ z. omega (arith, k, z)) ∙ eq_yes _ _ _ _ k)
 
-returns-4 : tie.Need-returns-4
+returns-4 : tie.Need-returns-then-kind-ne-DELIVER
 unfolding order_of kind_of
 returns-4 c =
-    let e : tie.Else1 = search in
-    let f : tie.Else2 = search in
-    let g : tie.Else3 = search in
-    sym (eq_no _ _ _ _ e.if1.left ∙ eq_no _ _ _ _ f.if2.left ∙ eq_no _ _ _ _ c.if4.true ∙ eq_no _ _ _ _ g.if3.left)
+    let e : tie.Else-kind-eq-REQUEST_A = search in
+    let f : tie.Else-kind-eq-REQUEST_B = search in
+    let g : tie.Else-kind-eq-RESTART = search in
+    sym (eq_no _ _ _ _ e.if-kind-eq-REQUEST_A.false ∙ eq_no _ _ _ _ f.if-kind-eq-REQUEST_B.false ∙ eq_no _ _ _ _ c.if-kind-ne-DELIVER.true ∙ eq_no _ _ _ _ g.if-kind-eq-RESTART.false)
 
-returns-5 : tie.Need-returns-5
+returns-5 : tie.Need-returns-then-s-ne3
 unfolding kind_of
 returns-5 c =
     let s : tie.Start = search in
-    let d : tie.Else4 = search in
-    sym (orders-short s.args.s.now d.if4.left c.if5.true)
+    let d : tie.Else-kind-ne-DELIVER = search in
+    sym (orders-short s.args.s.now d.if-kind-ne-DELIVER.false c.if-s-ne3.true)
 
-returns-6 : tie.Need-returns-6
+returns-6 : tie.Need-returns
 unfolding kind_of
 returns-6 c =
     let s : tie.Start = search in
-    let d : tie.Else4 = search in
-    let e : tie.Else5 = search in
+    let d : tie.Else-kind-ne-DELIVER = search in
+    let e : tie.Else-s-ne3 = search in
     let x : tie.After-wide = search in
-    let y : tie.After-wide2 = search in
-    sym (orders-frame s.args.s.now d.if4.left e.if5.left (rw (x.wide.ensures.0, y.wide2.ensures.0) (sym (number_of s.args.s.now e.if5.left))))
+    let y : tie.After-wide-2 = search in
+    sym (orders-frame s.args.s.now d.if-kind-ne-DELIVER.false e.if-s-ne3.false (rw (x.wide.ensures.0, y.wide-2.ensures.0) (sym (number_of s.args.s.now e.if-s-ne3.false))))
 
 pub order_of_spec : {M : Type 1} → statement M
 order_of_spec =
