@@ -4,13 +4,13 @@ use borrow.Author.Rules.{rules}
 use Rattle.bench_line.proofs.length_in.Statement.{statement}
 use Rattle.bench_line.proofs.length_in.Tie as tie
 
-returns : tie.Need-returns
+returns : tie.Need-returns-in-Decoded
 unfolding length_in
-returns c = let d : tie.After-read = search in rw d.read.given.1 refl
+returns c = let d : tie.In-Decoded = search in rw d.in-Decoded.is refl
 
-returns-2 : tie.Need-returns-2
+returns-2 : tie.Need-returns-in-Refused
 unfolding length_in
-returns-2 c = rw c.enum_told.given.1 refl
+returns-2 c = rw c.in-Refused.is refl
 
 pub length_in_spec : {M : Type 1} → statement M
 length_in_spec = tie.close (tie.spec (λ c. search rules) (λ c. search rules) returns returns-2)

@@ -22,17 +22,29 @@ abbrev end_b : tie.Start → Lent
 end_b s = lent s.args.b.now s.args.b_page.now
 
 -- how the line was read, measured and understood before 11, 12 and 15 were asked
-abbrev understood : tie.After-ready → tie.After-order-in
-understood q = q.before.before.before.before.before.before.before
+abbrev understood : tie.After-ready-number → tie.After-order_in-order
+understood q = search
 
-abbrev measured : tie.After-ready → tie.After-length-in
-measured q = (understood q).before.before
+abbrev measured_at : tie.After-order_in-order → tie.After-length_in-n
+measured_at q = search
 
-abbrev seen : tie.After-ready → tie.After-read
-seen q = (measured q).before.before
+abbrev measured : tie.After-ready-number → tie.After-length_in-n
+measured q = measured_at (understood q)
 
-abbrev start : tie.After-ready → tie.Start
-start q = (seen q).before.before.before.before.before.before.before.before.before.before
+abbrev seen_at : tie.After-length_in-n → tie.After-read-read
+seen_at q = search
+
+abbrev seen : tie.After-ready-number → tie.After-read-read
+seen q = seen_at (measured q)
+
+abbrev start_at : tie.After-read-read → tie.Start
+start_at q = search
+
+abbrev start : tie.After-ready-number → tie.Start
+start q = start_at (seen q)
+
+abbrev asked_at : tie.After-decide-decided → tie.After-ready-number
+asked_at d = search
 
 abbrev bench-of : tie.Start → Bench
 bench-of s = bench_of (end_a s) (end_b s) s.args.log.now s.args.count
@@ -41,103 +53,103 @@ abbrev room_of : tie.Start → Rooms
 room_of s = rooms (length s.args.out.now) (length s.args.up.now)
 
 -- the octets of the line
-abbrev octets : tie.After-ready → List ℕ
-octets q = take (measured q).length-in.result (seen q).read.new.1.0
+abbrev octets : tie.After-ready-number → List ℕ
+octets q = take (measured q).length_in-n.result (seen q).read-read.new.out
 
 -- as many octets were read as there is room for
-fits : (c : tie.After-length-in) → c.length-in.result ≤ longest_frame
+fits : (c : tie.After-length_in-n) → c.length_in-n.result ≤ longest_frame
 fits c =
-    let r = c.before.before.read in
+    let r = c.read-read in
     let z : tie.Start = search in let line = z.args.line.now in
-    in-room line (replicate longest_frame 0) refl r.ensures.1 r.ensures.0 c.length-in.ensures (search rules)
+    in-room line (replicate longest_frame 0) refl r.ensures.1 r.ensures.0 c.length_in-n.ensures (search rules)
 
-slice-aggregate-octets : tie.Need-slice-aggregate-octets
-slice-aggregate-octets c = sym (length-take-le _ _ (omega (arith, fits c.before)))
+slice-aggregate-octets : tie.Need-slice_bounds-octets-end
+slice-aggregate-octets c = sym (length-take-le _ _ (omega (arith, let n : tie.After-length_in-n = search in fits n)))
 
-order-in-requires : tie.Need-order-in-requires
+order-in-requires : tie.Need-order_in-order-requires
 order-in-requires c κs =
-    let d : tie.After-read = search in
+    let d : tie.After-read-read = search in
     let s : tie.Start = search in
-    is-ordered s.args.line.now (replicate longest_frame 0) refl d.read.ensures.1 d.read.ensures.0 c.before.length-in.ensures
+    is-ordered s.args.line.now (replicate longest_frame 0) refl d.read-read.ensures.1 d.read-read.ensures.0 c.length_in-n.ensures
 
-decide-requires : tie.Need-decide-requires
+decide-requires : tie.Need-decide-decided-requires
 decide-requires c κs =
-    let q = c.before in
+    let q : tie.After-ready-number = search in
     let s = start q in
-    findable (bench-of s) (room_of s) (understood q).order-in.result q.before.before.before.before.before.before.end-restarted.ensures q.ready.ensures
+    findable (bench-of s) (room_of s) (understood q).order_in-order.result q.end_restarted.ensures q.ready-number.ensures
 
 -- what the line asks, and what holds of its order once it is decided
-has-kind : (q : tie.After-ready) → Asked (understood q).order-in.result (octets q)
+has-kind : (q : tie.After-ready-number) → Asked (understood q).order_in-order.result (octets q)
 has-kind q =
-    let r = (seen q).read in
-    is-asked (start q).args.line.now (replicate longest_frame 0) refl r.ensures.1 r.ensures.0 (measured q).length-in.ensures (understood q).order-in.ensures
+    let r = (seen q).read-read in
+    is-asked (start q).args.line.now (replicate longest_frame 0) refl r.ensures.1 r.ensures.0 (measured q).length_in-n.ensures (understood q).order_in-order.ensures
 
-is-decided : (d : tie.After-decide) → let q = d.before.before in d.decide.result ≡ decided (bench-of (start q)) (room_of (start q)) (understood q).order-in.result
+is-decided : (d : tie.After-decide-decided) → let q = asked_at d in d.decide-decided.result ≡ decided (bench-of (start q)) (room_of (start q)) (understood q).order_in-order.result
 is-decided d =
-    let q = d.before.before in
+    let q = asked_at d in
     let s = start q in
-    decides (bench-of s) (room_of s) (understood q).order-in.result q.before.before.before.before.before.before.end-restarted.ensures q.ready.ensures d.decide.ensures
+    decides (bench-of s) (room_of s) (understood q).order_in-order.result q.end_restarted.ensures q.ready-number.ensures d.decide-decided.ensures
 
-is_fine : (d : tie.After-decide) → let q = d.before.before in let s = start q in let a = s.args in Fine (end_a s) (end_b s) a.log.now a.count (octets q) a.out.now a.up.now d.decide.result
+is_fine : (d : tie.After-decide-decided) → let q = asked_at d in let s = start q in let a = s.args in Fine (end_a s) (end_b s) a.log.now a.count (octets q) a.out.now a.up.now d.decide-decided.result
 is_fine d =
-    let q = d.before.before in
+    let q = asked_at d in
     let s = start q in
     let a = s.args in
-    fine (end_a s) (end_b s) a.log.now a.count (octets q) a.out.now a.up.now (understood q).order-in.result (is-decided d) (has-kind q)
+    fine (end_a s) (end_b s) a.log.now a.count (octets q) a.out.now a.up.now (understood q).order_in-order.result (is-decided d) (has-kind q)
 
-end-for-requires : tie.Need-end-for-requires
+end-for-requires : tie.Need-end_for-end-requires
 end-for-requires c κs =
-    let d = c.before in
-    let q = d.before.before in
+    let d : tie.After-decide-decided = search in
+    let q = asked_at d in
     let s = start q in
     let a = s.args in
-    end_known (end_a s) (end_b s) a.log.now a.count (octets q) a.out.now a.up.now d.decide.result (is_fine d)
+    end_known (end_a s) (end_b s) a.log.now a.count (octets q) a.out.now a.up.now d.decide-decided.result (is_fine d)
 
-carry-out-requires : tie.Need-carry-out-requires
+carry-out-requires : tie.Need-carry_out-requires
 carry-out-requires c κs =
-    let d : tie.After-decide = search in
-    let q = d.before.before in
+    let d : tie.After-decide-decided = search in
+    let q = asked_at d in
     let s = start q in
     let a = s.args in
-    is_ready (end_a s) (end_b s) a.log.now a.count (octets q) a.out.now a.up.now d.decide.result (is_fine d) (λ p. p.fit_a)
+    is_ready (end_a s) (end_b s) a.log.now a.count (octets q) a.out.now a.up.now d.decide-decided.result (is_fine d) (λ p. p.fit_a)
 
-returns : tie.Need-returns
+returns : tie.Need-returns-then-end-eq0
 returns c =
-    let e : tie.After-carry-out = search in
-    let t : tie.Then1 = search in
-    let f : tie.After-end-for = search in
-    let d : tie.After-decide = search in
-    let q = d.before.before in
+    let e : tie.After-carry_out = search in
+    let t : tie.Then-end-eq0 = search in
+    let f : tie.After-end_for-end = search in
+    let d : tie.After-decide-decided = search in
+    let q = asked_at d in
     let s = start q in
     let a = s.args in
-    let r = (seen q).read in
-    performs a.line.now (replicate longest_frame 0) refl r.ensures.1 r.ensures.0 (measured q).length-in.ensures (understood q).order-in.ensures
+    let r = (seen q).read-read in
+    performs a.line.now (replicate longest_frame 0) refl r.ensures.1 r.ensures.0 (measured q).length_in-n.ensures (understood q).order_in-order.ensures
     (bench-of s) a.out.now a.up.now
-    (plays (end_a s) (end_b s) a.log.now a.count (octets q) a.out.now a.up.now (understood q).order-in.result (is-decided d) (has-kind q)
-    f.end-for.ensures (place-a (end_a s) (end_b s) a.log.now a.count (octets q) a.out.now a.up.now t.if1.taken) e.carry-out.ensures)
+    (plays (end_a s) (end_b s) a.log.now a.count (octets q) a.out.now a.up.now (understood q).order_in-order.result (is-decided d) (has-kind q)
+    f.end_for-end.ensures (place-a (end_a s) (end_b s) a.log.now a.count (octets q) a.out.now a.up.now t.if-end-eq0.true) e.carry_out.ensures)
 
-carry-out-requires-2 : tie.Need-carry-out-requires-2
+carry-out-requires-2 : tie.Need-carry_out-requires-2
 carry-out-requires-2 c κs =
-    let d : tie.After-decide = search in
-    let q = d.before.before in
+    let d : tie.After-decide-decided = search in
+    let q = asked_at d in
     let s = start q in
     let a = s.args in
-    is_ready (end_a s) (end_b s) a.log.now a.count (octets q) a.out.now a.up.now d.decide.result (is_fine d) (λ p. p.fit_b)
+    is_ready (end_a s) (end_b s) a.log.now a.count (octets q) a.out.now a.up.now d.decide-decided.result (is_fine d) (λ p. p.fit_b)
 
-returns-2 : tie.Need-returns-2
+returns-2 : tie.Need-returns
 returns-2 c =
-    let e : tie.After-carry-out2 = search in
-    let t : tie.Else1 = search in
-    let f : tie.After-end-for = search in
-    let d : tie.After-decide = search in
-    let q = d.before.before in
+    let e : tie.After-carry_out-2 = search in
+    let t : tie.Else-end-eq0 = search in
+    let f : tie.After-end_for-end = search in
+    let d : tie.After-decide-decided = search in
+    let q = asked_at d in
     let s = start q in
     let a = s.args in
-    let r = (seen q).read in
-    performs a.line.now (replicate longest_frame 0) refl r.ensures.1 r.ensures.0 (measured q).length-in.ensures (understood q).order-in.ensures
+    let r = (seen q).read-read in
+    performs a.line.now (replicate longest_frame 0) refl r.ensures.1 r.ensures.0 (measured q).length_in-n.ensures (understood q).order_in-order.ensures
     (bench-of s) a.out.now a.up.now
-    (plays (end_a s) (end_b s) a.log.now a.count (octets q) a.out.now a.up.now (understood q).order-in.result (is-decided d) (has-kind q)
-    f.end-for.ensures (place-b (end_a s) (end_b s) a.log.now a.count (octets q) a.out.now a.up.now t.if1.left) e.carry-out2.ensures)
+    (plays (end_a s) (end_b s) a.log.now a.count (octets q) a.out.now a.up.now (understood q).order_in-order.result (is-decided d) (has-kind q)
+    f.end_for-end.ensures (place-b (end_a s) (end_b s) a.log.now a.count (octets q) a.out.now a.up.now t.if-end-eq0.false) e.carry_out-2.ensures)
 
 pub perform_spec : {M : Type 1} → statement M
 perform_spec =
