@@ -8,26 +8,26 @@ use borrow.Author.Rules.{rules}
 use Rattle.bench_answer.proofs.answer.Statement.{statement}
 use Rattle.bench_answer.proofs.answer.Tie as tie
 
-block-of-requires : tie.Need-block-of-requires
-block-of-requires c κs = let p : tie.After-perform = search in block-there p.perform.ensures
+block-of-requires : tie.Need-block_of-requires
+block-of-requires c κs = let p : tie.After-perform-r = search in block-there p.perform-r.ensures
 
 -- the start, seen from before the line is played
-abbrev start-of : tie.After-up → tie.Start
+abbrev start-of : tie.After-up-1 → tie.Start
 start-of c = search
 
 tell-requires : tie.Need-tell-requires
 tell-requires c κs =
-    let f : tie.After-frame2 = search in
-    let p : tie.After-perform = search in
+    let f : tie.After-frame-2-1 = search in
+    let p : tie.After-perform-r = search in
     let s = start-of p.before in
     let a = s.args in
-    (s.pre, tellable p.perform.ensures (fine (bench_of (lent a.a.now a.a_page.now) (lent a.b.now a.b_page.now) a.log.now a.count.now) a.line.now (rooms longest_frame longest_block)) (omega (arith, f.frame2.given)) c.before.before.block_of.ensures)
+    (s.requires, tellable p.perform-r.ensures (fine (bench_of (lent a.a.now a.a_page.now) (lent a.b.now a.b_page.now) a.log.now a.count.now) a.line.now (rooms longest_frame longest_block)) (omega (arith, f.frame2.given)) c.block_of.ensures)
 
 returns : tie.Need-returns
 returns c =
-    let b : tie.After-block-of = search in
-    let p : tie.After-perform = search in
-    gives p.perform.ensures b.block_of.ensures c.before.before.tell.ensures
+    let b : tie.After-block_of = search in
+    let p : tie.After-perform-r = search in
+    gives p.perform-r.ensures b.block_of.ensures c.tell.ensures
 
 pub answer_spec : {M : Type 1} → statement M
 answer_spec =

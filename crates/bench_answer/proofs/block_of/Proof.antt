@@ -30,28 +30,28 @@ delivered : (c : tie.Start) → c.args.at ≢ 0
 unfolding bench_block_at
 delivered c z = eq_no _ 0 _ _ z
 
-reaches : (c : tie.Else2) → let a = c.before.before.args in a.at + a.n ≤ length a.log.now
+reaches : (c : tie.Else-at-eq0) → let a = c.args in a.at + a.n ≤ length a.log.now
 reaches c =
     let s = c.before.before in
     let l = drop s.args.at s.args.log.now in
-    omega (arith, there s.args.n l (rw (delivered s c.if2.false) at s.requires), length-drop s.args.at s.args.log.now, c.before.if1.false)
+    omega (arith, there s.args.n l (rw (delivered s c.if-at-eq0.false) at s.requires), length-drop s.args.at s.args.log.now, c.if-n-eq0.false)
 
-returns : tie.Need-returns
-returns c = let a = c.before.before.args in rw c.before.if1.true (none a.at a.log.now a.up.now)
+returns : tie.Need-returns-then-n-eq0
+returns c = let a = c.args in rw c.if-n-eq0.true (none a.at a.log.now a.up.now)
 
-slice-aggregate-result-2 : tie.Need-slice-aggregate-result-2
+slice-aggregate-result-2 : tie.Need-slice_bounds-result-end-then-at-eq0
 slice-aggregate-result-2 c =
     let s = c.before.before.before in
-    sym (length-take-le _ _ (there s.args.n s.args.up.now (rw (collected s c.before.if2.true) at s.requires)))
+    sym (length-take-le _ _ (there s.args.n s.args.up.now (rw (collected s c.if-at-eq0.true) at s.requires)))
 
-returns-2 : tie.Need-returns-2
-returns-2 c = sym (collected c.before.before.before c.before.if2.true)
+returns-2 : tie.Need-returns-then-at-eq0
+returns-2 c = sym (collected c.before.before.before c.if-at-eq0.true)
 
-returns-3 : tie.Need-returns-3
+returns-3 : tie.Need-returns
 returns-3 c =
     let s = c.before.before.before in
     let e : s.args.at + s.args.n - s.args.at ≡ s.args.n = omega arith in
-    rw e (sym (delivered s c.before.if2.false))
+    rw e (sym (delivered s c.if-at-eq0.false))
 
 pub block_of_spec : {M : Type 1} → statement M
 block_of_spec =

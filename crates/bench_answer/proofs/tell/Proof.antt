@@ -8,32 +8,32 @@ use borrow.Author.Rules.{rules}
 use Rattle.bench_answer.proofs.tell.Statement.{statement}
 use Rattle.bench_answer.proofs.tell.Tie as tie
 
-slice-aggregate-write-text : tie.Need-slice-aggregate-write-text
-slice-aggregate-write-text c = let s : tie.Start = search in sym (length-take-le s.args.r.sent s.args.frame.now (omega (arith, s.pre.1.1.1.1)))
+slice-aggregate-write-text : tie.Need-slice_bounds-write_text-end
+slice-aggregate-write-text c = let s : tie.Start = search in sym (length-take-le s.args.r.sent s.args.frame.now (omega (arith, s.requires.1.1.1.1)))
 
-write-text-requires : tie.Need-write-text-requires
+write-text-requires : tie.Need-write_text-n-requires
 write-text-requires c κs =
     let s : tie.Start = search in
-    let k : tie.After-slice-known3 = search in
-    let x : tie.After-slice-known2 = search in
+    let k : tie.After-slice_known-3-1 = search in
+    let x : tie.After-slice_known-2-1 = search in
     let a = s.args in
-    let y = k.before.before.store82.last.0 in
-    (omega (arith, length_rest y 2, s.pre.0, k.slice-known3.given 0, k.before.out2.given, x.slice-known2.given 0, x.before.out.given), (s.pre.1.1.0, omega (arith, length-take a.r.sent a.frame.now, s.pre.1.1.1.0)))
+    let y = k.store8-2.new.d in
+    (omega (arith, length_rest y 2, s.requires.0, k.slice-known3.given 0, k.before.out2.given, x.slice-known2.given 0, x.before.out.given), (s.requires.1.1.0, omega (arith, length-take a.r.sent a.frame.now, s.requires.1.1.1.0)))
 
-add-result : tie.Need-overflow-add-result
+add-result : tie.Need-overflow_add-result
 add-result c =
     let s : tie.Start = search in
     let r = s.args.r in
     let sent = take r.sent s.args.frame.now in
     let m = length-take r.sent s.args.frame.now in
-    omega (arith, c.before.before.write-text.ensures.count, text_short r.status s.args.block.now sent s.pre.1.1.0 (omega (arith, m, s.pre.1.1.1.0)))
+    omega (arith, c.write_text-n.ensures.count, text_short r.status s.args.block.now sent s.requires.1.1.0 (omega (arith, m, s.requires.1.1.1.0)))
 
 returns : tie.Need-returns
 returns c =
     let s : tie.Start = search in
-    let y : tie.After-store82 = search in
+    let y : tie.After-store8-2 = search in
     let x : tie.After-store8 = search in
-    tells s.args.r.end s.args.out.now _ s.pre.1.0 s.pre.0 x.store8.ensures y.store82.ensures c.before.before.write-text.ensures
+    tells s.args.r.end s.args.out.now _ s.requires.1.0 s.requires.0 x.store8.ensures y.store8-2.ensures c.write_text-n.ensures
 
 pub tell_spec : {M : Type 1} → statement M
 tell_spec =

@@ -11,20 +11,20 @@ use Rattle.c_query.proofs.dock_first_frame.Tie as tie
 told : (w : Bench) {r f : Found} → r ≡ first_frame w → r ≡ f → FrameNamed w (number_in f) (frame_in f)
 told w e v = record { is_number = ap number_in (sym v ∙ e); is_frame = ap frame_in (sym v ∙ e) }
 
-enum_told : tie.Need-enum-told
+enum_told : tie.Need-enum_told-1
 enum_told c = search rules
 
-returns : tie.Need-returns
+returns : tie.Need-returns-in-Frame
 unfolding number_in frame_in
-returns c = told _ c.before.before.before.first_frame.ensures c.before.found.given.1
+returns c = told _ c.first_frame-found.ensures c.in-Frame.is
 
-returns-2 : tie.Need-returns-2
+returns-2 : tie.Need-returns-in-Nothing
 unfolding number_in frame_in
-returns-2 c = told _ c.before.before.first_frame.ensures c.enum_told.given.1
+returns-2 c = told _ c.first_frame-found.ensures c.in-Nothing.is
 
-returns-3 : tie.Need-returns-3
+returns-3 : tie.Need-returns-in-Refused
 unfolding number_in frame_in
-returns-3 c = told _ c.before.before.before.first_frame.ensures c.before.found2.given.1
+returns-3 c = told _ c.first_frame-found.ensures c.in-Refused.is
 
 pub dock_first_frame_spec : {M : Type 1} → statement M
 dock_first_frame_spec =
