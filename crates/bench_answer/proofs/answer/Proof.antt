@@ -15,13 +15,15 @@ block-of-requires c κs = let p : tie.After-perform-r = search in block-there p.
 abbrev start-of : tie.After-up-1 → tie.Start
 start-of c = search
 
+abbrev up-of : tie.After-perform-r → tie.After-up-1
+up-of p = search
+
 tell-requires : tie.Need-tell-requires
 tell-requires c κs =
-    let f : tie.After-frame-2-1 = search in
     let p : tie.After-perform-r = search in
-    let s = start-of p.before in
+    let s = start-of (up-of p) in
     let a = s.args in
-    (s.requires, tellable p.perform-r.ensures (fine (bench_of (lent a.a.now a.a_page.now) (lent a.b.now a.b_page.now) a.log.now a.count.now) a.line.now (rooms longest_frame longest_block)) (omega (arith, f.frame2.given)) c.block_of.ensures)
+    (s.requires, tellable p.perform-r.ensures (fine (bench_of (lent a.a.now a.a_page.now) (lent a.b.now a.b_page.now) a.log.now a.count.now) a.line.now (rooms longest_frame longest_block)) (omega (arith, c.perform-r.auto.out)) c.block_of.ensures)
 
 returns : tie.Need-returns
 returns c =

@@ -32,7 +32,7 @@ delivered c z = eq_no _ 0 _ _ z
 
 reaches : (c : tie.Else-at-eq0) → let a = c.args in a.at + a.n ≤ length a.log.now
 reaches c =
-    let s = c.before.before in
+    let s : tie.Start = search in
     let l = drop s.args.at s.args.log.now in
     omega (arith, there s.args.n l (rw (delivered s c.if-at-eq0.false) at s.requires), length-drop s.args.at s.args.log.now, c.if-n-eq0.false)
 
@@ -41,15 +41,15 @@ returns c = let a = c.args in rw c.if-n-eq0.true (none a.at a.log.now a.up.now)
 
 slice-aggregate-result-2 : tie.Need-slice_bounds-result-end-then-at-eq0
 slice-aggregate-result-2 c =
-    let s = c.before.before.before in
+    let s : tie.Start = search in
     sym (length-take-le _ _ (there s.args.n s.args.up.now (rw (collected s c.if-at-eq0.true) at s.requires)))
 
 returns-2 : tie.Need-returns-then-at-eq0
-returns-2 c = sym (collected c.before.before.before c.if-at-eq0.true)
+returns-2 c = let s : tie.Start = search in sym (collected s c.if-at-eq0.true)
 
 returns-3 : tie.Need-returns
 returns-3 c =
-    let s = c.before.before.before in
+    let s : tie.Start = search in
     let e : s.args.at + s.args.n - s.args.at ≡ s.args.n = omega arith in
     rw e (sym (delivered s c.if-at-eq0.false))
 

@@ -14,11 +14,9 @@ slice-aggregate-write-text c = let s : tie.Start = search in sym (length-take-le
 write-text-requires : tie.Need-write_text-n-requires
 write-text-requires c κs =
     let s : tie.Start = search in
-    let k : tie.After-slice_known-3-1 = search in
-    let x : tie.After-slice_known-2-1 = search in
     let a = s.args in
-    let y = k.store8-2.new.d in
-    (omega (arith, length_rest y 2, s.requires.0, k.slice-known3.given 0, k.before.out2.given, x.slice-known2.given 0, x.before.out.given), (s.requires.1.1.0, omega (arith, length-take a.r.sent a.frame.now, s.requires.1.1.1.0)))
+    let y = c.store8-2.new.d in
+    (omega (arith, length_rest y 2, s.requires.0, c.store8-2.auto.d, c.store8.auto.d), (s.requires.1.1.0, omega (arith, length-take a.r.sent a.frame.now, s.requires.1.1.1.0)))
 
 add-result : tie.Need-overflow_add-result
 add-result c =
