@@ -5,18 +5,6 @@ use borrow.Author.Rules.{rules}
 use Rattle.frame_read.proofs.class_of.Statement.{statement}
 use Rattle.frame_read.proofs.class_of.Tie as tie
 
-returns-2 : tie.Need-returns-in-1-to-9
-unfolding kind_of
-returns-2 c =
-    let z : tie.Start = search in
-    class_frame (kind_of z.args.s.now) (omega arith) (omega arith)
-
-returns-3 : tie.Need-returns-in-64-to-70
-unfolding kind_of
-returns-3 c =
-    let z : tie.Start = search in
-    class_request (kind_of z.args.s.now) (omega arith) (omega arith)
-
 returns-4 : tie.Need-returns-in_default
 unfolding kind_of
 returns-4 c = class_low (kind_of c.before.before.before.args.s.now) (omega arith)
@@ -34,6 +22,10 @@ returns-6 c =
     class_high (kind_of z.args.s.now) (omega arith)
 
 pub class_of_spec : {M : Type 1} → statement M
+unfolding kind_of
 class_of_spec =
     tie.close
-    (tie.spec (λ c. let s = c.before.args.s.now in class_low (kind_of s) (omega (arith, none_kind s (omega arith)))) (λ c. search rules) returns-2 returns-3 returns-4 returns-5 returns-6)
+    (tie.spec (λ c. let s = c.before.args.s.now in class_low (kind_of s) (omega (arith, none_kind s (omega arith)))) (λ c. search rules)
+    (λ c. let z : tie.Start = search in class_frame (kind_of z.args.s.now) (omega arith) (omega arith))
+    (λ c. let z : tie.Start = search in class_request (kind_of z.args.s.now) (omega arith) (omega arith))
+    returns-4 returns-5 returns-6)

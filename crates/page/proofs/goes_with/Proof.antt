@@ -5,14 +5,9 @@ use native.Mathlib.Omega.{arith}
 use Rattle.page.proofs.goes_with.Statement.{statement}
 use Rattle.page.proofs.goes_with.Tie as tie
 
-returns : tie.Need-returns-then-local-gt-LAST_INCARNATION
-returns c =
-    let a = c.before.before in
-    goes-not a.args.page.now a.requires a.args.local (omega arith)
-
 returns-2 : tie.Need-returns
 unfolding goes_with
 returns-2 c = c.is_page.ensures
 
 pub goes_with_spec : {M : Type 1} → statement M
-goes_with_spec = tie.close (tie.spec returns (λ c. search rules) (λ c. search rules) (λ c κs. search rules) returns-2)
+goes_with_spec = tie.close (tie.spec (λ c. let a = c.before.before in goes-not a.args.page.now a.requires a.args.local (omega arith)) (λ c. search rules) (λ c. search rules) (λ c κs. search rules) returns-2)

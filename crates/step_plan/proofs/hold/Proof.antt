@@ -8,5 +8,5 @@ pub hold_spec : {M : Type 1} → statement M
 hold_spec =
     tie.close
     (tie.spec (λ c κs. search rules) (λ c. search rules) (λ c κs. search rules)
-    (λ c. rw c.before.before.before.say-answer.ensures at c.keep.ensures ∙ sym (eq_no _ _ _ _ c.before.if-held-place-ne0.true))
-    (λ c. rw c.before.before.say-answer.ensures (sym (eq_yes _ _ _ _ c.if-held-place-ne0.false))))
+    (λ c. rw c.before.before.before.say-answer.ensures at c.keep.ensures ∙ sym (eq_no _ _ _ _ (search rules)))
+    (λ c. rw c.before.before.say-answer.ensures (sym (eq_yes _ _ _ _ (search rules)))))

@@ -16,13 +16,6 @@ use Rattle.step_request.proofs.close.Tie as tie
 returns : tie.Need-returns-then-not-allowed
 returns c = λ b q h old w _ lz. let s : tie.Start = search in let a = s.args in refuses a.n q h b old w 8 (close-8 (holding a.n q h) c.before.if-not-allowed.true) c.refuse.ensures
 
-returns-2 : tie.Need-returns-then-n-eq0
-unfolding notice_number sent_by
-returns-2 c = λ b q h old w _ lz.
-    let s : tie.Start = search in let a = s.args in
-    turns a.n q h b old w _ lz s.requires 0 0 closeFinished Nothing tt
-    (close-unheard (holding a.n q h) c.before.before.before.if-not-allowed.false c.before.if-n-eq0.true) c.turn.ensures
-
 returns-3 : tie.Need-returns
 unfolding notice_number sent_by is_frame in_range if_eq when
 returns-3 c =
@@ -30,9 +23,14 @@ returns-3 c =
     λ b q h old w _ lz.
     let s : tie.Start = search in let a = s.args in
     turns a.n q h b old w _ lz s.requires 5 a.n.remote none (Frame (header_of DR a.n.local a.n.remote 0)) refl
-    (close-heard (holding a.n q h) else1.if-not-allowed.false c.before.before.if-n-eq0.false) (rw c.before.say-reply.ensures at c.turn-2.ensures)
+    (close-heard (holding a.n q h) else1.if-not-allowed.false (search rules)) (rw c.before.say-reply.ensures at c.turn-2.ensures)
 
 pub close_spec : {M : Type 1} → statement M
+unfolding notice_number sent_by
 close_spec =
     tie.close
-    (tie.spec (λ c κs. search rules) returns (λ c κs. search rules) returns-2 (λ c κs. search rules) (λ c κs. search rules) returns-3)
+    (tie.spec (λ c κs. search rules) returns (λ c κs. search rules)
+    (λ c b q h old w _ lz. let s : tie.Start = search in let a = s.args in
+    turns a.n q h b old w _ lz s.requires 0 0 closeFinished Nothing tt
+    (close-unheard (holding a.n q h) c.before.before.before.if-not-allowed.false (search rules)) c.turn.ensures)
+    (λ c κs. search rules) (λ c κs. search rules) returns-3)

@@ -23,13 +23,6 @@ returns c = λ z b _ _ q h old w _ _.
     let n = s.args.n in
     refuses n q h b old w _ (send-refused (holding n q h) b c.before.before.refusal_of-refusal.ensures c.before.if-refusal-ne0.true) c.refuse.ensures
 
-returns-2 : tie.Need-returns-then-n-ge-QUEUE_SIZE
-returns-2 c = λ z b _ _ q h old w _ _.
-    let s : tie.Start = search in
-    let e : tie.Else-refusal-ne0 = search in
-    let n = s.args.n in
-    refuses n q h b old w _ (send-10 (holding n q h) b (passed e) (omega arith)) c.refuse-then-n-ge-QUEUE_SIZE.ensures
-
 join-requires : tie.Need-join-requires
 join-requires c κs = let s : tie.Start = search in let e : tie.Else-refusal-ne0 = search in (left _ s.args.n.accepted last_number (passed e), search rules)
 
@@ -42,4 +35,9 @@ returns-3 c = λ z b lo hi q h old w _ _.
     joins n q h b old w (omega arith) lo hi (send-0 (holding n q h) b (passed e) (omega arith)) c.join.ensures
 
 pub send_spec : {M : Type 1} → statement M
-send_spec = tie.close (tie.spec (λ c κs. search rules) (λ c κs. search rules) returns (λ c κs. search rules) returns-2 join-requires returns-3)
+send_spec =
+    tie.close
+    (tie.spec (λ c κs. search rules) (λ c κs. search rules) returns (λ c κs. search rules)
+    (λ c z b _ _ q h old w _ _. let s : tie.Start = search in let e : tie.Else-refusal-ne0 = search in let n = s.args.n in
+    refuses n q h b old w _ (send-10 (holding n q h) b (passed e) (omega arith)) (search rules))
+    join-requires returns-3)
