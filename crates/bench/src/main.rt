@@ -1,7 +1,14 @@
 // The bench program: lends bench_run two new pages, an empty log and its buffers.
 #![tactic(auto)]
 
-fn main() {
+use line_io::Streams;
+
+fn main(rt: HostRuntime) {
+    let streams = Streams {
+        input: rt.stdin(),
+        output: rt.stdout(),
+        error: rt.stderr(),
+    };
     let mut a = [0u8; lent_record::RECORD_SIZE];
     let mut b = [0u8; lent_record::RECORD_SIZE];
     let mut a_page = [page::UNUSED; octets::PAGE_SIZE];
@@ -12,6 +19,7 @@ fn main() {
     let mut line = [0u8; line_io::LONGEST_KEPT];
     let mut out = [0u8; line_io::BUFFER_SIZE];
     bench_run::run(
+        streams,
         &mut a,
         &mut b,
         &mut a_page,

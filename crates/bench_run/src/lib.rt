@@ -10,10 +10,11 @@ ghost use Rattle.line_io.specs.Step.{Stepped};
 ghost use Rattle.line_io.specs.Program.{Ran};
 ghost use Rattle.bench_run.specs.Ends.{both_ends, fresh_bench};
 
-use line_io::Place;
+use line_io::{Place, Streams};
 
 // One step of the stream, with the answer where a line is ready.
 fn step(
+    streams: Streams,
     a: &mut [u8; lent_record::RECORD_SIZE],
     b: &mut [u8; lent_record::RECORD_SIZE],
     a_page: &mut [u8; octets::PAGE_SIZE],
@@ -30,7 +31,7 @@ fn step(
         let w' : Bench = bench_of (lent a.new a_page.new) (lent b.new b_page.new) log.new count.new in
         Stepped both_ends answer_room w buf.old line.old out.old p w' buf.new line.new out.new result) }
 {
-    let q = line_io::next(buf, line, out, bench_answer::ANSWER_ROOM, p);
+    let q = line_io::next(streams, buf, line, out, bench_answer::ANSWER_ROOM, p);
     if q.lines == 0 {
         return q;
     }
@@ -50,6 +51,7 @@ fn step(
 
 // Restarts on two new pages, which make two fresh ends beside an empty log, and steps while some are left.
 pub fn run(
+    streams: Streams,
     a: &mut [u8; lent_record::RECORD_SIZE],
     b: &mut [u8; lent_record::RECORD_SIZE],
     a_page: &mut [u8; octets::PAGE_SIZE],
@@ -69,7 +71,7 @@ pub fn run(
     lent_record::restart(b, b_page);
     let mut p = line_io::start();
     while p.steps > 0 {
-        p = step(a, b, a_page, b_page, log, count, buf, line, out, p);
+        p = step(streams, a, b, a_page, b_page, log, count, buf, line, out, p);
     }
     p
 }

@@ -6,6 +6,9 @@ ghost use Rattle.octets.specs.Test.{when};
 ghost use Rattle.line_split.specs.Split.{longest_kept};
 ghost use Rattle.line_io.specs.Place.{buffer_size, PlaceFits, Starts, ready_line, emptied, answered_with, AfterRead, Filled, Taken, Next};
 
+use std::fmt::InlineText;
+use std::io::{Error, ErrorKind, Print, Read, Stderr, Stdin, Stdout};
+
 // The octets of a program's buffers for its input and its output.
 pub const BUFFER_SIZE: usize = 65536;
 
@@ -17,7 +20,7 @@ pub const LONGEST_KEPT: usize = 2 * octets::LONGEST_FRAME + 1;
 // input are held; filled characters of output wait. One line is ready or none: what is held or, where nothing is, the input at
 // hand between from and to. The program is done where no steps are left; each step leaves fewer, so that every run ends.
 // Every field is a word: a struct with gaps between its fields takes longer to copy.
-#[derive(Drop)]
+#[derive(Clone, Copy)]
 pub struct Place {
     pub at: usize,
     pub end: usize,
@@ -27,6 +30,14 @@ pub struct Place {
     pub from: usize,
     pub to: usize,
     pub steps: u64,
+}
+
+// What a program reads and writes, and where it says what failed.
+#[derive(Clone, Copy)]
+pub struct Streams {
+    pub input: Stdin,
+    pub output: Stdout,
+    pub error: Stderr,
 }
 
 // Before the first read, with more steps than any run takes.
@@ -54,22 +65,38 @@ fn waiting(out: &[u8], p: Place) -> &[u8]
     &out[..filled]
 }
 
-// Tells what failed just now, and why. That nobody reads the output any more is no failure.
-fn tell(what: &[u8]) {
-    if os::errno() == libc::EPIPE {
+// The reason of a failure, without the number of the system that std puts after it.
+fn reason(text: &str) -> &str {
+    match text.rsplit_once(" (os error ") {
+        Some((reason, _)) => reason,
+        None => text,
+    }
+}
+
+// Tells what failed, and why. That nobody reads the output any more is no failure.
+fn tell(streams: Streams, what: &str, why: Error) {
+    if why.kind() == ErrorKind::BrokenPipe {
         return;
     }
-    os::fail(what);
+    let text = InlineText::<256>::of(why);
+    let reason = reason(text.as_str());
+    let _ = eprintln!(streams.error; "{what}: {reason}");
 }
 
-// Writes what waits of the output. Whether all was written, no contract can say.
-fn flush(out: &[u8], p: Place) -> bool
+// Writes what waits of the output, and tells why where not all was written. Whether all was, no contract can say.
+fn flush(streams: Streams, out: &[u8], p: Place) -> bool
     requires { p.filled ≤ length out.now }
 {
-    io::write_all(libc::STDOUT_FILENO, waiting(out, p))
+    match streams.output.write_all(waiting(out, p)) {
+        Ok(()) => true,
+        Err(why) => {
+            tell(streams, "standard output", why);
+            false
+        }
+    }
 }
 
-// Nothing waits after a write. The program is done where not all was written, and tells why.
+// Nothing waits after a write. The program is done where not all was written.
 fn after_write(p: Place, all: bool) -> Place
     ensures { result ≡ emptied p (when all p.steps 0) }
 {
@@ -79,7 +106,6 @@ fn after_write(p: Place, all: bool) -> Place
     if all {
         return q;
     }
-    tell(b"standard output");
     q.steps = 0;
     q
 }
@@ -106,25 +132,22 @@ fn after_read(p: Place, n: usize) -> Place
     q
 }
 
-// Tells why a read failed.
-fn tell_unread(got: isize) {
-    if got >= 0 {
-        return;
-    }
-    tell(b"standard input");
-}
-
 // Reads on where a step is left. What is read, no contract can say.
-fn fill(buf: &mut [u8; BUFFER_SIZE], p: Place) -> Place
+fn fill(streams: Streams, buf: &mut [u8; BUFFER_SIZE], p: Place) -> Place
     requires { p.lines ≡ 0 }
     ensures { Filled p buf.new result }
 {
     if p.steps == 0 {
         return p;
     }
-    let got = libc::read(libc::STDIN_FILENO, buf);
-    tell_unread(got);
-    after_read(p, io::count(got, buf))
+    let mut input = streams.input;
+    match input.read(buf) {
+        Ok(n) => after_read(p, n),
+        Err(why) => {
+            tell(streams, "standard input", why);
+            after_read(p, 0)
+        }
+    }
 }
 
 // Takes the next line of the input at hand, or what there is of it.
@@ -158,6 +181,7 @@ fn take(buf: &[u8], line: &mut [u8], p: Place) -> Place
 // One step towards the next line: reads on, makes room for an answer, or takes a line. Where one is ready, room characters of
 // out are free.
 pub fn next(
+    streams: Streams,
     buf: &mut [u8; BUFFER_SIZE],
     line: &mut [u8; LONGEST_KEPT],
     out: &[u8],
@@ -170,10 +194,10 @@ pub fn next(
     let mut q = p;
     q.steps = p.steps - 1;
     if p.at == p.end {
-        return fill(buf, after_write(q, flush(out, q)));
+        return fill(streams, buf, after_write(q, flush(streams, out, q)));
     }
     if BUFFER_SIZE - p.filled < room {
-        return after_write(q, flush(out, q));
+        return after_write(q, flush(streams, out, q));
     }
     take(buf, line, q)
 }

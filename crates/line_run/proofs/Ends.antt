@@ -49,7 +49,7 @@ after-others : {r : Lent} → Holds r → (ls : List (List ℕ)) → state_after
 unfolding state_after others
 after-others k [] = refl
 after-others {r} k ([] ∷ ls) = ap (λ (x : Lent). state_after one_end x ls) (stays_put k) ∙ after-others k ls
-after-others k ((c ∷ l) ∷ ls) = after-others (line-leaves k (c ∷ l)) ls
+after-others {r = r} k ((c ∷ l) ∷ ls) = after-others {r = lent_after r (line_outcome r.rec r.page (c ∷ l))} (line-leaves k (c ∷ l)) ls
 
 -- so each line of an input is answered as if the empty ones before it were left out (document 02, N5).
 pub left_out : LeftOut

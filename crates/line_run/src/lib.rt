@@ -11,10 +11,11 @@ ghost use Rattle.line_io.specs.Step.{Stepped};
 ghost use Rattle.line_io.specs.Program.{Ran};
 ghost use Rattle.line_run.specs.Ends.{one_end};
 
-use line_io::Place;
+use line_io::{Place, Streams};
 
 // One step of the stream, with the answer where a line is ready.
 fn step(
+    streams: Streams,
     rec: &mut [u8; lent_record::RECORD_SIZE],
     page: &mut [u8; octets::PAGE_SIZE],
     buf: &mut [u8; line_io::BUFFER_SIZE],
@@ -25,7 +26,7 @@ fn step(
     requires { (PlaceFits p) × ((0 < p.steps) × (length out.old ≡ buffer_size)) }
     ensures { Stepped one_end answer_room (lent rec.old page.old) buf.old line.old out.old p (lent rec.new page.new) buf.new line.new out.new result }
 {
-    let q = line_io::next(buf, line, out, answer_text::ANSWER_ROOM, p);
+    let q = line_io::next(streams, buf, line, out, answer_text::ANSWER_ROOM, p);
     if q.lines == 0 {
         return q;
     }
@@ -36,6 +37,7 @@ fn step(
 
 // A restart on a new page, which makes a fresh end, and steps while some are left.
 pub fn run(
+    streams: Streams,
     rec: &mut [u8; lent_record::RECORD_SIZE],
     page: &mut [u8; octets::PAGE_SIZE],
     buf: &mut [u8; line_io::BUFFER_SIZE],
@@ -48,7 +50,7 @@ pub fn run(
     lent_record::restart(rec, page);
     let mut p = line_io::start();
     while p.steps > 0 {
-        p = step(rec, page, buf, line, out, p);
+        p = step(streams, rec, page, buf, line, out, p);
     }
     p
 }
