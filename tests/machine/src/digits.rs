@@ -35,10 +35,12 @@ impl Loop<'_> {
     }
 }
 
-/// The loops of these functions that write digits.
+/// The loops of these functions that write digits. What jumps back without any condition is none: it is
+/// code that stands behind what it goes on to.
 pub fn loops(functions: &[Function]) -> Vec<Loop<'_>> {
     let all = functions.iter().flat_map(innermost);
     all.filter(|found| found.function == WRITER || found.multiplies_by_39())
+        .filter(|found| !found.jumps().is_empty())
         .collect()
 }
 
@@ -128,6 +130,12 @@ mod tests {
         let found = loops(&functions);
         let jumps: Vec<_> = found[0].jumps().iter().map(|jump| jump.address).collect();
         assert_eq!(jumps, [0x52, 0x8e]);
+    }
+
+    #[test]
+    fn what_stands_behind_is_no_loop() {
+        let listing = PLAIN.replace("jne ", "jmp ");
+        assert!(loops(&functions(&listing)).is_empty());
     }
 
     #[test]
