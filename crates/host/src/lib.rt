@@ -25,7 +25,7 @@ pub fn advance(
     r
 }
 
-// The same for callers that hold the record by value, who need no walk: it is lent from here, and answered as the call left it.
+// The same for callers that hold the record by value: it is lent from here, and answered as the call left it.
 pub fn lend(
     call: Call,
     e: Endpoint,

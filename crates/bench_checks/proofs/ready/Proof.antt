@@ -1,6 +1,5 @@
 use mathlib.Core.Path.{◌≡◌, sym, ◌∙◌}
-use mathlib.Core.Bool.{Bool, true, false, not}
-use borrow.Author.Tests.{not-true, not-false}
+use mathlib.Core.Bool.{Bool, true}
 use Rattle.call_spec.specs.Calls.{Rooms, rooms}
 use Rattle.call_spec.specs.Claim.{lent}
 use Rattle.protocol.specs.Endpoint.{all_of}

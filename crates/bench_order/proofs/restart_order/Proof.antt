@@ -4,7 +4,6 @@ use mathlib.Core.Bool.{Bool, true}
 use mathlib.Core.List.{List}
 use native.Mathlib.Omega.{arith}
 use lib.ListN.{length}
-use borrow.Author.Tests.{not-true, not-false}
 use Rattle.octets.specs.Test.{when, if_eq, in_range}
 use Rattle.octets.proofs.Test.{eq_yes, eq_no, lt_yes, lt_no, within}
 use Rattle.bench_spec.specs.declared.Order.TheVariants as order

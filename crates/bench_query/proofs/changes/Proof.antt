@@ -1,4 +1,3 @@
-use native.Mathlib.Omega.{arith}
 use borrow.Author.Rules.{rules}
 use Rattle.octets.specs.Octets.{Octets}
 use Rattle.octets.proofs.Test.{said_yes, said_no}

@@ -1,4 +1,4 @@
-use Rattle.std.proofs.Common.{arith, rules, sym, ◌∙◌, ℕ, ◌<◌, get_or}
+use Rattle.std.proofs.Common.{rules, sym, ◌∙◌, ℕ, ◌<◌, get_or}
 use Rattle.octets.specs.Octets.{Octets}
 use Rattle.endpoint.proofs.Record.{put_same}
 use Rattle.endpoint.proofs.change32.Goals as goal

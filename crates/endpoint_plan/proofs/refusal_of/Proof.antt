@@ -3,7 +3,7 @@ use native.Mathlib.Omega.{arith}
 use mathlib.Core.Bool.{true}
 use lib.Dec.{leb}
 use lib.ListN.{length}
-use borrow.Author.Tests.{le-leb, lt-leb, not-true, not-false}
+use borrow.Author.Tests.{le-leb, lt-leb}
 use Rattle.octets.specs.Sizes.{longest_frame, page_size}
 use Rattle.octets.specs.Test.{first, when}
 use Rattle.octets.proofs.Test.{both}

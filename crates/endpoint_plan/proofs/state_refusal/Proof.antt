@@ -1,5 +1,4 @@
 use mathlib.Core.Path.{refl}
-use borrow.Author.Tests.{not-true, not-false}
 use Rattle.octets.specs.Test.{first, when}
 use Rattle.endpoint_plan.proofs.state_refusal.Statement.{statement}
 use Rattle.endpoint_plan.proofs.state_refusal.Tie as tie

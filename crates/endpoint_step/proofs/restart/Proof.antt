@@ -1,6 +1,5 @@
 use Prim.Native.Nat.{ℕ}
 use mathlib.Core.Path.{sym, ap, ◌∙◌}
-use borrow.Author.Tests.{not-true, not-false}
 use Rattle.protocol.specs.Restart.{restarted}
 use Rattle.protocol.specs.Table.{notice_number}
 use Rattle.call_spec.specs.Calls.{wire}

@@ -1,5 +1,4 @@
 use mathlib.Core.Path.{◌≡◌, refl, sym, ap, ◌∙◌}
-use borrow.Author.Tests.{not-true, not-false}
 use Rattle.octets.specs.Test.{when, ok, mapped}
 use Rattle.frame.specs.Frame.{Frame}
 use Rattle.frame.specs.Read.{numbers_ok, block_at, readable, frame_at, frame}

@@ -1,8 +1,6 @@
 use borrow.Author.Rules.{rules}
 use mathlib.Core.Path.{sym, ◌∙◌}
 use native.Mathlib.Omega.{arith}
-use borrow.Author.Tests.{not-true, not-false}
-use Rattle.endpoint.specs.Record.{encode}
 use Rattle.lent_record.proofs.Restarts.{restart-refused, short-record, short-page, wrong-page, restarts}
 use Rattle.lent_record.proofs.restart.Statement.{statement}
 use Rattle.lent_record.proofs.restart.Tie as tie

@@ -5,7 +5,6 @@ use Rattle.endpoint.specs.Record.{decode}
 use Rattle.endpoint_plan.proofs.Carries.{sendable, ready-to, handy}
 use Rattle.lent_record.proofs.Told.{decode_long}
 use Rattle.link.proofs.Answers.{refuses, accepts}
-use native.Mathlib.Omega.{arith}
 use borrow.Author.Rules.{rules}
 use Rattle.link.proofs.finish.Statement.{statement}
 use Rattle.link.proofs.finish.Tie as tie
