@@ -7,7 +7,7 @@ ghost use Rattle.line_split.specs.Split.{longest_kept};
 ghost use Rattle.line_io.specs.Place.{buffer_size, PlaceFits, Starts, ready_line, emptied, answered_with, AfterRead, Filled, Taken, Next};
 
 use std::fmt::InlineText;
-use std::io::{Error, ErrorKind, Print, Read, Stderr, Stdin, Stdout};
+use std::io::{Error, Print, Read, Stderr, Stdin, Stdout};
 
 // The octets of a program's buffers for its input and its output.
 pub const BUFFER_SIZE: usize = 65536;
@@ -73,11 +73,8 @@ fn reason(text: &str) -> &str {
     }
 }
 
-// Tells what failed, and why. That nobody reads the output any more is no failure.
+// Tells what failed, and why.
 fn tell(streams: Streams, what: &str, why: Error) {
-    if why.kind() == ErrorKind::BrokenPipe {
-        return;
-    }
     let text = InlineText::<256>::of(why);
     let reason = reason(text.as_str());
     let _ = eprintln!(streams.error; "{what}: {reason}");
