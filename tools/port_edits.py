@@ -18,8 +18,12 @@ LANDED = sys.argv[1]
 DRY = "--dry" in sys.argv
 CRATES = {"hex": "hexadecimal"}
 WORD = r"[\w'′·-]+"
-# What the script can't do: these are written by hand, and it leaves them.
-BY_HAND = set()
+# Written by hand, and left: there the call keeps its name in the proof, as it is bound to no new variable.
+BY_HAND = {
+    "crates/bench_call/must-fail/stores_before_the_page.edit",
+    "crates/endpoint_step/must-fail/stores_before_the_page.edit",
+    "crates/link/must-fail/stores_before_the_page.edit",
+}
 
 
 def read(path):

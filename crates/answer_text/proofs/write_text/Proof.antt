@@ -13,11 +13,6 @@ fits c = let s : tie.Start = search in omega (arith, c.write_answer-m.ensures.co
 write-answer-requires : tie.Need-write_answer-m-requires
 write-answer-requires c κs = let s : tie.Start = search in (s.requires.1.0, omega (arith, s.requires.0, line_short s.args.t s.args.block.now s.requires.1.0))
 
-returns : tie.Need-returns-then-sent-eq0
-returns c =
-    let s : tie.Start = search in
-    text-none s.args.t s.args.block.now s.args.sent.now s.args.out.now c.if-sent-eq0.true c.write_answer-m.ensures
-
 sub-write-line : tie.Need-slice_bounds-write_line-count
 sub-write-line c = omega (arith, fits c.before.before.before)
 
@@ -46,5 +41,8 @@ returns-2 c =
 pub write_text_spec : {M : Type 1} → statement M
 write_text_spec =
     tie.close
-    (tie.spec write-answer-requires (λ c. search rules) returns sub-write-line part-write-line-start (λ c. search rules) write-line-requires add-result
+    (tie.spec write-answer-requires (λ c. search rules)
+    (λ c. let s : tie.Start = search in
+    text-none s.args.t s.args.block.now s.args.sent.now s.args.out.now (search rules) (search rules))
+    sub-write-line part-write-line-start (λ c. search rules) write-line-requires add-result
     (λ c. search rules) returns-2)

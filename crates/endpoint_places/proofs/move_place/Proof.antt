@@ -32,14 +32,6 @@ copy-requires c κs =
     let s : tie.Start = search in
     omega (arith, within s.args.to s.args.width s.requires.1.1, length-take-le {A = ℕ} s.args.width (replicate longest_block 0) s.requires.0.0)
 
-returns : tie.Need-returns-then-from-ge-QUEUE_SIZE
-returns c =
-    let s : tie.Start = search in
-    let a = s.args in
-    c.copy.ensures
-    ∙ ap (λ (b : List ℕ). put a.d.now (a.to * a.width) b)
-    (take-zeros a.width longest_block s.requires.0.0 ∙ sym (after_eight a.from a.width a.d.now s.requires.0.1 (omega arith) s.requires.1.0))
-
 mul_at : tie.Need-overflow_mul-at
 mul_at c = omega (arith, from c.before.before (omega arith))
 
@@ -85,5 +77,11 @@ returns-2 c =
 pub move_place_spec : {M : Type 1} → statement M
 move_place_spec =
     tie.close
-    (tie.spec mul-copy (λ c. search rules) slice-aggregate-copy copy-requires (λ c. search rules) returns mul_at (λ c. search rules) add-copy
+    (tie.spec mul-copy (λ c. search rules) slice-aggregate-copy copy-requires (λ c. search rules)
+    (λ c. let s : tie.Start = search in
+    let a = s.args in
+    c.copy.ensures
+    ∙ ap (λ (b : List ℕ). put a.d.now (a.to * a.width) b)
+    (take-zeros a.width longest_block s.requires.0.0 ∙ sym (after_eight a.from a.width a.d.now s.requires.0.1 (omega arith) s.requires.1.0)))
+    mul_at (λ c. search rules) add-copy
     (λ c. search rules) (λ c. search rules) part-copy-end (λ c κs. search rules) mul-copy-2 (λ c. search rules) slice-aggregate-copy-3 copy-requires-3 (λ c. search rules) returns-2)
