@@ -148,6 +148,12 @@ for n in ("at_a", "is_digit"):
     if n in places:
         clash[n] = n
 
+# Names that are declared indented or several to a line.
+turned |= {
+    "endListening": "end_listening", "closeFinished": "close_finished", "closedByPartner": "closed_by_partner", "leavesBy": "leaves_by",
+    "onOctets": "on_octets", "restartAt": "restart_at", "calls-callOutcome": "calls-call_outcome", "now-endpointLeft": "now-endpoint_left",
+}
+
 print(f"{len(turned)} names")
 if DRY:
     for n, new in turned.items():

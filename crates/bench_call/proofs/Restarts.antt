@@ -30,11 +30,11 @@ unfolding restarted_in restarting
 restart_step rec page {y} h = let k : ok (quiet (restarted (count page)) none) ≡ ok y = (passing _ (passing _ h).1).1 in cc
 
 module _ (rec page : List ℕ) (n : ℕ) where
-  abbrev restartAt : Outcome Step
-  restartAt = call_outcome (lent rec page) n (restart rec)
+  abbrev restart_at : Outcome Step
+  restart_at = call_outcome (lent rec page) n (restart rec)
 
   -- 14 is not asked of a step that sends nothing
-  same : (o : Outcome Step) → restarted_in format rec page ≡ o → restartAt ≡ o
+  same : (o : Outcome Step) → restarted_in format rec page ≡ o → restart_at ≡ o
   unfolding call_outcome and_then
   same (refused k) h = rw h refl
   same (ok y) h = rw h (quiet_logs n y (ap (λ (x : Step). x.sent) (sym (restart_step rec page h))))
@@ -48,7 +48,7 @@ module _ (rec page : List ℕ) (n : ℕ) where
   is-quiet (refused k) h = (refl, refl)
   is-quiet (ok y) h = subst (λ (x : Step). Quiet (ok x)) (restart_step rec page h) (refl, refl)
 
-  pub restarts-quietly : Quiet restartAt
+  pub restarts-quietly : Quiet restart_at
   restarts-quietly = rw (same (restarted_in format rec page) refl) (is-quiet (restarted_in format rec page) refl)
 
   -- what is told of an outcome, and what it leaves
@@ -73,5 +73,5 @@ module _ (rec page : List ℕ) (n : ℕ) where
   leaves (ok y) h = subst (λ (x : Step). Leaves (ok x)) (restart_step rec page h) restarted-leaves
 
   pub restarts : (s out up : List ℕ) {rec' : List ℕ} {r : Answer} → Restarted rec page rec' r
-      → Called Receive restartAt rec s out up rec' out up r × (page ≡ page_after page restartAt)
+      → Called Receive restart_at rec s out up rec' out up r × (page ≡ page_after page restart_at)
   restarts s out up {rec'} {r} w = rw (same (restarted_in format rec page) refl) (leaves (restarted_in format rec page) refl s out up rec' r w.answer w.end)

@@ -10,7 +10,7 @@ use Rattle.octets.specs.Test.{when, if_eq, in_range, Outcome, refused, ok, refus
 use Rattle.octets.specs.Octets.{octets_of, lay}
 use Rattle.octets.proofs.Test.{if-eq}
 use Rattle.octets.proofs.Outcomes.{of-value, after-value}
-use Rattle.frame.specs.Frame.{Block, Frame, control, data_frame, Request, connect, listen, endListening, close, timer, collect, send}
+use Rattle.frame.specs.Frame.{Block, Frame, control, data_frame, Request, connect, listen, end_listening, close, timer, collect, send}
 use Rattle.frame.specs.Layout.{is_frame, layout, numbers, encode}
 use Rattle.frame.proofs.Writing.{head-length, encode-control}
 use Rattle.frame.specs.Read.{read_frame, read_request}
@@ -101,7 +101,7 @@ accept_short : (q : Request) (e : Endpoint) → sized e.queue ≡ true → sized
 unfolding accept wire encode layout numbers lay octets_of if_eq when is_frame in_range
 accept_short connect e h k = omega arith
 accept_short listen e h k = omega arith
-accept_short endListening e h k = omega arith
+accept_short end_listening e h k = omega arith
 accept_short close e h k = close_short e
 accept_short (send b) e h k = data_short e.local e.remote e.accepted b (sized-at 0 (b ∷ []) k (omega arith)).1
 accept_short timer e h k = timer_short e h

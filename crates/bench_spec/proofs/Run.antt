@@ -173,18 +173,18 @@ module _ (w : Bench) (l : LentLine) where
   abbrev asks : Outcome At
   asks = line_asks w l.0 l.1
 
-  abbrev calls-callOutcome : List RunEntry
-  calls-callOutcome = entries_of asks (comes w asks)
+  abbrev calls-call_outcome : List RunEntry
+  calls-call_outcome = entries_of asks (comes w asks)
 
 line_goes : {w : Bench} {e : RunEnds} → Beside w e → (l : LentLine) → Goes w e (asks w l) (comes w (asks w l))
 line_goes {w} h l = goes h l (asks w l) (comes w (asks w l)) refl refl
 
 one_more : {w : Bench} {e : RunEnds} (l : LentLine) (ls : List LentLine) → Goes w e (asks w l) (comes w (asks w l))
-    → GoesAll (line_after w l) (run ends ends e (calls-callOutcome w l)) ls → GoesAll w e (l ∷ ls)
+    → GoesAll (line_after w l) (run ends ends e (calls-call_outcome w l)) ls → GoesAll w e (l ∷ ls)
 unfolding lines_after calls_of
 one_more {w} {e} l ls g r =
     let ds = calls_of (line_after w l) ls in
-    record { left = rw (run-append ends ends e (calls-callOutcome w l) ds) r.left; due = due-append ends ends e (calls-callOutcome w l) ds g.due r.due }
+    record { left = rw (run-append ends ends e (calls-call_outcome w l) ds) r.left; due = due-append ends ends e (calls-call_outcome w l) ds g.due r.due }
 
 goes_all : {w : Bench} {e : RunEnds} → Beside w e → (ls : List LentLine) → GoesAll w e ls
 unfolding line_after lines_after calls_of

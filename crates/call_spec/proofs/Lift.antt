@@ -14,7 +14,7 @@ use Rattle.octets.specs.Octets.{put, left}
 use Rattle.octets.proofs.Test.{in_range_lem, joined, passing}
 use Rattle.page.specs.Page.{used_for, runs, count, reserving, page_of}
 use Rattle.page.proofs.Laws.{page_long, page-runs, page-count}
-use Rattle.frame.specs.Frame.{Frame, Request, connect, listen, endListening, close, timer, collect, send}
+use Rattle.frame.specs.Frame.{Frame, Request, connect, listen, end_listening, close, timer, collect, send}
 use Rattle.frame.specs.Fits.{Fits}
 use Rattle.frame.specs.Layout.{encode}
 use Rattle.frame.specs.Read.{read_frame, read_request}
@@ -52,7 +52,7 @@ pub read_sized : (s : List ℕ) (q : Request) → read_request s ≡ ok q → si
 unfolding sized
 read_sized s connect h = refl
 read_sized s listen h = refl
-read_sized s endListening h = refl
+read_sized s end_listening h = refl
 read_sized s close h = refl
 read_sized s timer h = refl
 read_sized s collect h = refl

@@ -6,7 +6,7 @@ use Rattle.frame.specs.Frame.{Block}
 use Rattle.protocol.specs.Endpoint.{Endpoint}
 use Rattle.call_spec.specs.declared.Call.{Call}
 use Rattle.call_spec.specs.declared.Call.TheVariants.{Request, Receive}
-use Rattle.protocol.specs.Table.{Sent, nothing, Step, notice_number, Notice, none, connected, rejected, closedByPartner, closeFinished, handed_up}
+use Rattle.protocol.specs.Table.{Sent, nothing, Step, notice_number, Notice, none, connected, rejected, closed_by_partner, close_finished, handed_up}
 
 -- a refusal has no notice, sends nothing and leaves the endpoint
 unfoldable pub notice_of : Outcome Step → ℕ
@@ -26,8 +26,8 @@ unfoldable pub block_in : Notice → Block
 block_in none = []
 block_in connected = []
 block_in rejected = []
-block_in closedByPartner = []
-block_in closeFinished = []
+block_in closed_by_partner = []
+block_in close_finished = []
 block_in (handed_up b) = b
 
 unfoldable pub block_of : Outcome Step → Block

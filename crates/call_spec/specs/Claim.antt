@@ -68,10 +68,10 @@ module _ (format : Format) where
   comes_by r (restart rec) = restarted_in format rec r.page
   comes_by r (cut c rec) = restarted_in format rec (page_after r.page (comes_to r c))
 
-  abbrev pub leavesBy : Lent → LentAct → Outcome Step → Lent
-  leavesBy r (call c) o = lent (record_after format r.rec o) (page_after r.page o)
-  leavesBy r (restart rec) o = renewed format rec r.page o r
-  leavesBy r (cut c rec) o = renewed format rec (page_after r.page (comes_to r c)) o r
+  abbrev pub leaves_by : Lent → LentAct → Outcome Step → Lent
+  leaves_by r (call c) o = lent (record_after format r.rec o) (page_after r.page o)
+  leaves_by r (restart rec) o = renewed format rec r.page o r
+  leaves_by r (cut c rec) o = renewed format rec (page_after r.page (comes_to r c)) o r
 
   abbrev pub ends : Ends
   ends =
@@ -81,7 +81,7 @@ module _ (format : Format) where
         Call = LentAct;
         said = said_by;
         comes = comes_by;
-        leaves = leavesBy;
+        leaves = leaves_by;
         Due = λ this. LentDue format;
       }
 

@@ -4,7 +4,7 @@ use Rattle.octets.specs.Sizes.{longest_frame}
 use Rattle.octets.specs.Test.{if_eq, Question, first, Outcome, refused, ok, outcome, mapped, number_of}
 use Rattle.octets.specs.Octets.{left}
 use Rattle.hexadecimal.specs.Line.{hex}
-use Rattle.frame.specs.Frame.{Block, DATA, connect, listen, endListening, close, timer, collect, send}
+use Rattle.frame.specs.Frame.{Block, DATA, connect, listen, end_listening, close, timer, collect, send}
 use Rattle.frame.specs.Layout.{is_frame, encode}
 use Rattle.frame.specs.Read.{count_ok, read_frame, read_request, Input, frame, request, read_input}
 use Rattle.frame.specs.Answer.{header_of, frame_of, request_number}
@@ -44,7 +44,7 @@ unfoldable pub block_read : Input → Block
 block_read (frame f) = f.block
 block_read (request connect) = []
 block_read (request listen) = []
-block_read (request endListening) = []
+block_read (request end_listening) = []
 block_read (request close) = []
 block_read (request (send b)) = b
 block_read (request timer) = []

@@ -83,15 +83,15 @@ module _ {a b : History} (i : Roomy a b) (r : Held) (k : Packs r (now a)) where
   lying = (([], refl), k.1)
 
   -- what is done to the struct, done to its octets: a restart writes over them
-  abbrev onOctets : HostAct → calls.LentAct
-  onOctets (call c) = calls.call c
-  onOctets restart = calls.restart rec
-  onOctets (cut c) = calls.cut c rec
+  abbrev on_octets : HostAct → calls.LentAct
+  on_octets (call c) = calls.call c
+  on_octets restart = calls.restart rec
+  on_octets (cut c) = calls.cut c rec
 
   enough : record_size ≤ length rec
   enough = long (now a) [] (limited i).is_sound (limited i).bounded
 
-  due : (c : HostAct) → HostDue b c → calls.LentDue format b (onOctets c)
+  due : (c : HostAct) → HostDue b c → calls.LentDue format b (on_octets c)
   due (call c) d = d
   due restart d = tt
   due (cut c) d = enough
@@ -102,17 +102,17 @@ module _ {a b : History} (i : Roomy a b) (r : Held) (k : Packs r (now a)) where
   as-restart : (page : List ℕ) → restarting page ≡ restarted_in format rec page
   as-restart page = sym (alike_restarts rec page enough)
 
-  same-said : (c : HostAct) → ends.said r c ≡ (link.ends).said octets (onOctets c)
+  same-said : (c : HostAct) → ends.said r c ≡ (link.ends).said octets (on_octets c)
   same-said (call c) = refl
   same-said restart = refl
   same-said (cut c) = ap (λ (o : Outcome Step). ok (cut_says (said c) o)) (as-octets c)
 
-  same-comes : (c : HostAct) → ends.comes r c ≡ (link.ends).comes octets (onOctets c)
+  same-comes : (c : HostAct) → ends.comes r c ≡ (link.ends).comes octets (on_octets c)
   same-comes (call c) = as-octets c
   same-comes restart = as-restart r.page
   same-comes (cut c) = ap (λ (o : Outcome Step). restarting (page_after r.page o)) (as-octets c) ∙ as-restart _
 
-  same-page : (c : HostAct) (x : Step) → page_left r c (ok x) ≡ ((link.ends).leaves octets (onOctets c) (ok x)).page
+  same-page : (c : HostAct) (x : Step) → page_left r c (ok x) ≡ ((link.ends).leaves octets (on_octets c) (ok x)).page
   unfolding page_left renewed
   same-page (call c) x = refl
   same-page restart x = refl
@@ -120,18 +120,18 @@ module _ {a b : History} (i : Roomy a b) (r : Held) (k : Packs r (now a)) where
 
   -- so the struct does as they do
   fair : (c : HostAct) → HostDue b c → (q : protocol.Act) → ends.said r c ≡ ok q → Sized b q
-  fair c d q e = (lies format lawful).fair a b i octets lying (onOctets c) (due c d) q (sym (same-said c) ∙ e)
+  fair c d q e = (lies format lawful).fair a b i octets lying (on_octets c) (due c d) q (sym (same-said c) ∙ e)
 
   asks : (c : HostAct) → Asks ends r c (now a)
   asks c =
-      let t = comes format lawful i octets lying (onOctets c) in
+      let t = comes format lawful i octets lying (on_octets c) in
       (t.0, same-comes c ∙ t.1 ∙ ap (λ (s : Outcome protocol.Act). asking t.0 s (now a)) (sym (same-said c)))
 
   accepts : (g : History) → Roomy g b → (c : HostAct) (q : protocol.Act) → ends.said r c ≡ ok q
       → (x : Step) → ends.comes r c ≡ ok x → now g ≡ x.endpoint → Packs (ends.leaves r c (ok x)) (now g)
   unfolding step_answer_of
   accepts g j c q s x h e =
-      let p = ((lies format lawful).accepts a b g i j octets lying (onOctets c) q (sym (same-said c) ∙ s) x (sym (same-comes c) ∙ h) e).1 in
+      let p = ((lies format lawful).accepts a b g i j octets lying (on_octets c) q (sym (same-said c) ∙ s) x (sym (same-comes c) ∙ h) e).1 in
       (ap pack (sym e), (p.0, same-page c x ∙ p.1))
 
 -- a refusal leaves both

@@ -13,7 +13,7 @@ use lib.Seq.{drop-drop, drop-append-le, get_or-append_seam, append_snoc, get_or-
 use Rattle.octets.proofs.Test.{if-eq, eq_yes, eq_no}
 use Rattle.frame.specs.Frame.{Block, DATA, Frame}
 use Rattle.protocol.specs.Endpoint.{Endpoint, waiting}
-use Rattle.protocol.specs.Table.{Notice, none, connected, rejected, closedByPartner, closeFinished, handed_up, Sent}
+use Rattle.protocol.specs.Table.{Notice, none, connected, rejected, closed_by_partner, close_finished, handed_up, Sent}
 use Rattle.protocol.specs.History.{Act, Event, History, now, sent}
 use Rattle.protocol.specs.Claim.{Opens, block_up, handed_up_in, block_accepted, accepted_for, OpenedWith, Prefix}
 use Rattle.protocol.proofs.Facts.{silent, Laden, load, Carry, keeps, clears, begins, takes, overtakes, releases, queues, step_to}
@@ -51,8 +51,8 @@ no_block : (n : Notice) → T (silent n) → block_up n ≡ []
 no_block none t = refl
 no_block connected t = refl
 no_block rejected t = refl
-no_block closedByPartner t = refl
-no_block closeFinished t = refl
+no_block closed_by_partner t = refl
+no_block close_finished t = refl
 no_block (handed_up b) t = absurd t
 
 module _ (x : Event) (h : History) where

@@ -12,7 +12,7 @@ use lib.ListN.{length, get_or, length-append}
 use lib.Seq.{get_or-append_seam}
 use Rattle.octets.specs.Test.{Question, first, Outcome, refused, ok, outcome}
 use Rattle.octets.proofs.Test.{split, if-eq, either}
-use Rattle.frame.specs.Frame.{Block, Frame, control, data_frame, Request, connect, listen, endListening, close, timer, collect, send}
+use Rattle.frame.specs.Frame.{Block, Frame, control, data_frame, Request, connect, listen, end_listening, close, timer, collect, send}
 use Rattle.protocol.specs.Endpoint.{Endpoint, waiting}
 use Rattle.protocol.specs.Table.{none, Sent, nothing, frame, Step, quiet}
 use Rattle.octets.specs.Sizes.{last_number, last_incarnation, page_size, numbers_each, queue_size}
@@ -45,7 +45,7 @@ asked P {x} ((suc m, b) ∷ qs) t n y = split (λ (k : ℕ). P (outcome k x)) b 
 abbrev pub within : Request → Bool
 within connect = false
 within listen = false
-within endListening = true
+within end_listening = true
 within close = true
 within timer = true
 within collect = true
@@ -55,7 +55,7 @@ within (send b) = true
 abbrev pub Allowed : Request → Endpoint → Type 0
 Allowed connect e = (e.state ≡ 0) × (e.local < last_incarnation)
 Allowed listen e = (e.state ≡ 0) × (e.local < last_incarnation)
-Allowed endListening e = e.state ≡ 1
+Allowed end_listening e = e.state ≡ 1
 Allowed close e = (e.state ≡ 2) ⊎ (e.state ≡ 4)
 Allowed (send b) e = (e.state ≡ 4) × (e.accepted < last_number) × (length e.queue < queue_size)
 Allowed timer e = Unit {0}
@@ -66,7 +66,7 @@ pub requested : (P : Outcome Step → Type 0) (q : Request) (e : Endpoint) → (
 unfolding request refusal request_questions
 requested P connect e n y = asked P (request_questions connect e) tt n (λ z. y (omega (arith, eqb-true, ltb-true)))
 requested P listen e n y = asked P (request_questions listen e) tt n (λ z. y (omega (arith, eqb-true, ltb-true)))
-requested P endListening e n y = asked P (request_questions endListening e) tt n (λ z. y (omega (arith, eqb-true, ltb-true)))
+requested P end_listening e n y = asked P (request_questions end_listening e) tt n (λ z. y (omega (arith, eqb-true, ltb-true)))
 requested P close e n y =
     asked P (request_questions close e) tt n
     (λ z. y (⊎_elim (λ t. inl (eqb-true _ _ t)) (λ t. inr (eqb-true _ _ t)) (either (eqb e.state 2) (eqb e.state 4) z.0)))
@@ -110,7 +110,7 @@ module _ {e : Endpoint} (f : Frame) (s : Sane e) (l : Laden e) where
   unfolding accept
   asks-on connect t a = absurd t
   asks-on listen t a = absurd t
-  asks-on endListening t a = fires (drops (omega arith) (alone (s.remote_none (omega arith)))) (clears tt tt) silence
+  asks-on end_listening t a = fires (drops (omega arith) (alone (s.remote_none (omega arith)))) (clears tt tt) silence
   asks-on close t a = closes (⊎_elim (λ p. omega arith) (λ p. omega arith) a)
   asks-on (send b) t a = fires (stays refl refl refl) (queues b a.0 a.1 a.2) (newest b a.0)
   asks-on timer t a = fires (stays refl refl refl) (keeps tt) timed
@@ -139,7 +139,7 @@ module _ (e : Endpoint) where
   unfolding accept
   request-next connect y = record { least = omega arith; most = omega arith; left = λ l. omega arith }
   request-next listen y = record { least = omega arith; most = omega arith; left = λ l. omega arith }
-  request-next endListening y = same_number refl
+  request-next end_listening y = same_number refl
   request-next close y = hung-up-same
   request-next (send b) y = same_number refl
   request-next timer y = same_number refl
@@ -196,7 +196,7 @@ module _ {a b : History} (s : Sane (now a)) (l : Laden (now a)) (w : (now a).loc
   allowed : (q : Request) → Allowed q (now a) → Deed a b (call (ask q)) (event (call (ask q)) a (accept q (now a)) ∷ a)
   allowed connect y = connects y.0 y.1 refl
   allowed listen y = listens y.0 y.1 refl
-  allowed endListening y = goes no_frame (λ t. t) (asks-on _ s l endListening tt y)
+  allowed end_listening y = goes no_frame (λ t. t) (asks-on _ s l end_listening tt y)
   allowed close y = goes no_frame (λ t. t) (asks-on _ s l close tt y)
   allowed timer y = goes no_frame (λ t. t) (asks-on _ s l timer tt y)
   allowed collect y = goes no_frame (λ t. t) (asks-on _ s l collect tt y)

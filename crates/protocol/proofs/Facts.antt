@@ -20,7 +20,7 @@ use Rattle.protocol.specs.declared.Rule.TheVariants.{FinishedByDisconnect, Finis
 use Rattle.protocol.specs.Endpoint.{Endpoint, waiting, none_held, lengths_of}
 use Rattle.protocol.specs.Table.{when_closed, when_listening, when_active, when_passive, data_row, ack_row, open_rows}
 use Rattle.protocol.specs.Table.{when_established, when_closing, rule}
-use Rattle.protocol.specs.Table.{Notice, none, connected, rejected, closedByPartner, closeFinished, handed_up, Sent, nothing, frame, Step}
+use Rattle.protocol.specs.Table.{Notice, none, connected, rejected, closed_by_partner, close_finished, handed_up, Sent, nothing, frame, Step}
 use Rattle.protocol.specs.Table.{moved_down, first_copy, held_at, turned, delivering, holding_early, releasing, apply, step}
 use Rattle.octets.specs.Sizes.{last_number, queue_size, held_size}
 use Rattle.protocol.specs.Requests.{queueing}
@@ -61,8 +61,8 @@ abbrev pub silent : Notice → Bool
 silent none = true
 silent connected = true
 silent rejected = true
-silent closedByPartner = true
-silent closeFinished = true
+silent closed_by_partner = true
+silent close_finished = true
 silent (handed_up b) = false
 
 -- Where a block that is handed up comes from: the DATA heard, or the first of the places.

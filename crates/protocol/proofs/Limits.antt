@@ -8,7 +8,7 @@ use mathlib.Core.List.{List, [], ◌∷◌, Memᴰ}
 use native.Mathlib.Omega.{arith}
 use lib.ListN.{length}
 use Rattle.frame.specs.Frame.{Block, CRAO, CRPO, CRACK, REJ, RESET, DR, DRACK, DATA, Frame, control}
-use Rattle.frame.specs.Frame.{Request, connect, listen, endListening, close, timer, collect, send}
+use Rattle.frame.specs.Frame.{Request, connect, listen, end_listening, close, timer, collect, send}
 use Rattle.protocol.specs.Endpoint.{Endpoint, waiting, sized, sound}
 use Rattle.protocol.specs.Table.{Notice, Sent, frame, Step}
 use Rattle.octets.specs.Sizes.{last_number, last_incarnation}
@@ -164,7 +164,7 @@ module _ (P : Endpoint → Type 0) (e : Endpoint) (s : Sound e) (begins : (st : 
   unfolding accept
   after-request connect t y = begins 2 (omega arith) (omega arith) y.1
   after-request listen t y = begins 1 (omega arith) (omega arith) y.1
-  after-request endListening t y = on _ _ _ small-none t (asks-on (control 0 0 0) s.sane s.laden endListening tt y)
+  after-request end_listening t y = on _ _ _ small-none t (asks-on (control 0 0 0) s.sane s.laden end_listening tt y)
   after-request close t y = on _ _ _ small-none t (asks-on (control 0 0 0) s.sane s.laden close tt y)
   after-request timer t y = on _ _ _ small-none t (asks-on (control 0 0 0) s.sane s.laden timer tt y)
   after-request collect t y = on _ _ _ small-none t (asks-on (control 0 0 0) s.sane s.laden collect tt y)

@@ -326,10 +326,10 @@ steady_all e bs (j ∷ order) = (steady_delivery _, steady_all e bs order)
 
 -- one call more
 module _ (c : Call) (h : History) where
-  now-endpointLeft : (o : Outcome Step) → now (recorded (ok (call c)) o h) ≡ endpoint_left (now h) o
+  now-endpoint_left : (o : Outcome Step) → now (recorded (ok (call c)) o h) ≡ endpoint_left (now h) o
   unfolding recorded now
-  now-endpointLeft (refused n) = refl
-  now-endpointLeft (ok x) = refl
+  now-endpoint_left (refused n) = refl
+  now-endpoint_left (ok x) = refl
 
   one_up : (o : Outcome Step) → (endpoint_left (now h) o).local ≡ (now h).local
       → handed_up_in (now h).local (recorded (ok (call c)) o h) ≡ handed_up_in (now h).local h ++ up_of o
@@ -342,7 +342,7 @@ unfolding after_all comes_up after does
 all_up [] t h l e = sym (append-nil (handed_up_in l h))
 all_up (c ∷ cs) t h l e =
     let o = perform c (now h) in
-    let n = now-endpointLeft c h o in
+    let n = now-endpoint_left c h o in
     let s = t.0 (now h) in
     let u : handed_up_in l (recorded (ok (call c)) o h) ≡ handed_up_in l h ++ up_of o = subst (λ (k : ℕ). handed_up_in k (recorded (ok (call c)) o h) ≡ handed_up_in k h ++ up_of o) e (one_up c h o s) in
     all_up cs t.1 (recorded (ok (call c)) o h) l (ap (λ (x : Endpoint). x.local) n ∙ s ∙ e)

@@ -2,9 +2,9 @@
 use Rattle.std.specs.Prelude.{ℕ, ◌≤◌, ◌<◌, ◌≡◌, ◌⊎◌, ◌≢◌}
 use mathlib.Core.List.{List, [], ◌∷◌, ◌++◌, Memᴰ}
 use Rattle.octets.specs.Test.{if_eq, ok}
-use Rattle.frame.specs.Frame.{Block, CRACK, REJ, DATA, ACK, Frame, control, connect, listen, endListening, close, timer, collect, send}
+use Rattle.frame.specs.Frame.{Block, CRACK, REJ, DATA, ACK, Frame, control, connect, listen, end_listening, close, timer, collect, send}
 use Rattle.protocol.specs.Endpoint.{closed, active_opening, established, closing, Endpoint}
-use Rattle.protocol.specs.Table.{Notice, none, connected, rejected, closedByPartner, closeFinished, handed_up}
+use Rattle.protocol.specs.Table.{Notice, none, connected, rejected, closed_by_partner, close_finished, handed_up}
 use Rattle.protocol.specs.Table.{frame, quiet, says, turned, step}
 use Rattle.protocol.specs.Requests.{request}
 use Rattle.protocol.specs.History.{Call, ask, deliver, Act, call, restart, cut, Event, History, now}
@@ -60,8 +60,8 @@ abbrev pub block_up : Notice → List Block
 block_up none = []
 block_up connected = []
 block_up rejected = []
-block_up closedByPartner = []
-block_up closeFinished = []
+block_up closed_by_partner = []
+block_up close_finished = []
 block_up (handed_up b) = b ∷ []
 
 -- handed up in the incarnation l: the blocks of the calls answered with notice 5 and that L, in the order of the list
@@ -73,7 +73,7 @@ handed_up_in l (x ∷ earlier) = handed_up_in l earlier ++ if_eq x.answer.endpoi
 abbrev pub block_sent : Call → List Block
 block_sent (ask connect) = []
 block_sent (ask listen) = []
-block_sent (ask endListening) = []
+block_sent (ask end_listening) = []
 block_sent (ask close) = []
 block_sent (ask timer) = []
 block_sent (ask collect) = []
@@ -125,7 +125,7 @@ NoEndAlone A B = (start : Two A B) → BothNew A B start → (calls : List (Entr
 abbrev pub Begins : Act → Type 0
 Begins (call (ask connect)) = Unit {0}
 Begins (call (ask listen)) = Unit {0}
-Begins (call (ask endListening)) = ⊥
+Begins (call (ask end_listening)) = ⊥
 Begins (call (ask close)) = ⊥
 Begins (call (ask timer)) = ⊥
 Begins (call (ask collect)) = ⊥
@@ -163,7 +163,7 @@ SentOpen k = (k ≡ CRACK) ⊎ ((k ≡ DATA) ⊎ (k ≡ ACK))
 -- delivered, closes the open end with notice 3.
 pub record Disowned (sender partner : Endpoint) : Type 0 where
   pub replies : (f : Frame) → SentOpen f.kind → f.sender ≡ sender.local → (step partner f).sent ≡ frame (control REJ partner.local sender.local)
-  pub told : step sender (control REJ partner.local sender.local) ≡ quiet (turned closed 0 sender) closedByPartner
+  pub told : step sender (control REJ partner.local sender.local) ≡ quiet (turned closed 0 sender) closed_by_partner
 
 -- of two ends, whichever of them calls or is open
 pub record Told (a b : Endpoint) : Type 0 where

@@ -3,7 +3,7 @@ use Rattle.std.specs.Prelude.{ℕ, ◌≡◌, List, [], ◌∷◌, map}
 use Rattle.octets.specs.Test.{Outcome, refused, ok}
 use Rattle.frame.specs.Frame.{Block, CRAO, CRACK, REJ, RESET, DR, DRACK, control, data_frame, ack_frame, connect, listen, close, collect, send}
 use Rattle.protocol.specs.Endpoint.{closed, listening, active_opening, passive_opening, established, closing, Endpoint, none_held}
-use Rattle.protocol.specs.Table.{none, rejected, closedByPartner, closeFinished, handed_up, Step, quiet, says}
+use Rattle.protocol.specs.Table.{none, rejected, closed_by_partner, close_finished, handed_up, Step, quiet, says}
 use Rattle.protocol.specs.History.{Call, ask, deliver, perform}
 
 -- one line of the table
@@ -41,7 +41,7 @@ unfoldable pub edges : List Edge
 edges =
     edge (at active_opening 5 3) (deliver (control REJ 3 5)) (ok (quiet (at closed 5 0) rejected))
     ∷ edge (at active_opening 5 3) (deliver (control REJ 2 5)) (ok (quiet (at active_opening 5 3) none))
-    ∷ edge (at closing 5 3) (deliver (control CRAO 4 0)) (ok (quiet (at closed 5 0) closeFinished))
+    ∷ edge (at closing 5 3) (deliver (control CRAO 4 0)) (ok (quiet (at closed 5 0) close_finished))
     ∷ edge (at closing 5 3) (deliver (control CRAO 3 5)) (ok (quiet (at closing 5 3) none))
     ∷ edge (at passive_opening 2 6) (deliver (control RESET 7 2)) (ok (quiet (at listening 2 0) none))
     ∷ edge (at passive_opening 2 6) (deliver (control RESET 5 2)) (ok (quiet (at passive_opening 2 6) none))
@@ -85,14 +85,14 @@ overtakings =
     ∷ edge (at passive_opening 5 3) (ask collect) (refused 8)
     ∷ edge (at closing 5 3) (ask collect) (refused 8)
     -- leaving open
-    ∷ edge (having 0 (early block)) (deliver (control DR 2 1)) (ok (says (at closed 1 0) closedByPartner (control DRACK 1 2)))
+    ∷ edge (having 0 (early block)) (deliver (control DR 2 1)) (ok (says (at closed 1 0) closed_by_partner (control DRACK 1 2)))
     ∷ edge (having 0 (early block)) (ask close) (ok (says (at closing 1 2) none (control DR 1 2)))
     ∷ []
 
 -- N4's: close in every state, and where it calls, with D known and not.
 unfoldable pub hang_ups : List Edge
 hang_ups =
-    edge (at active_opening 5 0) (ask close) (ok (quiet (at closed 5 0) closeFinished))
+    edge (at active_opening 5 0) (ask close) (ok (quiet (at closed 5 0) close_finished))
     ∷ edge (at active_opening 5 3) (ask close) (ok (says (at closing 5 3) none (control DR 5 3)))
     ∷ edge (at established 5 3) (ask close) (ok (says (at closing 5 3) none (control DR 5 3)))
     ∷ edge (at closed 5 0) (ask close) (refused 8)
@@ -108,8 +108,8 @@ rejections =
     ∷ edge (at closed 5 0) (deliver (data_frame 3 4 0 block)) (ok (says (at closed 5 0) none (control REJ 5 3)))
     ∷ edge (at closed 5 0) (deliver (ack_frame 3 4 1)) (ok (says (at closed 5 0) none (control REJ 5 3)))
     ∷ edge (at closed 5 0) (deliver (control REJ 3 4)) (ok (quiet (at closed 5 0) none))
-    ∷ edge (having 1 (early block)) (deliver (control REJ 2 1)) (ok (quiet (at closed 1 0) closedByPartner))
-    ∷ edge (having 1 (early block)) (deliver (control REJ 16 1)) (ok (quiet (at closed 1 0) closedByPartner))
+    ∷ edge (having 1 (early block)) (deliver (control REJ 2 1)) (ok (quiet (at closed 1 0) closed_by_partner))
+    ∷ edge (having 1 (early block)) (deliver (control REJ 16 1)) (ok (quiet (at closed 1 0) closed_by_partner))
     ∷ edge (having 1 (early block)) (deliver (control REJ 1 1)) (ok (quiet (having 1 (early block)) none))
     ∷ edge (having 1 (early block)) (deliver (control REJ 2 2)) (ok (quiet (having 1 (early block)) none))
     ∷ edge (at closed 65535 0) (ask listen) (ok (quiet (at listening 65536 0) none))

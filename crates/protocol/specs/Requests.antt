@@ -3,9 +3,9 @@ use Rattle.std.specs.Prelude.{ℕ, ◌+◌, ◌-◌, ◌||◌, List, [], ◌∷�
 use Rattle.octets.specs.Sizes.{last_number, last_incarnation, queue_size}
 use Rattle.octets.specs.Test.{if_eq, Question, first, Outcome, outcome}
 use Rattle.frame.specs.Frame.{Block, CRAO, CRPO, DR, control, data_frame, ack_frame}
-use Rattle.frame.specs.Frame.{Request, connect, listen, endListening, close, timer, collect, send}
+use Rattle.frame.specs.Frame.{Request, connect, listen, end_listening, close, timer, collect, send}
 use Rattle.protocol.specs.Endpoint.{closed, listening, active_opening, passive_opening, established, closing, Endpoint, waiting, none_held}
-use Rattle.protocol.specs.Table.{none, closeFinished, handed_up, Sent, nothing, frame, Step, quiet, says, turned, delivering}
+use Rattle.protocol.specs.Table.{none, close_finished, handed_up, Sent, nothing, frame, Step, quiet, says, turned, delivering}
 
 -- 8: does the state allow the request?
 abbrev pub state_is : ℕ → Endpoint → Question
@@ -29,7 +29,7 @@ place_left e = (10, ltb (waiting e) queue_size)
 unfoldable pub request_questions : Request → Endpoint → List Question
 request_questions connect e = state_is closed e ∷ incarnation_left e ∷ []
 request_questions listen e = state_is closed e ∷ incarnation_left e ∷ []
-request_questions endListening e = state_is listening e ∷ []
+request_questions end_listening e = state_is listening e ∷ []
 request_questions close e = state_is_either active_opening established e ∷ []
 request_questions (send b) e = state_is established e ∷ block_number_left e ∷ place_left e ∷ []
 request_questions timer e = []
@@ -73,7 +73,7 @@ resent e =
 -- what close does: DR(L,D), and closing; an end that calls and has heard of no partner has nobody to tell, and is closed at once
 unfoldable pub hung_up : Endpoint → Step
 hung_up e =
-    if_eq e.remote 0 (quiet (turned closed 0 e) closeFinished)
+    if_eq e.remote 0 (quiet (turned closed 0 e) close_finished)
     (says (turned closing e.remote e) none (control DR e.local e.remote))
 
 -- what collect does, where b is held as block e: it is handed up; where none is, nothing
@@ -85,7 +85,7 @@ collected e (x ∷ b) = says (delivering e) (handed_up (x ∷ b)) (ack_frame e.l
 unfoldable pub accept : Request → Endpoint → Step
 accept connect e = says (begun active_opening e) none (control CRAO (e.local + 1) 0)
 accept listen e = quiet (begun listening e) none
-accept endListening e = quiet (turned closed 0 e) none
+accept end_listening e = quiet (turned closed 0 e) none
 accept close e = hung_up e
 accept (send b) e = says (queueing b e) none (data_frame e.local e.remote e.accepted b)
 accept timer e = record { endpoint = e; notice = none; sent = resent e }

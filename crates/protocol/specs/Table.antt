@@ -130,7 +130,7 @@ rule e f =
 
 -- document 01: a notice
 pub data Notice : Type 0 where
-  none connected rejected closedByPartner closeFinished : Notice
+  none connected rejected closed_by_partner close_finished : Notice
   handed_up : Block → Notice
 
 -- document 01's number of a notice
@@ -138,8 +138,8 @@ unfoldable pub notice_number : Notice → ℕ
 notice_number none = 0
 notice_number connected = 1
 notice_number rejected = 2
-notice_number closedByPartner = 3
-notice_number closeFinished = 4
+notice_number closed_by_partner = 3
+notice_number close_finished = 4
 notice_number (handed_up b) = 5
 
 -- a call sends one frame or nothing
@@ -231,15 +231,15 @@ apply Open e f = quiet (turned established f.sender e) connected
 apply Rejected e f = quiet (turned closed 0 e) rejected
 apply RejectedByDisconnect e f = says (turned closed 0 e) rejected (reply DRACK e f)
 apply ListenAgain e f = quiet (turned listening 0 e) none
-apply ClosedByPartner e f = says (turned closed 0 e) closedByPartner (reply DRACK e f)
-apply ClosedByRejection e f = quiet (turned closed 0 e) closedByPartner
+apply ClosedByPartner e f = says (turned closed 0 e) closed_by_partner (reply DRACK e f)
+apply ClosedByRejection e f = quiet (turned closed 0 e) closed_by_partner
 apply Confirm e f = says e none (control CRACK e.local e.remote)
 apply HandUp e f = says (delivering e) (handed_up f.block) (ack_frame e.local e.remote (e.delivered + 1))
 apply Hold e f = says (holding_early f.number f.block e) none (ack_frame e.local e.remote e.delivered)
 apply Acknowledge e f = says e none (ack_frame e.local e.remote e.delivered)
 apply Release e f = quiet (releasing f.number e) none
-apply FinishedByDisconnect e f = says (turned closed 0 e) closeFinished (reply DRACK e f)
-apply Finished e f = quiet (turned closed 0 e) closeFinished
+apply FinishedByDisconnect e f = says (turned closed 0 e) close_finished (reply DRACK e f)
+apply Finished e f = quiet (turned closed 0 e) close_finished
 
 -- what receiving the frame f answers
 unfoldable pub step : Endpoint → Frame → Step

@@ -9,7 +9,7 @@ use lib.ListN.{get_or}
 use Rattle.octets.specs.Test.{Outcome, refused, ok, mapped, and_then}
 use Rattle.octets.proofs.Test.{by_eq, eq_yes, eq_no, if-eq}
 use Rattle.octets.proofs.Outcomes.{after-question, of-value}
-use Rattle.frame.specs.Frame.{Block, Frame, Request, connect, listen, endListening, close, timer, collect, send}
+use Rattle.frame.specs.Frame.{Block, Frame, Request, connect, listen, end_listening, close, timer, collect, send}
 use Rattle.frame.specs.Read.{cut_block, read_frame, read_request}
 use Rattle.frame.proofs.Blocks.{read-block}
 use Rattle.protocol.specs.declared.Rule.{Rule}
@@ -96,7 +96,7 @@ accepts_right : (q : Request) (e : Endpoint) → RightOf (get_or e.held 0 []) (o
 unfolding accept notice_number block_in notice_of block_of
 accepts_right connect e = none _ 0 (λ z. omega arith)
 accepts_right listen e = none _ 0 (λ z. omega arith)
-accepts_right endListening e = none _ 0 (λ z. omega arith)
+accepts_right end_listening e = none _ 0 (λ z. omega arith)
 accepts_right close e = closes_right e (get_or e.held 0 [])
 accepts_right (send b) e = none _ 0 (λ z. omega arith)
 accepts_right timer e = none _ 0 (λ z. omega arith)

@@ -11,9 +11,9 @@ use lib.ListN.{length, get_or}
 use Rattle.octets.specs.Sizes.{last_number, queue_size}
 use Rattle.octets.specs.Test.{first, refused, ok, outcome}
 use Rattle.octets.proofs.Test.{eq_yes, eq_no, picks, no, yes, done, all_yes, refused_of, no_before, all_before}
-use Rattle.frame.specs.Frame.{Block, Frame, DR, Request, control, data_frame, ack_frame, endListening, close, timer, collect, send}
+use Rattle.frame.specs.Frame.{Block, Frame, DR, Request, control, data_frame, ack_frame, end_listening, close, timer, collect, send}
 use Rattle.protocol.specs.Endpoint.{closed, listening, active_opening, established, closing, Endpoint, waiting}
-use Rattle.protocol.specs.Table.{none, closeFinished, handed_up, Sent, nothing, frame, quiet, says, turned, delivering}
+use Rattle.protocol.specs.Table.{none, close_finished, handed_up, Sent, nothing, frame, quiet, says, turned, delivering}
 use Rattle.protocol.specs.Requests.{place_left, request_questions, refusal, hung_up, collected, accept, request, oldest, resent}
 use Rattle.step_plan.specs.Internal.{Oldest}
 
@@ -35,13 +35,13 @@ module _ (a : Endpoint) where
   unfolding request outcome
   allowed r e = rw e refl
 
-  pub end-listening-8 : a.state ≢ listening → request endListening a ≡ refused 8
+  pub end-listening-8 : a.state ≢ listening → request end_listening a ≡ refused 8
   unfolding request refusal request_questions
-  end-listening-8 h = no (accept endListening a) 7 (eqb a.state listening) _ (ne_eqb a.state listening h)
+  end-listening-8 h = no (accept end_listening a) 7 (eqb a.state listening) _ (ne_eqb a.state listening h)
 
-  pub end-listening-0 : a.state ≡ listening → request endListening a ≡ ok (accept endListening a)
+  pub end-listening-0 : a.state ≡ listening → request end_listening a ≡ ok (accept end_listening a)
   unfolding request refusal request_questions
-  end-listening-0 h = yes (accept endListening a) 8 (eqb a.state listening) _ (eq-eqb a.state listening h) ∙ done (accept endListening a)
+  end-listening-0 h = yes (accept end_listening a) 8 (eqb a.state listening) _ (eq-eqb a.state listening h) ∙ done (accept end_listening a)
 
   pub close-8 : closable a ≡ false → request close a ≡ refused 8
   unfolding request refusal request_questions
@@ -52,7 +52,7 @@ module _ (a : Endpoint) where
   close-0 h = yes (accept close a) 8 (closable a) _ h ∙ done (accept close a)
 
   module _ (h : closable a ≡ true) where
-    pub close-unheard : a.remote ≡ 0 → request close a ≡ ok (quiet (turned closed 0 a) closeFinished)
+    pub close-unheard : a.remote ≡ 0 → request close a ≡ ok (quiet (turned closed 0 a) close_finished)
     unfolding hung_up
     close-unheard z = close-0 h ∙ ap ok (eq_yes _ _ _ _ z)
 

@@ -4,7 +4,7 @@
 ghost use Rattle.std.specs.Prelude.{◌≡◌, ℕ, ◌≤◌, ◌<◌, List, [], ◌∷◌, ltb, eqb, length, get_or};
 ghost use Rattle.octets.specs.Sizes.{longest_block, held_size, last_number};
 ghost use Rattle.octets.specs.Test.{first};
-ghost use Rattle.frame.specs.Frame.{Block, connect, listen, endListening, close, timer, collect, send};
+ghost use Rattle.frame.specs.Frame.{Block, connect, listen, end_listening, close, timer, collect, send};
 ghost use Rattle.frame.specs.Answer.{request_of};
 ghost use Rattle.protocol.specs.Requests.{request};
 ghost use Rattle.protocol.specs.History.{ask};
@@ -59,7 +59,7 @@ fn listen(n: Numbers, held: &[u8]) -> Plan
 
 fn end_listening(n: Numbers, held: &[u8]) -> Plan
     requires { length held.now ≡ held_size }
-    ensures { (b : Block) → Planned n held.now b (request endListening) result }
+    ensures { (b : Block) → Planned n held.now b (request end_listening) result }
 {
     if n.state != LISTENING {
         return step_plan::refuse(n, refusal::WRONG_STATE);

@@ -11,7 +11,7 @@ use Rattle.frame.specs.Answer.{header_of, frame_of}
 use Rattle.protocol.specs.declared.Rule.{Rule}
 use Rattle.protocol.specs.declared.Rule.TheVariants.{HandUp, Hold, Release}
 use Rattle.protocol.specs.Endpoint.{closed, listening, active_opening, passive_opening, established}
-use Rattle.protocol.specs.Table.{none, connected, rejected, closedByPartner, closeFinished, notice_number, says, apply}
+use Rattle.protocol.specs.Table.{none, connected, rejected, closed_by_partner, close_finished, notice_number, says, apply}
 use Rattle.protocol.proofs.Sound.{length_at}
 use Rattle.step_rules.specs.Internal.{holding}
 use Rattle.step_plan.specs.declared.Reply.TheVariants.{Nothing, Frame}
@@ -111,12 +111,12 @@ apply_spec =
     (λ c b d q h old w _ lz. let s : tie.Start = search in let n = s.args.n in turns n q h b old w _ lz s.requires.0 closed 0 rejected Nothing tt (does s q h b c.in-Rejected.is) c.turn-in-Rejected.ensures)
     (λ c b d q h old w _ lz. let s : tie.Start = search in let n = s.args.n in turns n q h b old w _ lz s.requires.0 closed 0 rejected (Frame (header_of DRACK n.local s.args.f.sender 0)) refl (does s q h b c.in-RejectedByDisconnect.is) (rw c.before.say-in-RejectedByDisconnect.ensures at c.turn-in-RejectedByDisconnect.ensures))
     (λ c b d q h old w _ lz. let s : tie.Start = search in let n = s.args.n in turns n q h b old w _ lz s.requires.0 listening 0 none Nothing tt (does s q h b c.in-ListenAgain.is) c.turn-in-ListenAgain.ensures)
-    (λ c b d q h old w _ lz. let s : tie.Start = search in let n = s.args.n in turns n q h b old w _ lz s.requires.0 closed 0 closedByPartner (Frame (header_of DRACK n.local s.args.f.sender 0)) refl (does s q h b c.in-ClosedByPartner.is) (rw c.before.say-in-ClosedByPartner.ensures at c.turn-in-ClosedByPartner.ensures))
-    (λ c b d q h old w _ lz. let s : tie.Start = search in let n = s.args.n in turns n q h b old w _ lz s.requires.0 closed 0 closedByPartner Nothing tt (does s q h b c.in-ClosedByRejection.is) c.turn-in-ClosedByRejection.ensures)
+    (λ c b d q h old w _ lz. let s : tie.Start = search in let n = s.args.n in turns n q h b old w _ lz s.requires.0 closed 0 closed_by_partner (Frame (header_of DRACK n.local s.args.f.sender 0)) refl (does s q h b c.in-ClosedByPartner.is) (rw c.before.say-in-ClosedByPartner.ensures at c.turn-in-ClosedByPartner.ensures))
+    (λ c b d q h old w _ lz. let s : tie.Start = search in let n = s.args.n in turns n q h b old w _ lz s.requires.0 closed 0 closed_by_partner Nothing tt (does s q h b c.in-ClosedByRejection.is) c.turn-in-ClosedByRejection.ensures)
     (λ c b d q h old w _ lz. let s : tie.Start = search in let n = s.args.n in keeps n q h b old w none (Frame (header_of CRACK n.local n.remote 0)) refl (does s q h b c.in-Confirm.is) (rw c.before.say-in-Confirm.ensures at c.keep-in-Confirm.ensures))
     hands-it-up
     holds-it
     (λ c b d q h old w _ lz. let s : tie.Start = search in let n = s.args.n in keeps n q h b old w none (Frame (header_of ACK n.local n.remote n.delivered)) refl (does s q h b c.in-Acknowledge.is) (rw c.before.say-in-Acknowledge.ensures at c.keep-in-Acknowledge.ensures))
     (λ c b d q h old w _ lz. let s : tie.Start = search in let n = s.args.n in let t = c.in-Release.is in releases n q h b old w s.args.f.number s.requires.1.0 (found-release s t).1 (does s q h b t) c.release.ensures)
-    (λ c b d q h old w _ lz. let s : tie.Start = search in let n = s.args.n in turns n q h b old w _ lz s.requires.0 closed 0 closeFinished (Frame (header_of DRACK n.local s.args.f.sender 0)) refl (does s q h b c.in-FinishedByDisconnect.is) (rw c.before.say-in-FinishedByDisconnect.ensures at c.turn-in-FinishedByDisconnect.ensures))
-    (λ c b d q h old w _ lz. let s : tie.Start = search in let n = s.args.n in turns n q h b old w _ lz s.requires.0 closed 0 closeFinished Nothing tt (does s q h b c.in-Finished.is) c.turn-in-Finished.ensures))
+    (λ c b d q h old w _ lz. let s : tie.Start = search in let n = s.args.n in turns n q h b old w _ lz s.requires.0 closed 0 close_finished (Frame (header_of DRACK n.local s.args.f.sender 0)) refl (does s q h b c.in-FinishedByDisconnect.is) (rw c.before.say-in-FinishedByDisconnect.ensures at c.turn-in-FinishedByDisconnect.ensures))
+    (λ c b d q h old w _ lz. let s : tie.Start = search in let n = s.args.n in turns n q h b old w _ lz s.requires.0 closed 0 close_finished Nothing tt (does s q h b c.in-Finished.is) c.turn-in-Finished.ensures))

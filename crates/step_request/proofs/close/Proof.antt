@@ -3,7 +3,7 @@ use Rattle.octets.specs.Test.{when, if_eq, in_range}
 use Rattle.frame.specs.Frame.{DR}
 use Rattle.frame.specs.Layout.{is_frame}
 use Rattle.frame.specs.Answer.{header_of}
-use Rattle.protocol.specs.Table.{none, closeFinished, notice_number}
+use Rattle.protocol.specs.Table.{none, close_finished, notice_number}
 use Rattle.step_rules.specs.Internal.{holding}
 use Rattle.step_plan.specs.declared.Reply.TheVariants.{Frame, Nothing}
 use Rattle.step_plan.specs.Internal.{sent_by}
@@ -31,6 +31,6 @@ close_spec =
     tie.close
     (tie.spec (λ c κs. search rules) returns (λ c κs. search rules)
     (λ c b q h old w _ lz. let s : tie.Start = search in let a = s.args in
-    turns a.n q h b old w _ lz s.requires 0 0 closeFinished Nothing tt
+    turns a.n q h b old w _ lz s.requires 0 0 close_finished Nothing tt
     (close-unheard (holding a.n q h) c.before.before.before.if-not-allowed.false (search rules)) c.turn.ensures)
     (λ c κs. search rules) (λ c κs. search rules) returns-3)
