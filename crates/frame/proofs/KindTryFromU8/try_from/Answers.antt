@@ -1,0 +1,7 @@
+use mathlib.Core.Path.{refl}
+use native.Mathlib.Omega.{arith}
+use Rattle.frame.proofs.Classes.{no_frame}
+use Rattle.frame.proofs.KindTryFromU8.try_from.Goals as goal
+
+pub returns-in_default : goal.returns-in_default
+returns-in_default c = (refl, no_frame c.args.number (λ h. omega arith))
