@@ -1,17 +1,19 @@
 -- Places of the log.
-use Prim.Native.Nat.{ℕ, zero, suc, ◌+◌, ◌-◌, ◌≤◌, ◌<◌}
-use mathlib.Core.Path.{◌≡◌, refl, sym, ap, ◌∙◌}
+use Prim.Native.Nat.{ℕ, ◌+◌, ◌-◌, ◌≤◌, ◌<◌}
+use mathlib.Core.Path.{◌≡◌, refl, ◌∙◌}
 use mathlib.Core.Bool.{true, false}
-use mathlib.Core.List.{List, [], ◌∷◌}
+use mathlib.Core.List.{List, ◌∷◌, ◌++◌}
 use native.Mathlib.Omega.{arith}
 use borrow.Author.Tests.{ltb-true, leb-true, le-ltb}
 use lib.Dec.{ltb, leb}
-use lib.ListN.{length, take, drop, replicate}
-use lib.Seq.{take-length}
+use lib.ListN.{length, replicate, length-append, length-replicate}
+use lib.Seq.{drop-drop}
+use borrow.Rule.Slice.PartMut.{put_mid}
 use Rattle.octets.specs.Sizes.{longest_frame}
 use Rattle.octets.specs.Octets.{put, padded, Octets}
 use Rattle.octets.proofs.Test.{both, within}
-use Rattle.octets.proofs.Octets.{put-more, octets_cons, octets_append, octets_zeros}
+use Rattle.octets.proofs.Buffers.{drop-zeros}
+use Rattle.octets.proofs.Octets.{octets_cons, octets_append, octets_zeros}
 use Rattle.bench_log.specs.Log.{sender_at, length_at, holds, place, place_size}
 
 -- a number that is too high
@@ -32,22 +34,6 @@ held count n log t =
     let b = both (leb (sender_at n log) 1) _ a.1 in
     record { below = ltb-true n count a.0; sender = leb-true (sender_at n log) 1 b.0; short = (within 9 longest_frame (length_at n log) b.1).1 }
 
--- the rest of a list of zeros
-abbrev zeros : ℕ → List ℕ
-zeros n = replicate n 0
-
-rest_zeros : (n k : ℕ) → drop k (zeros n) ≡ zeros (n - k)
-rest_zeros n zero = let e : n ≡ n - 0 = omega arith in ap zeros e
-rest_zeros zero (suc k) = let e : 0 ≡ 0 - suc k = omega arith in ap zeros e
-rest_zeros (suc n) (suc k) = let e : n - k ≡ suc n - suc k = omega arith in rest_zeros n k ∙ ap zeros e
-
-length-zeros : (n : ℕ) → length (zeros n) ≡ n
-length-zeros zero = refl
-length-zeros (suc n) = ap suc (length-zeros n)
-
-zeros_from : (k : ℕ) → k ≤ longest_frame → take (longest_frame - k) (drop k (zeros longest_frame)) ≡ zeros (longest_frame - k)
-zeros_from k h = rw (rest_zeros longest_frame k) (ap (λ (n : ℕ). take n (zeros (longest_frame - k))) (sym (length-zeros (longest_frame - k))) ∙ take-length (zeros (longest_frame - k)))
-
 -- what is entered is octets, where the frame is
 pub octets_place : (sender : ℕ) (s : List ℕ) → sender < 256 → length s < 256 → Octets s → Octets (place sender s)
 unfolding place padded
@@ -55,14 +41,13 @@ octets_place sender s h k o =
     octets_cons sender _ h (octets_cons (length s) _ k (octets_append s _ o (octets_zeros (longest_frame - length s))))
 
 -- sender, length, frame, zeros, one after the other
-pub entered : (d frame : List ℕ) (at sender : ℕ) → length frame ≤ longest_frame → at + place_size ≤ length d → {w x y z : List ℕ} → w ≡ put d at (sender ∷ [])
-    → x ≡ put w (at + 1) (length frame ∷ []) → y ≡ put x (at + 2) frame → z ≡ put y (at + 2 + length frame) (take (longest_frame - length frame) (drop (length frame) (zeros longest_frame)))
-    → z ≡ put d at (place sender frame)
-unfolding place padded
-entered d s at sender h l {w} {x} {y} {z} ew ex ey ez =
+pub entered : (d frame : List ℕ) (at sender : ℕ) → length frame ≤ longest_frame → {q e : List ℕ} → q ≡ frame
+    → e ≡ put_mid 2 (2 + length frame - 2) (sender ∷ length frame ∷ replicate longest_frame 0) q → put_mid at (at + place_size - at) d e ≡ put d at (place sender frame)
+unfolding put place padded
+entered d s at sender h {q} {e} eq ee =
     let n = length s in
-    let x2 : x ≡ put d at (sender ∷ n ∷ []) = ex ∙ ap (λ (t : List ℕ). put t (at + 1) (n ∷ [])) ew ∙ put-more d (sender ∷ []) (n ∷ []) at (omega arith) in
-    let y2 : y ≡ put d at (sender ∷ n ∷ s) = ey ∙ ap (λ (t : List ℕ). put t (at + 2) s) x2 ∙ put-more d (sender ∷ n ∷ []) s at (omega arith) in
-    let k : at + length (sender ∷ n ∷ s) ≡ at + 2 + n = omega arith in
-    ez ∙ ap (λ (t : List ℕ). put t (at + 2 + n) (take (longest_frame - n) (drop n (zeros longest_frame)))) y2
-    ∙ rw (zeros_from n h) (rw k at (put-more d (sender ∷ n ∷ s) (zeros (longest_frame - n)) at (omega (arith, k))))
+    let k : 2 + n - 2 ≡ n = omega arith in
+    let f : e ≡ sender ∷ n ∷ (s ++ replicate (longest_frame - n) 0) = ee ∙ rw (eq, k, drop-zeros n longest_frame) refl in
+    let m : at + place_size - at ≡ place_size = omega arith in
+    let l : at + length (sender ∷ n ∷ (s ++ replicate (longest_frame - n) 0)) ≡ at + place_size = omega (arith, length-append s (replicate (longest_frame - n) 0), length-replicate {A = ℕ} (longest_frame - n) 0) in
+    rw (f, m, l, drop-drop) refl

@@ -19,6 +19,7 @@ pub const LOG_SIZE: usize = PLACES * PLACE_SIZE;
 const SHORTEST_FRAME: u8 = 9;
 
 // Question 13: does the log hold frame n, with a sender octet 0 or 1 and a length of 9 to 78?
+#[tactic(auto, unfolding(crate::specs::Log::holds, crate::specs::Log::sender_at, crate::specs::Log::length_at, octets::specs::Test::in_range))]
 pub fn holds(log: &[u8], count: usize, n: usize) -> bool
     requires { (log_size ≤ length log.now) × (count ≤ places) }
     ensures { result ≡ holds count n log.now }
@@ -32,6 +33,7 @@ pub fn holds(log: &[u8], count: usize, n: usize) -> bool
 }
 
 // The sender of frame n, and the frame, a part of the log.
+#[tactic(auto, unfolding(crate::specs::Log::sender_at))]
 pub fn sender_of(log: &[u8], n: usize) -> u8
     requires { (log_size ≤ length log.now) × (n < places) }
     ensures { result ≡ sender_at n log.now }
@@ -39,12 +41,13 @@ pub fn sender_of(log: &[u8], n: usize) -> u8
     log[n * PLACE_SIZE]
 }
 
+#[tactic(auto, unfolding(crate::specs::Log::length_at, crate::specs::Log::frame_logged))]
 pub fn frame_of(log: &[u8], n: usize) -> &[u8]
     requires { (log_size ≤ length log.now) × ((n < places) × (length_at n log.now ≤ longest_frame)) }
     ensures { result.now ≡ frame_logged n log.now }
 {
     let at = n * PLACE_SIZE + FRAME_AT;
-    let end = at + octets::wide(log[n * PLACE_SIZE + 1]);
+    let end = at + usize::from(log[n * PLACE_SIZE + 1]);
     &log[at..end]
 }
 
@@ -53,11 +56,10 @@ pub fn enter(log: &mut [u8], n: usize, sender: u8, frame: &[u8])
     requires { (log_size ≤ length log.old) × ((n < places) × (length frame.now ≤ longest_frame)) }
     ensures { log.new ≡ put log.old (n * place_size) (place sender frame.now) }
 {
+    let mut place = [0u8; PLACE_SIZE];
+    place[0] = sender;
+    place[1] = frame.len() as u8;
+    place[FRAME_AT..FRAME_AT + frame.len()].copy_from_slice(frame);
     let at = n * PLACE_SIZE;
-    let count = frame.len();
-    octets::store8(log, at, sender);
-    octets::store8(log, at + 1, count as u8);
-    octets::copy(log, at + FRAME_AT, frame);
-    let zeros = [0u8; octets::LONGEST_FRAME];
-    octets::copy(log, at + FRAME_AT + count, &zeros[count..]);
+    log[at..at + PLACE_SIZE].copy_from_slice(&place);
 }
