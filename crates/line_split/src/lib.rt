@@ -10,14 +10,7 @@ const LINE_FEED: u8 = 10;
 pub fn line_length(s: &[u8]) -> usize
     ensures { (result ≡ line_length s.now) × (result ≤ length s.now) }
 {
-    let mut i = 0;
-    while i < s.len() {
-        if s[i] == LINE_FEED {
-            return i;
-        }
-        i += 1;
-    }
-    i
+    s.iter().position(|c| *c == LINE_FEED).unwrap_or(s.len())
 }
 
 // Adds a piece to a line of which the first n characters are held already, as far as there is room; how many are held now.
@@ -25,11 +18,7 @@ pub fn keep(line: &mut [u8], n: usize, piece: &[u8]) -> usize
     requires { n ≤ length line.old }
     ensures { (Kept line.old n piece.now line.new result) × (result ≤ length line.old) }
 {
-    let room = line.len() - n;
-    if piece.len() <= room {
-        octets::copy(line, n, piece);
-        return n + piece.len();
-    }
-    octets::copy(line, n, &piece[..room]);
-    n + room
+    let fits = piece.len().min(line.len() - n);
+    line[n..n + fits].copy_from_slice(&piece[..fits]);
+    n + fits
 }
