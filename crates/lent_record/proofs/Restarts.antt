@@ -23,32 +23,31 @@ use Rattle.lent_record.specs.Record.{format}
 use Rattle.lent_record.specs.Told.{told_of, status_of, sent_of, answer_of, Restarted}
 
 module _ (rec page : List ℕ) where
-  pub restart-refused : {n : ℕ} → restarted_in format rec page ≡ refused n → {r : Answer} → r ≡ answer_of rec (refused n) → Restarted rec page rec r
+  refuses : {n : ℕ} → restarted_in format rec page ≡ refused n → (r : Answer) → r ≡ answer_of rec (refused n) → Restarted rec page rec r
   unfolding record_after mapped left
-  restart-refused e h = record { answer = rw e h; end = rw e refl }
+  refuses e r h = record { answer = rw e h; end = rw e refl }
 
-  pub short-record : length rec < record_size → restarted_in format rec page ≡ refused 11
+  pub short_record : (r : Answer) → length rec < record_size → r ≡ answer_of rec (refused 11) → Restarted rec page rec r
   unfolding restarted_in refusing first when
-  short-record h = rw (lt-leb record_size (length rec) h) refl
+  short_record r h = refuses (rw (lt-leb record_size (length rec) h) refl) r
 
-  module _ (l : record_size ≤ length rec) where
-    enough : restarted_in format rec page ≡ restarting page
-    unfolding restarted_in refusing first when
-    enough = rw (le-leb record_size (length rec) l) refl
+  enough : record_size ≤ length rec → restarted_in format rec page ≡ restarting page
+  unfolding restarted_in refusing first when
+  enough l = rw (le-leb record_size (length rec) l) refl
 
-    pub short-page : length page < page_size → restarted_in format rec page ≡ refused 11
-    short-page h = enough ∙ restarts-short page h
+  pub short_page : (r : Answer) → record_size ≤ length rec → length page < page_size → r ≡ answer_of rec (refused 11) → Restarted rec page rec r
+  short_page r l h = refuses (enough l ∙ restarts-short page h) r
 
-    module _ (k : page_size ≤ length page) where
-      pub wrong-page : runs page ≡ false → restarted_in format rec page ≡ refused 15
-      wrong-page h = enough ∙ restarts-wrong page k h
+  pub wrong_page : (r : Answer) → record_size ≤ length rec → page_size ≤ length page → runs page ≡ false → r ≡ answer_of rec (refused 15) → Restarted rec page rec r
+  wrong_page r l k h = refuses (enough l ∙ restarts-wrong page k h) r
 
-      pub restarts : runs page ≡ true → {n : ℕ} → n ≡ count page → {e : Endpoint} → e ≡ pack (restarted n) → {rec' : List ℕ} → rec' ≡ put rec 0 (encode e)
-          → Restarted rec page rec' (record { status = record { number = 0; state = e.state; notice = 0; local = e.local; remote = e.remote }; sent = 0; block = 0 })
-      unfolding record_after mapped left answer_of status_of told_of sent_of block_of block_in notice_of notice_number number_of wire
-      restarts h {n} c {e} p {rec'} q =
-          let o : restarted_in format rec page ≡ ok (quiet (restarted n) none) =
-          enough ∙ ready.restarts page k h ∙ ap (λ (m : ℕ). ok (quiet (restarted m) none)) (sym c) in
-          let told : record { status = record { number = 0; state = e.state; notice = 0; local = e.local; remote = e.remote }; sent = 0; block = 0 } ≡ answer_of rec (ok (quiet (restarted n) none)) =
-          λ i. record { status = record { number = 0; state = (p i).state; notice = 0; local = (p i).local; remote = (p i).remote }; sent = 0; block = 0 } in
-          record { answer = rw o told; end = rw o (q ∙ ap (λ (x : Endpoint). put rec 0 (encode x)) p) }
+  pub restarts : record_size ≤ length rec → page_size ≤ length page → runs page ≡ true → (n : ℕ) → n ≡ count page → (e : Endpoint) → e ≡ pack (restarted n)
+      → (rec' : List ℕ) → rec' ≡ put rec 0 (encode e)
+      → Restarted rec page rec' (record { status = record { number = 0; state = e.state; notice = 0; local = e.local; remote = e.remote }; sent = 0; block = 0 })
+  unfolding record_after mapped left answer_of status_of told_of sent_of block_of block_in notice_of notice_number number_of wire
+  restarts l k h n c e p rec' q =
+      let o : restarted_in format rec page ≡ ok (quiet (restarted n) none) =
+      enough l ∙ ready.restarts page k h ∙ ap (λ (m : ℕ). ok (quiet (restarted m) none)) (sym c) in
+      let told : record { status = record { number = 0; state = e.state; notice = 0; local = e.local; remote = e.remote }; sent = 0; block = 0 } ≡ answer_of rec (ok (quiet (restarted n) none)) =
+      λ i. record { status = record { number = 0; state = (p i).state; notice = 0; local = (p i).local; remote = (p i).remote }; sent = 0; block = 0 } in
+      record { answer = rw o told; end = rw o (q ∙ ap (λ (x : Endpoint). put rec 0 (encode x)) p) }
