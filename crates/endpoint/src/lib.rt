@@ -3,7 +3,7 @@
 
 ghost use Rattle.std.specs.Prelude.{◌≡◌, ◌&&◌, ◌+◌, ◌-◌, ◌≤◌, ◌<◌, length, take, drop};
 ghost use Rattle.octets.specs.Sizes.{longest_block, queue_size, held_size, last_number, page_size};
-ghost use Rattle.octets.specs.Test.{when, zeros};
+ghost use Rattle.octets.specs.Test.{zeros};
 ghost use Rattle.octets.specs.Octets.{put, octets_of};
 ghost use Rattle.protocol.specs.Endpoint as abstract;
 ghost use Rattle.protocol.specs.Endpoint.{all_of, numbers_sound, held_sound};
@@ -95,51 +95,32 @@ impl Endpoint {
     }
 }
 
-// Question 12, a part at a time. Where the test t holds, yes counts, else no.
-fn when(t: bool, yes: bool, no: bool) -> bool
-    ensures { result ≡ when t yes no }
+// Question 12, a part at a time: the numbers. Most records are in open, where four tests are left; outside it nothing waits, so that w ≤ 8 and
+// w ≤ t ask no test.
+fn numbers_ok(n: Numbers) -> bool
+    ensures { result ≡ all_of (numbers_sound n.state n.local n.remote n.accepted n.delivered n.waiting) }
 {
-    if t {
-        return yes;
-    }
-    no
-}
-
-// The numbers. Most records are in open, where four tests are left; outside it nothing waits, so that w ≤ 8 and w ≤ t ask no test.
-fn numbers_ok(
-    state: u8,
-    local: u32,
-    remote: u32,
-    accepted: u32,
-    delivered: u32,
-    waiting: u32,
-) -> bool
-    ensures { result ≡ all_of (numbers_sound state local remote accepted delivered waiting) }
-{
-    if state == ESTABLISHED {
+    let waiting = octets::wide32(n.waiting);
+    if n.state == ESTABLISHED {
         return (waiting <= Endpoint::QUEUE_SIZE as u32)
-            & ((waiting <= accepted) & ((1 <= local) & (1 <= remote)));
+            & ((waiting <= n.accepted) & ((1 <= n.local) & (1 <= n.remote)));
     }
-    (state <= CLOSING)
-        & (when(state <= LISTENING, remote == 0, true)
-            & (when(state == CLOSED, true, 1 <= local)
-                & (when(PASSIVE_OPENING <= state, 1 <= remote, true)
-                    & ((accepted == 0) & ((waiting == 0) & (delivered == 0))))))
+    (n.state <= CLOSING)
+        & (((LISTENING < n.state) | (n.remote == 0))
+            & (((n.state == CLOSED) | (1 <= n.local))
+                & (((n.state < PASSIVE_OPENING) | (1 <= n.remote))
+                    & ((n.accepted == 0) & ((waiting == 0) & (n.delivered == 0))))))
 }
 
 // The octets from n on of the place that starts at at are 0. All 64 are looked at, and those before n let pass: the loop then has no branch
-// and always the same length, and takes many octets at once. j is i in an octet, so that as many of it are compared with n at once.
+// and always the same length, and takes many octets at once. j is an octet, so that as many of it are compared with n at once.
 fn rest_ok(n: u8, blocks: &[u8], at: usize) -> bool
     requires { at + longest_block ≤ length blocks.now }
     ensures { result ≡ zeros (take (longest_block - n) (drop (at + n) blocks.now)) }
 {
     let mut ok = true;
-    let mut i = 0;
-    let mut j = 0;
-    while i < Endpoint::LONGEST_BLOCK {
-        ok = ok & ((j < n) | (blocks[at + i] == 0));
-        i += 1;
-        j += 1;
+    for j in 0..Endpoint::LONGEST_BLOCK as u8 {
+        ok = ok & ((j < n) | (blocks[at + octets::wide(j)] == 0));
     }
     ok
 }
@@ -174,12 +155,10 @@ fn places_ok(filled: usize, used: usize, lengths: &[u8], blocks: &[u8]) -> bool
     requires { (length blocks.now ≡ places_size) × (length lengths.now ≡ queue_size) }
     ensures { result ≡ places_ok filled used lengths.now blocks.now }
 {
-    let mut i = 0;
-    while i < octets::QUEUE_SIZE {
+    for i in 0..octets::QUEUE_SIZE {
         if !place_ok(filled, used, lengths, blocks, i) {
             return false;
         }
-        i += 1;
     }
     true
 }
@@ -219,14 +198,7 @@ pub fn is_sound<'a>(
     requires { ((length blocks.now ≡ places_size) × (length lengths.now ≡ queue_size)) × ((length held_blocks.now ≡ places_size) × (length held_lengths.now ≡ held_size)) }
     ensures { result ≡ sound (record_of n lengths.now blocks.now held_lengths.now held_blocks.now) }
 {
-    if !numbers_ok(
-        n.state,
-        n.local,
-        n.remote,
-        n.accepted,
-        n.delivered,
-        octets::wide32(n.waiting),
-    ) {
+    if !numbers_ok(n) {
         return false;
     }
     let waiting = octets::wide(n.waiting);
@@ -292,12 +264,8 @@ pub fn encode(e: Endpoint, out: &mut [u8])
     ensures { out.new ≡ put out.old 0 (encode e) }
 {
     store_numbers(numbers_of(e), out);
-    let lengths = e.lengths;
-    octets::copy(out, LENGTHS_AT, &lengths);
-    let blocks = e.blocks;
-    octets::copy(out, BLOCKS_AT, &blocks);
-    let held_lengths = e.held_lengths;
-    octets::copy(out, HELD_LENGTHS_AT, &held_lengths);
-    let held_blocks = e.held_blocks;
-    octets::copy(out, HELD_BLOCKS_AT, &held_blocks);
+    octets::copy(out, LENGTHS_AT, &e.lengths);
+    octets::copy(out, BLOCKS_AT, &e.blocks);
+    octets::copy(out, HELD_LENGTHS_AT, &e.held_lengths);
+    octets::copy(out, HELD_BLOCKS_AT, &e.held_blocks);
 }

@@ -12,10 +12,6 @@ use Rattle.endpoint.specs.declared.Endpoint.{Endpoint}
 use Rattle.endpoint.specs.View.{place_block}
 use Rattle.endpoint.specs.Internal.{record_of}
 
--- eight places of so many octets, and as many of zeros after them
-abbrev pub followed : ℕ → List ℕ → List ℕ
-followed width d = d ++ replicate (queue_size * width) 0
-
 -- Places of so many octets after a plan: s joins at its place; where some leave, the others move to the front and zeros follow; written afresh
 -- all are zeros.
 unfoldable pub places_after : Places → ℕ → List ℕ → List ℕ → List ℕ

@@ -8,7 +8,7 @@ ghost use Rattle.call_spec.specs.declared.Call.TheVariants.{Request};
 ghost use Rattle.step_plan.specs.declared.Places.TheVariants.{Keep, Clear};
 ghost use Rattle.step_plan.specs.Internal.{block_by, block_out, sent_by, Known, Sends};
 ghost use Rattle.endpoint.specs.View.{places_size, place_block};
-ghost use Rattle.endpoint_places.specs.Internal.{followed, places_after, PlaceFor, block_from, Handy, HandsUp};
+ghost use Rattle.endpoint_places.specs.Internal.{places_after, PlaceFor, block_from, Handy, HandsUp};
 
 use call_spec::Call;
 use endpoint::Endpoint;
@@ -29,22 +29,7 @@ pub fn send<'a>(
     step_plan::send_reply(p, joined, &blocks[0..count], out)
 }
 
-// Moves one of eight places to another; the places after the eight are zeros.
-fn move_place(from: usize, to: usize, width: usize, d: &mut [u8])
-    requires { ((width ≤ longest_block) × (length d.old ≡ queue_size * width)) × ((from < queue_size + queue_size) × (to < queue_size)) }
-    ensures { d.new ≡ put d.old (to * width) (take width (drop (from * width) (followed width d.old))) }
-{
-    let mut block = [0u8; Endpoint::LONGEST_BLOCK];
-    if from >= Endpoint::QUEUE_SIZE {
-        octets::copy(d, to * width, &block[..width]);
-        return;
-    }
-    let at = from * width;
-    octets::copy(&mut block, 0, &d[at..at + width]);
-    octets::copy(d, to * width, &block[..width]);
-}
-
-// The first places leave: the others move to the front, one by one, and zeros follow.
+// The first places leave: the others move to the front, and zeros follow.
 fn drop_front(gone: usize, width: usize, d: &mut [u8])
     requires { (gone ≤ queue_size) × ((width ≤ longest_block) × (length d.old ≡ queue_size * width)) }
     ensures { d.new ≡ drop (gone * width) d.old ++ replicate (gone * width) 0 }
@@ -52,34 +37,24 @@ fn drop_front(gone: usize, width: usize, d: &mut [u8])
     if gone == 0 {
         return;
     }
-    let mut i = 0;
-    while i < Endpoint::QUEUE_SIZE {
-        move_place(i + gone, i, width, d);
-        i += 1;
-    }
+    let from = gone * width;
+    let kept = d.len() - from;
+    d.copy_within(from.., 0);
+    clear(&mut d[kept..]);
 }
 
 // All of d is written afresh, as zeros.
 pub fn clear(d: &mut [u8])
     ensures { d.new ≡ replicate (length d.old) 0 }
 {
-    let mut i = 0;
-    while i < d.len() {
-        d[i] = 0;
-        i += 1;
-    }
+    d.fill(0);
 }
 
 // Does every place stay, of the blocks that wait and of those held? A yes spares the caller to look at each; a no is always right.
 pub fn keeps(queue: Places, held: Places) -> bool
     ensures { result ≡ true → (queue ≡ Keep) × (held ≡ Keep) }
 {
-    if let Places::Keep = queue {
-        if let Places::Keep = held {
-            return true;
-        }
-    }
-    false
+    matches!(queue, Places::Keep) && matches!(held, Places::Keep)
 }
 
 // Is every place written afresh, in a plan that leaves this state? A no is always right. No place of an end that stays open is: asked first,
@@ -87,15 +62,8 @@ pub fn keeps(queue: Places, held: Places) -> bool
 pub fn clears(state: u8, queue: Places, held: Places) -> bool
     ensures { result ≡ true → (queue ≡ Clear) × (held ≡ Clear) }
 {
-    if state == step_rules::ESTABLISHED {
-        return false;
-    }
-    if let Places::Clear = queue {
-        if let Places::Clear = held {
-            return true;
-        }
-    }
-    false
+    state != step_rules::ESTABLISHED
+        && (matches!(queue, Places::Clear) && matches!(held, Places::Clear))
 }
 
 // What a plan makes of places of so many octets, of blocks or of their lengths; s joins.
@@ -138,9 +106,6 @@ pub fn hand_up<'a>(
 {
     match call {
         Call::Request => collect(notice, lengths, blocks, up),
-        Call::Receive => {
-            let up = step_plan::handed_up(notice, block);
-            up.len()
-        }
+        Call::Receive => step_plan::handed_up(notice, block).len(),
     }
 }
