@@ -1,4 +1,4 @@
-use Rattle.std.proofs.Common.{arith}
+use Rattle.std.proofs.Common.{sym, arith}
 use Rattle.octets.proofs.Octets.{field-one}
 use Rattle.endpoint.specs.Record.{waiting_at, decode}
 use Rattle.endpoint.proofs.load_numbers.Goals as goal
@@ -7,6 +7,13 @@ pub returns : goal.returns
 unfolding decode
 returns c =
     let s = c.args.s.now in
-    let state = field-one 0 s (omega arith) in
-    let waiting = field-one waiting_at s (omega arith) in
-    cc
+    let state = sym (field-one 0 s (omega arith)) in
+    let waiting = sym (field-one waiting_at s (omega arith)) in
+    λ i. record {
+      state = state i;
+      local = c.load32.ensures i;
+      remote = c.load32-2.ensures i;
+      accepted = c.load32-3.ensures i;
+      delivered = c.load32-4.ensures i;
+      waiting = waiting i;
+    }
