@@ -92,7 +92,7 @@ goes_so l page h =
     let b = both (runs page) _ h in
     (b.0, eqb-true (count page) (used_for l) b.1)
 
-leading≤ : (s : List ℕ) → leading s ≤ length s
+pub leading≤ : (s : List ℕ) → leading s ≤ length s
 unfolding leading
 leading≤ [] = omega arith
 leading≤ (x ∷ s) = if-eq (λ (n : ℕ). n ≤ length (x ∷ s)) x used (λ e. omega (arith, leading≤ s)) (λ e. omega arith)

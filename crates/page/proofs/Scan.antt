@@ -4,33 +4,27 @@ use mathlib.Core.Path.{◌≡◌, refl, sym, ap, ◌∙◌}
 use mathlib.Core.Logic.{◌≢◌}
 use mathlib.Core.Bool.{Bool, true, false, ◌&&◌, and-true, and_assoc, false≢true}
 use mathlib.Core.List.{List, [], ◌∷◌, ◌++◌}
-use native.Mathlib.Numerals.{add-one}
 use native.Mathlib.Omega.{arith}
+use Rattle.std.proofs.lemmas.List.{get_or_default}
 use borrow.Author.Tests.{eqb-true, eq-eqb, ne_eqb}
 use lib.Bits.{bit_and, and_le_l, and_le_r}
 use lib.Dec.{eqb}
-use lib.ListN.{length, take, drop, set, get_or}
-use lib.Seq.{take-suc, take-add, length-take-le, get_or-take}
+use lib.ListN.{length, take, drop, set, get_or, take-append-drop}
+use lib.Seq.{take-add, length-take-le, get_or-take}
+use Rattle.std.specs.List.{fold}
+use Rattle.std.specs.List.Sorted.{IsPartitionedBy, IsPartitionPoint}
+use Rattle.std.specs.Simd.{first_chunks}
 use Rattle.octets.specs.Sizes.{page_size, numbers_each, last_incarnation}
 use Rattle.octets.specs.Test.{when, zeros}
 use Rattle.octets.proofs.Test.{by_eq, by_lt, lt_yes, both, joined}
 use Rattle.octets.proofs.Each.{alike}
 use Rattle.page.specs.Page.{used, unused, only, is_run, leading, runs, count, goes_with, reserving}
-use Rattle.page.proofs.Laws.{leading_yes, leading_no, leading-none, goes_last, stays}
+use Rattle.page.proofs.Laws.{leading_yes, leading_no, leading-none, leading≤, goes_last, stays}
 
 pub zeros-only : (s : List ℕ) → zeros s ≡ only used s
 unfolding zeros only
 zeros-only [] = refl
 zeros-only (x ∷ s) = ap (λ (b : Bool). eqb x 0 && b) (zeros-only s)
-
--- one octet more
-only_snoc : (x : ℕ) (s : List ℕ) (y : ℕ) → only x (s ++ (y ∷ [])) ≡ (only x s && eqb y x)
-unfolding only
-only_snoc x [] y = and-true (eqb y x)
-only_snoc x (z ∷ s) y = rw (only_snoc x s y) (sym (and_assoc (eqb z x) (only x s) (eqb y x)))
-
-only-more : (x : ℕ) (s : List ℕ) (i : ℕ) → i < length s → (only x (take i s) && eqb (get_or s i 0) x) ≡ only x (take (i + 1) s)
-only-more x s i h = sym (rw (add-one, take-suc s i 0 h) (only_snoc x (take i s) (get_or s i 0)))
 
 -- every bit of two octets is set where both are FF
 and-unused : (a b : ℕ) → a ≤ unused → b ≤ unused → eqb (bit_and a b) unused ≡ (eqb a unused && eqb b unused)
@@ -43,10 +37,18 @@ and-unused a b h k =
     let f = both (eqb a unused) (eqb b unused) e in
     rw (eqb-true a unused f.0, eqb-true b unused f.1) refl)
 
--- where x has the bits that all those before it have
-pub bits_more : (s : List ℕ) (i : ℕ) → i < length s → get_or s i 0 ≤ unused → (x : ℕ) → x ≤ unused → eqb x unused ≡ only unused (take i s)
-    → eqb (bit_and x (get_or s i 0)) unused ≡ only unused (take (i + 1) s)
-bits_more s i h k x f e = and-unused x (get_or s i 0) f k ∙ rw e (only-more unused s i h)
+-- and of all that a fold joins, where each is an octet
+unused-from : (a : ℕ) (s : List ℕ) → a ≤ unused → ((i : ℕ) → get_or s i 0 ≤ unused) → eqb (fold bit_and a s) unused ≡ (eqb a unused && only unused s)
+unfolding only
+unused-from a [] h o = sym (and-true (eqb a unused))
+unused-from a (x ∷ s) h o =
+    let k : x ≤ unused = o 0 in
+    unused-from (bit_and a x) s (omega (arith, and_le_l a x)) (λ i. o (suc i))
+    ∙ ap (λ (b : Bool). b && only unused s) (and-unused a x h k)
+    ∙ and_assoc (eqb a unused) (eqb x unused) (only unused s)
+
+pub unused_fold : (s : List ℕ) → ((i : ℕ) → get_or s i 0 ≤ unused) → eqb (fold bit_and unused s) unused ≡ only unused s
+unused_fold s o = unused-from unused s (omega arith) o
 
 -- what is left of a page from the place i
 abbrev pub left : ℕ → List ℕ → List ℕ
@@ -97,6 +99,21 @@ only-append x (y ∷ a) b = rw (only-append x a b) (sym (and_assoc (eqb y x) (on
 pub only_part : (x : ℕ) (s : List ℕ) (i n : ℕ) → (only x (take i s) && only x (take n (drop i s))) ≡ only x (take (i + n) s)
 only_part x s i n = sym (ap (only x) (take-add i n s) ∙ only-append x (take i s) (take n (drop i s)))
 
+-- all parts of a list that a fold joins
+pub parts_fold : (x n k : ℕ) (s : List ℕ) (a : Bool) → fold (λ (b : Bool) (t : List ℕ). b && only x t) a (first_chunks n k s) ≡ (a && only x (take (k * n) s))
+unfolding only
+parts_fold x n zero s a =
+    let e : zero * n ≡ 0 = omega arith in
+    rw e (sym (and-true a))
+parts_fold x n (suc k) s a =
+    let e : n + k * n ≡ suc k * n = omega arith in
+    parts_fold x n k (drop n s) (a && only x (take n s))
+    ∙ and_assoc a (only x (take n s)) (only x (take (k * n) (drop n s)))
+    ∙ ap (λ (b : Bool). a && b) (only_part x s n (k * n) ∙ ap (λ (m : ℕ). only x (take m s)) e)
+
+pub parts_and_rest : (x n k : ℕ) (s : List ℕ) → (only x (take (k * n) s) && only x (drop (k * n) s)) ≡ only x s
+parts_and_rest x n k s = sym (only-append x (take (k * n) s) (drop (k * n) s)) ∙ ap (only x) (take-append-drop (k * n) s)
+
 only_at : (x : ℕ) (s : List ℕ) → only x s ≡ true → (i : ℕ) → i < length s → get_or s i 0 ≡ x
 unfolding only
 only_at x [] h i k = absurd (omega arith)
@@ -125,7 +142,32 @@ leading_next (x ∷ s) zero e h = by_eq x used (λ z. absurd (omega (arith, lead
 leading_next (x ∷ s) (suc i) e h =
     by_eq x used (λ z. leading_next s i (omega (arith, leading_yes x s z)) (omega arith)) (λ n. absurd (omega (arith, leading_no x s n)))
 
+-- in a run no 00 comes after another octet, and where the 00 end is their count
+run_parted : (t : List ℕ) → is_run t ≡ true → IsPartitionedBy (λ (x : ℕ). eqb x used) t
+run_parted t r i j d h k e =
+    let below : j < leading t =
+    by_lt j (leading t)
+    (λ b. b)
+    (λ b. absurd (omega (arith, run_after t r j b k, get_or_default t j d 0 k, eqb-true (get_or t j d) used e))) in
+    eq-eqb _ _ (get_or_default t i d 0 (omega arith) ∙ leading_below t i (omega arith))
+
+point_is : (t : List ℕ) (n : ℕ) → n ≤ length t → IsPartitionPoint (λ (x : ℕ). eqb x used ≡ true) (λ (x : ℕ). eqb x used ≡ false) t n → n ≡ leading t
+point_is t n h p =
+    by_lt n (leading t)
+    (λ b. absurd (false≢true (sym (p.1 n 0 (omega arith) (omega (arith, leading≤ t))) ∙ eq-eqb _ _ (leading_below t n b))))
+    (λ b. by_lt (leading t) n
+    (λ c. absurd (leading_next t (leading t) refl (omega arith) (eqb-true _ _ (p.0 (leading t) 0 (omega arith) c))))
+    (λ c. omega arith))
+
 module _ (s : List ℕ) (l : page_size ≤ length s) where
+  pub page-parted : runs s ≡ true → IsPartitionedBy (λ (x : ℕ). eqb x used) (take page_size s)
+  unfolding runs
+  page-parted r = run_parted (take page_size s) r
+
+  pub point-count : (n : ℕ) → n ≤ page_size → IsPartitionPoint (λ (x : ℕ). eqb x used ≡ true) (λ (x : ℕ). eqb x used ≡ false) (take page_size s) n → n ≡ count s
+  unfolding count
+  point-count n h p = point_is (take page_size s) n (omega (arith, length-take-le page_size s l)) p
+
   -- the page, cut at c
   cut : (c : ℕ) → c ≤ page_size → take page_size s ≡ take c s ++ left c s
   cut c h =
@@ -163,13 +205,6 @@ module _ (s : List ℕ) (l : page_size ≤ length s) where
       by_lt i (count s)
       (λ h. absurd (n (sym (get_or-take page_size s i 0 k) ∙ leading_below (take page_size s) i h)))
       (λ h. h)
-
-  pub at_least : runs s ≡ true → (i : ℕ) → get_or s i 0 ≡ used → i < page_size → i < count s
-  unfolding runs count
-  at_least r i e k =
-      by_lt i (count s)
-      (λ h. h)
-      (λ h. absurd (omega (arith, e, get_or-take page_size s i 0 k, run_after (take page_size s) r i h (omega (arith, length-take-le page_size s l)))))
 
   pub goes-not : (n : ℕ) → last_incarnation < n → false ≡ goes_with n s
   goes-not n h = alike _ _ (λ r. absurd (false≢true r)) (λ r. absurd (omega (arith, goes_last n s l r)))

@@ -15,30 +15,19 @@ pub const UNUSED: u8 = 255;
 // So many octets are scanned at once where there are as many.
 const PART: usize = 512;
 
-// Whether all of s is FF: then every octet has every bit. The loop has no branch, so that it takes many octets at once.
+// Whether all of s is FF: then every octet has every bit. The fold has no branch, so that it takes many octets at once.
 fn is_unused(s: &[u8]) -> bool
     ensures { result ≡ only unused s.now }
 {
-    let mut bits = UNUSED;
-    let mut i = 0;
-    while i < s.len() {
-        bits = bits & s[i];
-        i += 1;
-    }
-    bits == UNUSED
+    s.iter().fold(UNUSED, |bits, x| bits & *x) == UNUSED
 }
 
 // The same of a long s, part by part: a scan of a fixed length takes the machine fewer instructions an octet.
 fn are_unused(s: &[u8]) -> bool
     ensures { result ≡ only unused s.now }
 {
-    let mut all = true;
-    let mut i = 0;
-    while s.len() - i >= PART {
-        all = all & is_unused(&s[i..i + PART]);
-        i += PART;
-    }
-    all & is_unused(&s[i..])
+    let (parts, rest) = s.as_chunks::<PART>();
+    parts.iter().fold(true, |all, part| all & is_unused(part)) & is_unused(rest)
 }
 
 // Whether so many octets of a page are 00, and all others FF.
@@ -54,17 +43,7 @@ pub fn count_used(page: &[u8]) -> usize
     requires { page_size ≤ length page.now }
     ensures { (result ≤ page_size) × (runs page.now ≡ true → result ≡ count page.now) }
 {
-    let mut low = 0;
-    let mut high = PAGE_SIZE;
-    while low < high {
-        let middle = low + (high - low) / 2;
-        if page[middle] == USED {
-            low = middle + 1;
-        } else {
-            high = middle;
-        }
-    }
-    low
+    page[..PAGE_SIZE].partition_point(|x| *x == USED)
 }
 
 // Question 15 of a restart: is the page a run of 00 followed only by FF?
