@@ -5,6 +5,7 @@ use Rattle.octets.specs.Test.{when, all_below, zeros}
 use Rattle.octets.specs.Octets.{lay}
 use Rattle.step_rules.specs.declared.Numbers.{Numbers}
 use Rattle.endpoint.specs.declared.Endpoint.{Endpoint}
+use Rattle.endpoint.specs.declared.Parts.{Parts}
 use Rattle.endpoint.specs.Sound.{unused_at}
 use Rattle.endpoint.specs.Record.{numbers_layout}
 
@@ -32,6 +33,10 @@ record_of n l b hl hb =
       held_lengths = hl;
       held_blocks = hb;
     }
+
+-- the record of these parts, where they lie
+abbrev pub whole : Parts → Endpoint
+whole p = record_of p.numbers p.queue.lengths.now p.queue.blocks.now p.held.lengths.now p.held.blocks.now
 
 -- its numbers, and their octets
 abbrev pub numbers_of : Endpoint → Numbers

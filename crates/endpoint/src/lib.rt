@@ -1,6 +1,8 @@
 // The record of one end of a connection: a struct, question 12, and its octets.
 #![tactic(auto)]
 
+mod slots;
+
 ghost use Rattle.std.specs.Prelude.{◌≡◌, ◌&&◌, ◌+◌, ◌-◌, ◌≤◌, ◌<◌, length, take, drop};
 ghost use Rattle.octets.specs.Sizes.{longest_block, queue_size, held_size, last_number, page_size};
 ghost use Rattle.octets.specs.Test.{zeros};
@@ -11,8 +13,9 @@ ghost use Rattle.protocol.specs.Restart.{restarted};
 ghost use Rattle.endpoint.specs.View.{places_size, pack};
 ghost use Rattle.endpoint.specs.Sound.{unused_ok, sound};
 ghost use Rattle.endpoint.specs.Record.{record_size, encode, decode};
-ghost use Rattle.endpoint.specs.Internal.{place_ok, places_ok, record_of, numbers_of, numbers_in};
+ghost use Rattle.endpoint.specs.Internal.{place_ok, places_ok, whole, numbers_of, numbers_in};
 
+pub use slots::Slots;
 use step_rules::{CLOSED, CLOSING, ESTABLISHED, LISTENING, Numbers, PASSIVE_OPENING};
 
 // The octets of eight places, which are one flat array: 512.
@@ -93,6 +96,40 @@ impl Endpoint {
         e.local = used as u32 * octets::NUMBERS_EACH;
         e
     }
+
+    // Its parts, where they lie.
+    pub fn parts<'a>(&'a self) -> Parts<'a>
+        ensures { whole result ≡ self.now }
+    {
+        Parts {
+            numbers: Numbers::from(*self),
+            queue: Slots {
+                lengths: &self.lengths,
+                blocks: &self.blocks,
+            },
+            held: Slots {
+                lengths: &self.held_lengths,
+                blocks: &self.held_blocks,
+            },
+        }
+    }
+}
+
+impl From<Endpoint> for Numbers {
+    ghost use Rattle.endpoint.specs.Internal.{numbers_of};
+
+    ghost from_gives = { λ e n. n ≡ numbers_of e };
+
+    fn from(e: Endpoint) -> Numbers {
+        Numbers {
+            state: e.state,
+            local: e.local,
+            remote: e.remote,
+            accepted: e.accepted,
+            delivered: e.delivered,
+            waiting: e.waiting,
+        }
+    }
 }
 
 // Question 12, a part at a time: the numbers. Most records are in open, where four tests are left; outside it nothing waits, so that w ≤ 8 and
@@ -127,11 +164,12 @@ fn rest_ok(n: u8, blocks: &[u8], at: usize) -> bool
 
 // Place i, where each of the first filled places has a block, and none from used on: a block is up to 64 long, and zeros follow it. A place
 // without a block and one that a block fills are asked by themselves, since that is quicker.
-fn place_ok(filled: usize, used: usize, lengths: &[u8], blocks: &[u8], i: usize) -> bool
-    requires { (length blocks.now ≡ places_size) × ((length lengths.now ≡ queue_size) × (i < queue_size)) }
-    ensures { result ≡ place_ok filled used lengths.now blocks.now i }
+fn place_ok<'a>(filled: usize, used: usize, places: Slots<'a>, i: usize) -> bool
+    requires { i < queue_size }
+    ensures { result ≡ place_ok filled used places.entry.lengths.now places.entry.blocks.now i }
 {
-    let n = octets::wide(lengths[i]);
+    let n = octets::wide(places.lengths[i]);
+    let blocks = places.blocks;
     let at = i * Endpoint::LONGEST_BLOCK;
     if n == 0 {
         if i < filled {
@@ -148,15 +186,14 @@ fn place_ok(filled: usize, used: usize, lengths: &[u8], blocks: &[u8], i: usize)
     if n == Endpoint::LONGEST_BLOCK {
         return true;
     }
-    rest_ok(lengths[i], blocks, at)
+    rest_ok(places.lengths[i], blocks, at)
 }
 
-fn places_ok(filled: usize, used: usize, lengths: &[u8], blocks: &[u8]) -> bool
-    requires { (length blocks.now ≡ places_size) × (length lengths.now ≡ queue_size) }
-    ensures { result ≡ places_ok filled used lengths.now blocks.now }
+fn places_ok<'a>(filled: usize, used: usize, places: Slots<'a>) -> bool
+    ensures { result ≡ places_ok filled used places.entry.lengths.now places.entry.blocks.now }
 {
     for i in 0..octets::QUEUE_SIZE {
-        if !place_ok(filled, used, lengths, blocks, i) {
+        if !place_ok(filled, used, places, i) {
             return false;
         }
     }
@@ -164,8 +201,7 @@ fn places_ok(filled: usize, used: usize, lengths: &[u8], blocks: &[u8]) -> bool
 }
 
 // No held number, which is delivered + i at place i, is above 4294967294: the places from there on hold nothing.
-fn held_numbers_ok(delivered: u32, lengths: &[u8]) -> bool
-    requires { length lengths.now ≡ held_size }
+fn held_numbers_ok(delivered: u32, lengths: &[u8; octets::HELD_SIZE]) -> bool
     ensures { result ≡ zeros (drop (last_number - delivered) lengths.now) }
 {
     let left = (octets::LAST_NUMBER - delivered) as usize;
@@ -175,47 +211,50 @@ fn held_numbers_ok(delivered: u32, lengths: &[u8]) -> bool
     octets::is_clear(&lengths[left..])
 }
 
-// The held places. Where nothing is held, all of them are unused: one run. The sizes are written out, so that the compiler knows them.
-fn held_ok(state: u8, delivered: u32, lengths: &[u8], blocks: &[u8]) -> bool
-    requires { (length blocks.now ≡ places_size) × (length lengths.now ≡ held_size) }
-    ensures { result ≡ (all_of (held_sound state delivered lengths.now) && unused_ok lengths.now blocks.now) }
+// The held places. Where nothing is held, all of them are unused: one run.
+fn held_ok<'a>(state: u8, delivered: u32, held: Slots<'a>) -> bool
+    ensures { result ≡ (all_of (held_sound state delivered held.entry.lengths.now) && unused_ok held.entry.lengths.now held.entry.blocks.now) }
 {
-    if octets::is_clear(&lengths[0..octets::HELD_SIZE]) {
-        return octets::is_clear(&blocks[0..PLACES_SIZE]);
+    let lengths = held.lengths;
+    let blocks = held.blocks;
+    if octets::is_clear(lengths) {
+        return octets::is_clear(blocks);
     }
     (state == ESTABLISHED)
-        & (held_numbers_ok(delivered, lengths) & places_ok(0, octets::HELD_SIZE, lengths, blocks))
+        & (held_numbers_ok(delivered, lengths) & places_ok(0, octets::HELD_SIZE, held))
 }
 
-// Question 12: is the record of these numbers, lengths and blocks sound?
-pub fn is_sound<'a>(
-    n: Numbers,
-    lengths: &'a [u8],
-    blocks: &'a [u8],
-    held_lengths: &'a [u8],
-    held_blocks: &'a [u8],
-) -> bool
-    requires { ((length blocks.now ≡ places_size) × (length lengths.now ≡ queue_size)) × ((length held_blocks.now ≡ places_size) × (length held_lengths.now ≡ held_size)) }
-    ensures { result ≡ sound (record_of n lengths.now blocks.now held_lengths.now held_blocks.now) }
-{
-    if !numbers_ok(n) {
-        return false;
+// The parts of a record, where they lie: its numbers, the places of the blocks that wait, and those of the held ones.
+#[derive(Clone, Copy)]
+pub struct Parts<'a> {
+    pub numbers: Numbers,
+    pub queue: Slots<'a>,
+    pub held: Slots<'a>,
+}
+
+impl<'a> Parts<'a> {
+    // Those of the record at the start of s.
+    pub fn load(s: &'a [u8]) -> Parts<'a>
+        requires { record_size ≤ length s.now }
+        ensures { whole result ≡ decode s.now }
+    {
+        Parts {
+            numbers: load_numbers(s),
+            queue: Slots::load(s, LENGTHS_AT),
+            held: Slots::load(s, HELD_LENGTHS_AT),
+        }
     }
-    let waiting = octets::wide(n.waiting);
-    places_ok(waiting, waiting, lengths, blocks)
-        & held_ok(n.state, n.delivered, held_lengths, held_blocks)
-}
 
-pub fn numbers_of(e: Endpoint) -> Numbers
-    ensures { result ≡ numbers_of e }
-{
-    Numbers {
-        state: e.state,
-        local: e.local,
-        remote: e.remote,
-        accepted: e.accepted,
-        delivered: e.delivered,
-        waiting: e.waiting,
+    // Question 12: is the record of these parts sound?
+    pub fn is_sound(self) -> bool
+        ensures { result ≡ sound (whole self.entry) }
+    {
+        let n = self.numbers;
+        if !numbers_ok(n) {
+            return false;
+        }
+        let waiting = octets::wide(n.waiting);
+        places_ok(waiting, waiting, self.queue) & held_ok(n.state, n.delivered, self.held)
     }
 }
 
@@ -263,7 +302,7 @@ pub fn encode(e: Endpoint, out: &mut [u8])
     requires { record_size ≤ length out.old }
     ensures { out.new ≡ put out.old 0 (encode e) }
 {
-    store_numbers(numbers_of(e), out);
+    store_numbers(Numbers::from(e), out);
     octets::copy(out, LENGTHS_AT, &e.lengths);
     octets::copy(out, BLOCKS_AT, &e.blocks);
     octets::copy(out, HELD_LENGTHS_AT, &e.held_lengths);

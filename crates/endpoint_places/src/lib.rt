@@ -7,26 +7,19 @@ ghost use Rattle.octets.specs.Octets.{put};
 ghost use Rattle.call_spec.specs.declared.Call.TheVariants.{Request};
 ghost use Rattle.step_plan.specs.declared.Places.TheVariants.{Keep, Clear};
 ghost use Rattle.step_plan.specs.Internal.{block_by, block_out, sent_by, Known, Sends};
-ghost use Rattle.endpoint.specs.View.{places_size, place_block};
+ghost use Rattle.endpoint.specs.View.{place_block};
 ghost use Rattle.endpoint_places.specs.Internal.{places_after, PlaceFor, block_from, Handy, HandsUp};
 
 use call_spec::Call;
-use endpoint::Endpoint;
+use endpoint::{Endpoint, Slots};
 use step_plan::{Places, Plan};
 
-// Sends the frame of a plan for the record of these lengths and blocks, and answers its length.
-pub fn send<'a>(
-    p: Plan,
-    joined: &'a [u8],
-    lengths: &'a [u8],
-    blocks: &'a [u8],
-    out: &mut [u8],
-) -> usize
-    requires { Known p.reply × ((length blocks.now ≡ places_size) × ((length lengths.now ≡ queue_size) × ((get_or lengths.now 0 0 ≤ longest_block) × ((length joined.now ≤ longest_block) × (longest_frame ≤ length out.old))))) }
-    ensures { Sends (sent_by p.reply (block_out p.queue joined.now (place_block lengths.now blocks.now 0))) out.old out.new result }
+// Sends the frame of a plan for a record in which these blocks wait, and answers its length.
+pub fn send<'a>(p: Plan, joined: &'a [u8], queue: Slots<'a>, out: &mut [u8]) -> usize
+    requires { Known p.reply × ((get_or queue.lengths.now 0 0 ≤ longest_block) × ((length joined.now ≤ longest_block) × (longest_frame ≤ length out.old))) }
+    ensures { Sends (sent_by p.reply (block_out p.queue joined.now (place_block queue.entry.lengths.now queue.entry.blocks.now 0))) out.old out.new result }
 {
-    let count = octets::wide(lengths[0]);
-    step_plan::send_reply(p, joined, &blocks[0..count], out)
+    step_plan::send_reply(p, joined, queue.first(), out)
 }
 
 // The first places leave: the others move to the front, and zeros follow.
@@ -80,32 +73,25 @@ pub fn change_places(places: Places, width: usize, s: &[u8], d: &mut [u8])
 }
 
 // Copies the block that a request hands up to the start of up, and answers its length: the first of the held ones, with notice 5.
-fn collect<'a>(notice: u8, lengths: &'a [u8], blocks: &'a [u8], up: &mut [u8]) -> usize
-    requires { ((length blocks.now ≡ places_size) × (length lengths.now ≡ held_size)) × (notice ≡ 5 → (get_or lengths.now 0 0 ≤ longest_block) × (longest_block ≤ length up.old)) }
-    ensures { HandsUp Request (block_by notice (place_block lengths.now blocks.now 0)) up.old up.new result }
+fn collect<'a>(notice: u8, held: Slots<'a>, up: &mut [u8]) -> usize
+    requires { notice ≡ 5 → (get_or held.lengths.now 0 0 ≤ longest_block) × (longest_block ≤ length up.old) }
+    ensures { HandsUp Request (block_by notice (place_block held.entry.lengths.now held.entry.blocks.now 0)) up.old up.new result }
 {
     if notice != step_plan::HANDED_UP {
         return 0;
     }
-    let count = octets::wide(lengths[0]);
-    octets::copy(up, 0, &blocks[0..count]);
-    count
+    let block = held.first();
+    octets::copy(up, 0, block);
+    block.len()
 }
 
 // Hands up the block that a notice tells of, and answers its length: a request's is copied to up, one received stays where it is, in its frame.
-pub fn hand_up<'a>(
-    call: Call,
-    notice: u8,
-    lengths: &'a [u8],
-    blocks: &'a [u8],
-    block: &[u8],
-    up: &mut [u8],
-) -> usize
-    requires { ((length blocks.now ≡ places_size) × (length lengths.now ≡ held_size)) × (notice ≡ 5 → Handy call lengths.now (length up.old)) }
-    ensures { HandsUp call (block_by notice (block_from call lengths.now blocks.now block.now)) up.old up.new result }
+pub fn hand_up<'a>(call: Call, notice: u8, held: Slots<'a>, block: &[u8], up: &mut [u8]) -> usize
+    requires { notice ≡ 5 → Handy call held.lengths.now (length up.old) }
+    ensures { HandsUp call (block_by notice (block_from call held.entry.lengths.now held.entry.blocks.now block.now)) up.old up.new result }
 {
     match call {
-        Call::Request => collect(notice, lengths, blocks, up),
+        Call::Request => collect(notice, held, up),
         Call::Receive => step_plan::handed_up(notice, block).len(),
     }
 }

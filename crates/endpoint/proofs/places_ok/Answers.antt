@@ -13,12 +13,12 @@ pub returns-then-not-place_ok : goal.returns-then-not-place_ok
 unfolding places_ok
 returns-then-not-place_ok c =
     let a = c.args in
-    all_fail (place_ok a.filled a.used a.lengths.now a.blocks.now) queue_size c.loop-i.i (omega arith) c.place_ok.ensures c.if-not-place_ok.true
+    all_fail (place_ok a.filled a.used a.places.lengths.now a.places.blocks.now) queue_size c.loop-i.i (omega arith) c.place_ok.ensures c.if-not-place_ok.true
 
 pub loop-i-preserved : goal.loop-i-preserved
 loop-i-preserved c =
     let a = c.args in
-    all_more (place_ok a.filled a.used a.lengths.now a.blocks.now) c.loop-i.i c.loop-i.invariant c.place_ok.ensures c.if-not-place_ok.false
+    all_more (place_ok a.filled a.used a.places.lengths.now a.places.blocks.now) c.loop-i.i c.loop-i.invariant c.place_ok.ensures c.if-not-place_ok.false
 
 pub returns : goal.returns
 unfolding places_ok

@@ -1,8 +1,8 @@
 use Rattle.std.proofs.Common.{refl, sym, ◌∙◌}
 use Rattle.endpoint.specs.Sound.{sound}
-use Rattle.endpoint.specs.Internal.{record_of}
+use Rattle.endpoint.specs.Internal.{whole}
 use Rattle.endpoint.proofs.Sounds.{places_decide}
-use Rattle.endpoint.proofs.is_sound.Goals as goal
+use Rattle.endpoint.proofs.Parts.is_sound.Goals as goal
 
 pub returns-then-not-numbers_ok : goal.returns-then-not-numbers_ok
 unfolding sound
@@ -10,6 +10,4 @@ returns-then-not-numbers_ok c = rw (sym c.numbers_ok.ensures ∙ c.if-not-number
 
 pub returns : goal.returns
 returns c =
-    let a = c.args in
-    places_decide (record_of a.n a.lengths.now a.blocks.now a.held_lengths.now a.held_blocks.now) (sym c.numbers_ok.ensures ∙ c.if-not-numbers_ok.false)
-    (rw c.wide-waiting.ensures.0 at c.places_ok.ensures) c.held_ok.ensures
+    places_decide (whole c.args.self) (sym c.numbers_ok.ensures ∙ c.if-not-numbers_ok.false) (rw c.wide-waiting.ensures.0 at c.places_ok.ensures) c.held_ok.ensures
