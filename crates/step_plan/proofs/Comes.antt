@@ -2,38 +2,63 @@
 use Prim.Native.Nat.{ℕ, zero, suc, ◌+◌, ◌-◌, ◌≤◌, ◌<◌}
 use mathlib.Core.Path.{◌≡◌, refl, sym, ap, ◌∙◌}
 use mathlib.Core.Logic.{◌≢◌}
-use mathlib.Core.Bool.{true, false, false≢true}
+use mathlib.Core.Bool.{Bool, true, false, false≢true}
 use mathlib.Core.List.{List, [], ◌∷◌, ◌++◌}
 use native.Mathlib.Omega.{arith}
 use borrow.Author.Tests.{eqb-true}
 use lib.Dec.{eqb}
 use lib.ListN.{length, drop, get_or, replicate, length-append, length-drop, drop_of_length-le, get_or-eq_default}
-use Rattle.frame.specs.Layout.{is_frame}
-use Rattle.octets.specs.Test.{when, if_eq, in_range, zeros, Outcome, refused, ok, number_of}
+use Rattle.octets.specs.Test.{when, if_eq, zeros, Outcome, ok, number_of}
 use Rattle.octets.specs.Sizes.{longest_block, queue_size, held_size}
-use Rattle.octets.proofs.Test.{both, split, if-eq}
+use Rattle.octets.proofs.Test.{both}
 use Rattle.octets.proofs.Each.{zeros_of}
-use Rattle.frame.specs.Frame.{Block, ACK, data_frame}
+use Rattle.std.specs.Prelude.{Option, Some}
+use Rattle.frame.specs.Frame.{Block, data_frame}
+use Rattle.frame.specs.declared.Kind.TheVariants.{Ack}
+use Rattle.frame.specs.declared.Header.{Header}
 use Rattle.frame.specs.Answer.{header_of}
 use Rattle.protocol.specs.Endpoint.{Endpoint, none_held, lengths_of}
-use Rattle.protocol.specs.Table.{Notice, none, handed_up, notice_number, Step, quiet, says, turned, moved_down, delivering, held_at}
+use Rattle.protocol.specs.Table.{none, connected, rejected, closed_by_partner, close_finished, handed_up, Step, quiet, says, turned, moved_down, delivering, held_at}
 use Rattle.protocol.specs.Table as table
 use Rattle.protocol.specs.Requests.{begun}
 use Rattle.protocol.proofs.Facts.{get_d_moved, none-at}
 use Rattle.protocol.proofs.Sound.{length_at, lengths_length}
 use Rattle.step_rules.specs.declared.Numbers.{Numbers}
 use Rattle.step_rules.specs.Internal.{holding}
-use Rattle.step_plan.specs.declared.Reply.{Reply}
-use Rattle.step_plan.specs.declared.Reply.TheVariants.{Frame}
+use Rattle.step_plan.specs.declared.Notice.{Notice}
+use Rattle.step_plan.specs.declared.Notice.TheVariants.{Nothing, Connected, Rejected, ClosedByPartner, CloseFinished, HandedUp}
 use Rattle.step_plan.specs.declared.Plan.{Plan}
 use Rattle.step_plan.specs.declared.Places.{Places}
-use Rattle.step_plan.specs.declared.Places.TheVariants.{Join}
+use Rattle.step_plan.specs.declared.Places.TheVariants.{Keep, Join, Release, Clear}
 use Rattle.call_spec.specs.Answers.{notice_of, sent_in, endpoint_after}
-use Rattle.step_plan.specs.Internal.{queue_after, held_after, Room, HeldRoom, block_out, sent_by, Known, Comes}
-use Rattle.step_plan.specs.Internal.{refused_plan, keeping, leaving, clearing, emptying, delivering_numbers, handing, turning, beginning, joining, holding_plan, releasing_plan}
+use Rattle.step_plan.specs.Internal.{notice_number, queue_after, held_after, Room, HeldRoom, block_out, sent_by, Comes}
+use Rattle.step_plan.specs.Internal.{keeping, unless_empty, leaving, clearing, emptying, delivering_numbers, handing, turning, beginning, joining, holding_plan, releasing_plan}
+
+-- the notice of a plan, by that of the protocol
+abbrev pub noticed : table.Notice → Notice
+noticed none = Nothing
+noticed connected = Connected
+noticed rejected = Rejected
+noticed closed_by_partner = ClosedByPartner
+noticed close_finished = CloseFinished
+noticed (handed_up b) = HandedUp
+
+numbered : (i : table.Notice) → notice_number (noticed i) ≡ table.notice_number i
+unfolding table.notice_number
+numbered none = refl
+numbered connected = refl
+numbered rejected = refl
+numbered closed_by_partner = refl
+numbered close_finished = refl
+numbered (handed_up b) = refl
+
+-- what holds of places that stay and of those that change, each under its test, holds of what becomes of them
+unless : (P : Places → Type 0) (empty : Bool) (change : Places) → (empty ≡ true → P Keep) → (empty ≡ false → P change) → P (unless_empty empty change)
+unless P true change h g = h refl
+unless P false change h g = g refl
 
 -- an accepted call
-abbrev pub answers : Endpoint → Notice → Reply → Block → Outcome Step
+abbrev pub answers : Endpoint → table.Notice → Option Header → Block → Outcome Step
 answers e i r old = ok (record { endpoint = e; notice = i; sent = sent_by r old })
 
 none_left : (n : Numbers) (q : List Block) → length q ≡ n.waiting → drop n.waiting q ≡ []
@@ -57,9 +82,9 @@ module _ (z : List ℕ) (h : List Block) (lz : lengths_of h ≡ z) (l8 : length 
 
   -- k of them leave, as far as any is held
   left_by : (k : ℕ) (x : Block) → drop k none_held ++ replicate k [] ≡ none_held → held_after (leaving z k) x h ≡ drop k h ++ replicate k []
-  unfolding leaving held_after
+  unfolding held_after
   left_by k x e =
-      split (λ (p : Places). held_after p x h ≡ drop k h ++ replicate k []) (zeros z)
+      unless (λ (p : Places). held_after p x h ≡ drop k h ++ replicate k []) (zeros z) (Release k)
       (λ t. let n : h ≡ none_held = none_in h (ap zeros lz ∙ t) ∙ ap (λ (m : ℕ). replicate m []) eight in rw n (sym e))
       (λ _. refl)
 
@@ -69,9 +94,9 @@ module _ (z : List ℕ) (h : List Block) (lz : lengths_of h ≡ z) (l8 : length 
 
   -- all are written afresh, as far as any is held
   pub cleared_by : (x : Block) → held_after (clearing z) x h ≡ none_held
-  unfolding clearing held_after
+  unfolding held_after
   cleared_by x =
-      split (λ (p : Places). held_after p x h ≡ none_held) (zeros z) (λ t. none_in h (ap zeros lz ∙ t) ∙ ap (λ (m : ℕ). replicate m []) eight) (λ _. refl)
+      unless (λ (p : Places). held_after p x h ≡ none_held) (zeros z) Clear (λ t. none_in h (ap zeros lz ∙ t) ∙ ap (λ (m : ℕ). replicate m []) eight) (λ _. refl)
 
   -- what moves down and stays as it was, or leaves and was not there, is nothing
   none-moved : drop 1 h ++ replicate 1 [] ≡ h → (i j : ℕ) → held_size ≤ i + j → get_or h i [] ≡ []
@@ -89,126 +114,113 @@ module _ (z : List ℕ) (h : List Block) (lz : lengths_of h ≡ z) (l8 : length 
   cleared-held n e = false≢true (sym n ∙ none_held_lem (λ i. ap (λ (l : List Block). get_or l i []) (sym e) ∙ none-at i))
 
   room_by : (k : ℕ) (x : Block) → k ≤ held_size → (zeros z ≡ false → drop k h ++ replicate k [] ≢ h) → HeldRoom (leaving z k) x h
-  unfolding leaving
-  room_by k x e g = split (λ (p : Places). HeldRoom p x h) (zeros z) (λ _. tt) (λ n. (e, g n))
+  room_by k x e g = unless (λ (p : Places). HeldRoom p x h) (zeros z) (Release k) (λ _. tt) (λ n. (e, g n))
 
   pub room_moved : (x : Block) → HeldRoom (leaving z 1) x h
   room_moved x = room_by 1 x (omega arith) still-held
 
   pub room-cleared : (x : Block) → HeldRoom (clearing z) x h
-  unfolding clearing
-  room-cleared x = split (λ (p : Places). HeldRoom p x h) (zeros z) (λ _. tt) cleared-held
+  room-cleared x = unless (λ (p : Places). HeldRoom p x h) (zeros z) Clear (λ _. tt) cleared-held
 
 -- so are the places of the waiting blocks
 module _ (n : Numbers) (q : List Block) (b old : Block) (w : length q ≡ n.waiting) where
   emptied : queue_after (emptying n.waiting) b q ≡ []
-  unfolding emptying queue_after
+  unfolding queue_after
   emptied =
-      if-eq (λ (p : Places). queue_after p b q ≡ []) n.waiting 0 (λ e. ap (λ (k : ℕ). drop k q) (sym e) ∙ none_left n q w) (λ _. refl)
+      unless (λ (p : Places). queue_after p b q ≡ []) (eqb n.waiting 0) Clear
+      (λ t. ap (λ (k : ℕ). drop k q) (sym (eqb-true n.waiting 0 t)) ∙ none_left n q w) (λ _. refl)
 
   room-emptied : Room (emptying n.waiting) b (length q)
-  unfolding emptying
-  room-emptied = if-eq (λ (p : Places). Room p b (length q)) n.waiting 0 (λ _. tt) (λ _. tt)
+  room-emptied = unless (λ (p : Places). Room p b (length q)) (eqb n.waiting 0) Clear (λ _. tt) (λ _. tt)
 
   out-emptied : block_out (emptying n.waiting) b old ≡ old
-  unfolding emptying
-  out-emptied = if-eq (λ (p : Places). block_out p b old ≡ old) n.waiting 0 (λ _. refl) (λ _. refl)
+  out-emptied = unless (λ (p : Places). block_out p b old ≡ old) (eqb n.waiting 0) Clear (λ _. refl) (λ _. refl)
 
 module _ (n : Numbers) (q h : List Block) (b old : Block) (w : length q ≡ n.waiting) {o : Outcome Step} {p : Plan} where
-  pub refuses : (k : ℕ) → o ≡ refused k → p ≡ refused_plan n k → Comes n q h b old o p
-  unfolding number_of notice_of sent_in endpoint_after queue_after held_after sent_by
-  refuses k g e =
-      rw (g, e) (record { number = refl; notice = refl; endpoint = refl; counted = sym w; room = tt; place = tt; known = tt; sent = refl })
-
-  pub keeps : (i : Notice) (r : Reply) → Known r → o ≡ answers (holding n q h) i r old → p ≡ keeping n (notice_number i) r → Comes n q h b old o p
+  pub keeps : (i : table.Notice) (r : Option Header) → o ≡ answers (holding n q h) i r old → p ≡ keeping n (noticed i) r → Comes n q h b old o p
   unfolding number_of notice_of sent_in endpoint_after queue_after held_after
-  keeps i r k g e =
-      rw (g, e) (record { number = refl; notice = refl; endpoint = refl; counted = sym w; room = tt; place = tt; known = k; sent = refl })
+  keeps i r g e =
+      rw (g, e) (record { accepted = refl; notice = numbered i; endpoint = refl; counted = sym w; room = tt; place = tt; sent = refl })
 
-  pub holds : (i : ℕ) → HeldRoom (Join i) b h → o ≡ answers (holding n q (held_at i b h)) none (Frame (header_of ACK n.local n.remote n.delivered)) old
+  pub holds : (i : ℕ) → HeldRoom (Join i) b h → o ≡ answers (holding n q (held_at i b h)) none (Some (header_of Ack n.local n.remote n.delivered)) old
       → p ≡ holding_plan n i → Comes n q h b old o p
-  unfolding number_of notice_of sent_in endpoint_after queue_after held_after notice_number is_frame in_range
+  unfolding number_of notice_of sent_in endpoint_after queue_after held_after table.notice_number
   holds i m g e =
-      rw (g, e) (record { number = refl; notice = refl; endpoint = refl; counted = sym w; room = tt; place = m; known = refl; sent = refl })
+      rw (g, e) (record { accepted = refl; notice = refl; endpoint = refl; counted = sym w; room = tt; place = m; sent = refl })
 
   pub joins : n.waiting < queue_size → 1 ≤ length b → length b ≤ longest_block
       → o ≡ ok (says (record { state = n.state; local = n.local; remote = n.remote; accepted = n.accepted + 1; delivered = n.delivered; queue = q ++ (b ∷ []); held = h }) none (data_frame n.local n.remote n.accepted b))
       → p ≡ joining n → Comes n q h b old o p
-  unfolding number_of notice_of sent_in endpoint_after queue_after held_after sent_by notice_number is_frame in_range if_eq when
+  unfolding number_of notice_of sent_in endpoint_after queue_after held_after sent_by table.notice_number if_eq when
   joins free lo hi g e =
       rw (g, e)
       (record {
-        number = refl;
+        accepted = refl;
         notice = refl;
         endpoint = refl;
         counted = omega (arith, length-append q (b ∷ []));
         room = (sym w, (omega arith, (lo, hi)));
         place = tt;
-        known = refl;
         sent = refl;
       })
 
   module _ (z : List ℕ) (lz : lengths_of h ≡ z) (l8 : length z ≡ held_size) where
-    pub hands : (y : Block) → o ≡ answers (delivering (holding n q h)) (handed_up y) (Frame (header_of ACK n.local n.remote (n.delivered + 1))) old
+    pub hands : (y : Block) → o ≡ answers (delivering (holding n q h)) (handed_up y) (Some (header_of Ack n.local n.remote (n.delivered + 1))) old
         → p ≡ handing n z → Comes n q h b old o p
-    unfolding number_of notice_of sent_in endpoint_after queue_after notice_number is_frame in_range
+    unfolding number_of notice_of sent_in endpoint_after queue_after table.notice_number
     hands y g e =
         rw (g, e)
         (record {
-          number = refl;
+          accepted = refl;
           notice = refl;
           endpoint = ap (λ (l : List Block). holding (delivering_numbers n) q l) (moved_by z h lz l8 b);
           counted = sym w;
           room = tt;
           place = room_moved z h lz l8 b;
-          known = refl;
           sent = refl;
         })
 
-    pub turns : (st d : ℕ) (i : Notice) (r : Reply) → Known r → o ≡ answers (turned st d (holding n q h)) i r old → p ≡ turning n z st d (notice_number i) r
+    pub turns : (st d : ℕ) (i : table.Notice) (r : Option Header) → o ≡ answers (turned st d (holding n q h)) i r old → p ≡ turning n z st d (noticed i) r
         → Comes n q h b old o p
     unfolding number_of notice_of sent_in endpoint_after queue_after
-    turns st d i r k g e =
+    turns st d i r g e =
         rw (g, e)
         (record {
-          number = refl;
-          notice = refl;
+          accepted = refl;
+          notice = numbered i;
           endpoint = λ j. record { state = st; local = n.local; remote = d; accepted = 0; delivered = 0; queue = emptied n q b old w j; held = cleared_by z h lz l8 b j };
           counted = sym (ap length (emptied n q b old w));
           room = room-emptied n q b old w;
           place = room-cleared z h lz l8 b;
-          known = k;
           sent = ap (sent_by r) (out-emptied n q b old w);
         })
 
-    pub begins : (st : ℕ) (r : Reply) → Known r → o ≡ answers (begun st (holding n q h)) none r old → p ≡ beginning n z st r → Comes n q h b old o p
-    unfolding number_of notice_of sent_in endpoint_after queue_after notice_number
-    begins st r k g e =
+    pub begins : (st : ℕ) (r : Option Header) → o ≡ answers (begun st (holding n q h)) none r old → p ≡ beginning n z st r → Comes n q h b old o p
+    unfolding number_of notice_of sent_in endpoint_after queue_after table.notice_number
+    begins st r g e =
         rw (g, e)
         (record {
-          number = refl;
+          accepted = refl;
           notice = refl;
           endpoint = λ j. record { state = st; local = n.local + 1; remote = 0; accepted = 0; delivered = 0; queue = emptied n q b old w j; held = cleared_by z h lz l8 b j };
           counted = sym (ap length (emptied n q b old w));
           room = room-emptied n q b old w;
           place = room-cleared z h lz l8 b;
-          known = k;
           sent = ap (sent_by r) (out-emptied n q b old w);
         })
 
   pub releases : (m : ℕ) → n.waiting ≤ n.accepted → m ≤ n.accepted → o ≡ ok (quiet (table.releasing m (holding n q h)) none)
       → p ≡ releasing_plan n (m - (n.accepted - n.waiting)) → Comes n q h b old o p
-  unfolding number_of notice_of sent_in endpoint_after queue_after held_after sent_by notice_number
+  unfolding number_of notice_of sent_in endpoint_after queue_after held_after sent_by table.notice_number
   releases m lo hi g e =
       let k = m - (n.accepted - n.waiting) in
       rw (g, e)
       (record {
-        number = refl;
+        accepted = refl;
         notice = refl;
         endpoint = ap (λ (j : ℕ). holding n (drop (m - (n.accepted - j)) q) h) (sym w);
         counted = omega (arith, length-drop k q);
         room = omega arith;
         place = tt;
-        known = tt;
         sent = refl;
       })

@@ -1,11 +1,14 @@
 -- A plan: what a call does to the numbers of a record, what becomes of its waiting blocks and of those held, and what is sent. No entry
 -- point's contract needs this.
-use Rattle.std.specs.Prelude.{ℕ, ◌≤◌, ◌<◌, ◌+◌, ◌-◌, ◌≡◌, ◌≢◌, Bool, true, false, ◌&&◌, List, [], ◌∷◌, ◌++◌, eqb, length, drop, get_or, replicate}
+use Rattle.std.specs.Prelude.{ℕ, ◌≤◌, ◌<◌, ◌+◌, ◌-◌, ◌≡◌, ◌≢◌, Bool, true, false, ◌&&◌, List, [], ◌∷◌, ◌++◌, eqb, length, drop, get_or, replicate, Option, Some, None, Result, Ok, Err}
 use Rattle.octets.specs.Sizes.{longest_block, queue_size, held_size}
-use Rattle.octets.specs.Test.{when, if_eq, zeros, Outcome, number_of}
+use Rattle.octets.specs.Test.{when, if_eq, zeros, Outcome, refused, number_of}
 use Rattle.octets.specs.Octets.{put}
-use Rattle.frame.specs.Frame.{Block, DATA, ACK}
-use Rattle.frame.specs.Layout.{is_frame}
+use Rattle.octets.specs.declared.refusal.Refusal.{Refusal}
+use Rattle.octets.specs.Refusal.{refusal_number}
+use Rattle.frame.specs.Frame.{Block}
+use Rattle.frame.specs.declared.Kind.TheVariants.{Data, Ack}
+use Rattle.frame.specs.declared.Header.{Header}
 use Rattle.frame.specs.Answer.{header_of, frame_of}
 use Rattle.protocol.specs.Endpoint.{Endpoint, none_held, lengths_of}
 use Rattle.protocol.specs.Table.{Sent, nothing, frame, Step, held_at}
@@ -15,10 +18,18 @@ use Rattle.step_rules.specs.declared.Numbers.{Numbers}
 use Rattle.step_rules.specs.Internal.{holding}
 use Rattle.step_plan.specs.declared.Places.{Places}
 use Rattle.step_plan.specs.declared.Places.TheVariants.{Keep, Join, Release, Clear}
-use Rattle.step_plan.specs.declared.Reply.{Reply}
-use Rattle.step_plan.specs.declared.Reply.TheVariants as reply
+use Rattle.step_plan.specs.declared.Notice.{Notice}
+use Rattle.step_plan.specs.declared.Notice.TheVariants.{Nothing, Connected, Rejected, ClosedByPartner, CloseFinished, HandedUp}
 use Rattle.step_plan.specs.declared.Plan.{Plan}
-use Rattle.step_plan.specs.declared.Reply.TheVariants.{Nothing, Frame}
+
+-- document 01's number of a notice
+abbrev pub notice_number : Notice → ℕ
+notice_number Nothing = 0
+notice_number Connected = 1
+notice_number Rejected = 2
+notice_number ClosedByPartner = 3
+notice_number CloseFinished = 4
+notice_number HandedUp = 5
 
 -- the block that a notice tells of: with notice 5 that of the DATA received or, of a request, the first of the held ones; else none
 unfoldable pub block_by : ℕ → Block → Block
@@ -59,36 +70,35 @@ block_out (Join i) b old = b
 block_out (Release k) b old = old
 block_out Clear b old = old
 
-unfoldable pub sent_by : Reply → Block → Sent
-sent_by reply.Nothing b = nothing
-sent_by (reply.Frame h) b = frame (frame_of h b)
-
--- what is sent is of a frame's kind
-abbrev pub Known : Reply → Type 0
-Known reply.Nothing = Unit {0}
-Known (reply.Frame h) = is_frame h.kind ≡ true
+unfoldable pub sent_by : Option Header → Block → Sent
+sent_by None b = nothing
+sent_by (Some h) b = frame (frame_of h b)
 
 -- the first of the waiting blocks, if there are any
 abbrev pub Oldest : List Block → Block → Type 0
 Oldest [] old = Unit {0}
 Oldest (b ∷ q) old = b ≡ old
 
--- The plan p comes to the outcome o, of an endpoint with these numbers, the waiting blocks q and the held ones h; b is the block of the message, which
--- joins those that wait or those held, old the oldest that waits.
+-- The plan p, which accepts, comes to the outcome o, of an endpoint with these numbers, the waiting blocks q and the held ones h; b is the block of the
+-- message, which joins those that wait or those held, old the oldest that waits.
 pub record Comes (n : Numbers) (q h : List Block) (b old : Block) (o : Outcome Step) (p : Plan) : Type 0 where
-  pub number : p.number ≡ number_of o
-  pub notice : p.notice ≡ notice_of o
+  pub accepted : number_of o ≡ 0
+  pub notice : notice_number p.notice ≡ notice_of o
   pub endpoint : holding p.numbers (queue_after p.queue b q) (held_after p.held b h) ≡ endpoint_after (holding n q h) o
   pub counted : p.numbers.waiting ≡ length (queue_after p.queue b q)
   pub room : Room p.queue b (length q)
   pub place : HeldRoom p.held b h
-  pub known : Known p.reply
   pub sent : sent_by p.reply (block_out p.queue b old) ≡ sent_in o
 
+-- What a call that may refuse answers: a plan that comes to the outcome, or the refusal that the outcome is.
+abbrev pub ComesOf : Numbers → List Block → List Block → Block → Block → Outcome Step → Result Plan Refusal → Type 0
+ComesOf n q h b old o (Ok p) = Comes n q h b old o p
+ComesOf n q h b old o (Err r) = o ≡ refused (refusal_number r)
+
 -- of every endpoint of these numbers, whose held blocks have the lengths z
-abbrev pub Planned : Numbers → List ℕ → Block → (Endpoint → Outcome Step) → Plan → Type 0
-Planned n z b does p =
-    (q h : List Block) (old : Block) → length q ≡ n.waiting → Oldest q old → lengths_of h ≡ z → Comes n q h b old (does (holding n q h)) p
+abbrev pub Planned : Numbers → List ℕ → Block → (Endpoint → Outcome Step) → Result Plan Refusal → Type 0
+Planned n z b does r =
+    (q h : List Block) (old : Block) → length q ≡ n.waiting → Oldest q old → lengths_of h ≡ z → ComesOf n q h b old (does (holding n q h)) r
 
 -- A plan leaves an end of these numbers as it is: the waiting blocks change only with their count.
 unfoldable pub staying : Places → Bool
@@ -115,89 +125,71 @@ pub record Sends (x : Sent) (out out' : List ℕ) (n : ℕ) : Type 0 where
 
 -- Plans that many rows share.
 
--- nothing is done
-abbrev pub refused_plan : Numbers → ℕ → Plan
-refused_plan n k = record { number = k; numbers = n; queue = Keep; held = Keep; notice = 0; reply = Nothing }
-
 -- the blocks stay
-abbrev pub keeping : Numbers → ℕ → Reply → Plan
-keeping n notice_number reply = record { number = 0; numbers = n; queue = Keep; held = Keep; notice = notice_number; reply = reply }
+abbrev pub keeping : Numbers → Notice → Option Header → Plan
+keeping n notice reply = record { numbers = n; queue = Keep; held = Keep; notice = notice; reply = reply }
+
+-- what becomes of places: where no block is in any, they stay
+abbrev pub unless_empty : Bool → Places → Places
+unless_empty true change = Keep
+unless_empty false change = change
 
 -- the first k held places, of these lengths, leave; where nothing is held, they stay
-unfoldable pub leaving : List ℕ → ℕ → Places
-leaving z k = when (zeros z) Keep (Release k)
+abbrev pub leaving : List ℕ → ℕ → Places
+leaving z k = unless_empty (zeros z) (Release k)
 
 -- every held place, of these lengths, is written afresh, and every place of w waiting blocks; where there is none, they stay
-unfoldable pub clearing : List ℕ → Places
-clearing z = when (zeros z) Keep Clear
+abbrev pub clearing : List ℕ → Places
+clearing z = unless_empty (zeros z) Clear
 
-unfoldable pub emptying : ℕ → Places
-emptying w = if_eq w 0 Keep Clear
+abbrev pub emptying : ℕ → Places
+emptying w = unless_empty (eqb w 0) Clear
 
 -- one block more is handed up, and the held places move down
 abbrev pub delivering_numbers : Numbers → Numbers
-delivering_numbers n =
-    record { state = n.state; local = n.local; remote = n.remote; accepted = n.accepted; delivered = n.delivered + 1; waiting = n.waiting }
+delivering_numbers n = record n { delivered = n.delivered + 1 }
 
 abbrev pub handing : Numbers → List ℕ → Plan
 handing n z =
     record {
-      number = 0;
       numbers = delivering_numbers n;
       queue = Keep;
       held = leaving z 1;
-      notice = 5;
-      reply = Frame (header_of ACK n.local n.remote (n.delivered + 1));
+      notice = HandedUp;
+      reply = Some (header_of Ack n.local n.remote (n.delivered + 1));
     }
 
 -- all blocks leave, in the same incarnation and in the next
-abbrev pub turning : Numbers → List ℕ → ℕ → ℕ → ℕ → Reply → Plan
-turning n z st d notice_number reply =
+abbrev pub turning : Numbers → List ℕ → ℕ → ℕ → Notice → Option Header → Plan
+turning n z st d notice reply =
     record {
-      number = 0;
       numbers = record { state = st; local = n.local; remote = d; accepted = 0; delivered = 0; waiting = 0 };
       queue = emptying n.waiting;
       held = clearing z;
-      notice = notice_number;
+      notice = notice;
       reply = reply;
     }
 
-abbrev pub beginning : Numbers → List ℕ → ℕ → Reply → Plan
-beginning n z st reply =
-    record {
-      number = 0;
-      numbers = record { state = st; local = n.local + 1; remote = 0; accepted = 0; delivered = 0; waiting = 0 };
-      queue = emptying n.waiting;
-      held = clearing z;
-      notice = 0;
-      reply = reply;
-    }
+abbrev pub beginning : Numbers → List ℕ → ℕ → Option Header → Plan
+beginning n z st reply = turning (record n { local = n.local + 1 }) z st 0 Nothing reply
 
 -- a block more waits
 abbrev pub joining : Numbers → Plan
 joining n =
     record {
-      number = 0;
-      numbers = record { state = n.state; local = n.local; remote = n.remote; accepted = n.accepted + 1; delivered = n.delivered; waiting = n.waiting + 1 };
+      numbers = record n { accepted = n.accepted + 1; waiting = n.waiting + 1 };
       queue = Join n.waiting;
       held = Keep;
-      notice = 0;
-      reply = Frame (header_of DATA n.local n.remote n.accepted);
+      notice = Nothing;
+      reply = Some (header_of Data n.local n.remote n.accepted);
     }
 
 -- the frame's block is held at place i
 abbrev pub holding_plan : Numbers → ℕ → Plan
 holding_plan n i =
-    record { number = 0; numbers = n; queue = Keep; held = Join i; notice = 0; reply = Frame (header_of ACK n.local n.remote n.delivered) }
+    record { numbers = n; queue = Keep; held = Join i; notice = Nothing; reply = Some (header_of Ack n.local n.remote n.delivered) }
 
 -- the k oldest blocks leave
 abbrev pub releasing_plan : Numbers → ℕ → Plan
 releasing_plan n k =
-    record {
-      number = 0;
-      numbers = record { state = n.state; local = n.local; remote = n.remote; accepted = n.accepted; delivered = n.delivered; waiting = n.waiting - k };
-      queue = Release k;
-      held = Keep;
-      notice = 0;
-      reply = Nothing;
-    }
+    record { numbers = record n { waiting = n.waiting - k }; queue = Release k; held = Keep; notice = Nothing; reply = None }

@@ -4,31 +4,34 @@
 ghost use Rattle.std.specs.Prelude.{◌≡◌, ◌-◌, ◌≤◌, ◌<◌, length, get_or};
 ghost use Rattle.octets.specs.Sizes.{longest_frame, longest_block, queue_size, held_size, last_number, last_incarnation};
 ghost use Rattle.octets.specs.Test.{if_eq};
-ghost use Rattle.frame.specs.Frame.{ACK};
 ghost use Rattle.frame.specs.Answer.{header_of};
 ghost use Rattle.call_spec.specs.Answers.{block_part};
-ghost use Rattle.step_plan.specs.Internal.{block_by, block_out, sent_by, Known, staying, same_numbers, leaves_alone, Sends};
-ghost use Rattle.step_plan.specs.Internal.{refused_plan, keeping, leaving, clearing, emptying, handing, turning, beginning, joining, holding_plan, releasing_plan};
+ghost use Rattle.step_plan.specs.Internal.{notice_number, block_by, block_out, sent_by, leaves_alone, Sends, unless_empty};
+ghost use Rattle.step_plan.specs.Internal.{keeping, handing, turning, beginning, joining, holding_plan, releasing_plan};
 
 use call_spec::Call;
-use frame::{ACK, DATA, Header};
+use frame::{Header, Kind};
 use step_rules::Numbers;
 
-// The number of an answer that refuses nothing.
-pub const ACCEPTED: u8 = 0;
+// The indications of an answer, document 01's notices. A refusal has Nothing too.
+#[derive(Clone, Copy, Debug, PartialEq, Eq)]
+pub enum Notice {
+    Nothing = 0,
+    Connected = 1,
+    Rejected = 2,
+    ClosedByPartner = 3,
+    CloseFinished = 4,
+    HandedUp = 5,
+}
 
-// The indications of an answer, document 01's notices; NONE is for a refusal too.
-pub const NONE: u8 = 0;
-
-pub const CONNECTED: u8 = 1;
-
-pub const REJECTED: u8 = 2;
-
-pub const CLOSED_BY_PARTNER: u8 = 3;
-
-pub const CLOSE_FINISHED: u8 = 4;
-
-pub const HANDED_UP: u8 = 5;
+impl Notice {
+    // Its number in document 01.
+    pub fn number(self) -> u8
+        ensures { result ≡ notice_number self }
+    {
+        self as u8
+    }
+}
 
 // What becomes of places for blocks: they stay; all are written afresh; a block joins at this place; so many of the first leave, and the others
 // move down. (In this order a call takes the machine fewer instructions.)
@@ -40,88 +43,20 @@ pub enum Places {
     Release(usize),
 }
 
-// What is sent. A DATA carries the block that joins, or, where none does, the oldest that waits.
-#[derive(Clone, Copy)]
-pub enum Reply {
-    Nothing,
-    Frame(Header),
-}
-
-// number is document 01's number of the refusal, 0 for success; numbers the new ones of the record; queue what becomes of the waiting
-// blocks, where a send's block joins; held what becomes of the held ones, where a DATA's block does; notice the number of its notice.
-#[derive(Clone, Copy)]
-pub struct Plan {
-    pub number: u8,
-    pub numbers: Numbers,
-    pub queue: Places,
-    pub held: Places,
-    pub notice: u8,
-    pub reply: Reply,
-}
-
-// A refusal changes nothing.
-pub fn refuse(given: Numbers, number: u8) -> Plan
-    ensures { result ≡ refused_plan given number }
-{
-    Plan {
-        number,
-        numbers: given,
-        queue: Places::Keep,
-        held: Places::Keep,
-        notice: NONE,
-        reply: Reply::Nothing,
+impl Places {
+    // Where no block is in any place, nothing need change.
+    fn unless_empty(empty: bool, change: Places) -> Places
+        ensures { result ≡ unless_empty empty change }
+    {
+        if empty { Places::Keep } else { change }
     }
 }
 
-// The blocks stay, with these numbers.
-pub fn keep(n: Numbers, notice: u8, reply: Reply) -> Plan
-    ensures { result ≡ keeping n notice reply }
+// A frame of these numbers; one with two numbers only has 0 for the last.
+pub fn say(kind: Kind, sender: u32, quoted: u32, number: u32) -> Option<Header>
+    ensures { result ≡ Some (header_of kind sender quoted number) }
 {
-    Plan {
-        number: ACCEPTED,
-        numbers: n,
-        queue: Places::Keep,
-        held: Places::Keep,
-        notice,
-        reply,
-    }
-}
-
-// So many of the held places leave, whose lengths these are. Where nothing is held, nothing need move.
-pub fn leave(held: &[u8], gone: usize) -> Places
-    ensures { result ≡ leaving held.now gone }
-{
-    if octets::is_clear(held) {
-        return Places::Keep;
-    }
-    Places::Release(gone)
-}
-
-// Every held place is written afresh, of those whose lengths these are, and every place of so many waiting blocks. Where there is no block,
-// nothing need be.
-pub fn clear_held(held: &[u8]) -> Places
-    ensures { result ≡ clearing held.now }
-{
-    if octets::is_clear(held) {
-        return Places::Keep;
-    }
-    Places::Clear
-}
-
-pub fn clear_queue(waiting: u8) -> Places
-    ensures { result ≡ emptying waiting }
-{
-    if waiting == 0 {
-        return Places::Keep;
-    }
-    Places::Clear
-}
-
-// A frame of these numbers is sent; one with two numbers only has 0 for the last.
-pub fn say(kind: u8, sender: u32, quoted: u32, number: u32) -> Reply
-    ensures { result ≡ Reply.Frame (header_of kind sender quoted number) }
-{
-    Reply::Frame(Header {
+    Some(Header {
         kind,
         sender,
         quoted,
@@ -129,176 +64,162 @@ pub fn say(kind: u8, sender: u32, quoted: u32, number: u32) -> Reply
     })
 }
 
-// One block more is handed up, the frame's or the held one: e + 1, and the held places, whose lengths these are, move down.
-pub fn hand_up(n: Numbers, held: &[u8]) -> Plan
-    requires { n.delivered < last_number }
-    ensures { result ≡ handing n held.now }
-{
-    let count = n.delivered + 1;
-    Plan {
-        number: ACCEPTED,
-        numbers: Numbers {
-            state: n.state,
-            local: n.local,
-            remote: n.remote,
-            accepted: n.accepted,
-            delivered: count,
-            waiting: n.waiting,
-        },
-        queue: Places::Keep,
-        held: leave(held, 1),
-        notice: HANDED_UP,
-        reply: say(ACK, n.local, n.remote, count),
-    }
+// A call that is accepted: numbers are the new ones of the record; queue is what becomes of the waiting blocks, where a send's block joins; held what
+// becomes of the held ones, where a DATA's block does; reply the frame that is sent, if one is. A DATA carries the block that joins, or, where none
+// does, the oldest that waits.
+#[derive(Clone, Copy)]
+pub struct Plan {
+    pub numbers: Numbers,
+    pub queue: Places,
+    pub held: Places,
+    pub notice: Notice,
+    pub reply: Option<Header>,
 }
 
-// The same incarnation in another state, with this partner. Only an open end has blocks, and it begins with none: all leave.
-pub fn turn(n: Numbers, held: &[u8], state: u8, remote: u32, notice: u8, reply: Reply) -> Plan
-    ensures { result ≡ turning n held.now state remote notice reply }
-{
-    Plan {
-        number: ACCEPTED,
-        numbers: Numbers {
-            state,
-            local: n.local,
-            remote,
-            accepted: 0,
-            delivered: 0,
-            waiting: 0,
-        },
-        queue: clear_queue(n.waiting),
-        held: clear_held(held),
-        notice,
-        reply,
+// In these plans n are the numbers of the record, and held has the lengths of the held places.
+impl Plan {
+    // The blocks stay, with these numbers.
+    pub fn keep(n: Numbers, notice: Notice, reply: Option<Header>) -> Plan
+        ensures { result ≡ keeping n notice reply }
+    {
+        Plan {
+            numbers: n,
+            queue: Places::Keep,
+            held: Places::Keep,
+            notice,
+            reply,
+        }
     }
-}
 
-// The next incarnation in this state, with no partner known.
-pub fn begin(n: Numbers, held: &[u8], state: u8, reply: Reply) -> Plan
-    requires { n.local < last_incarnation }
-    ensures { result ≡ beginning n held.now state reply }
-{
-    Plan {
-        number: ACCEPTED,
-        numbers: Numbers {
-            state,
+    // One block more is handed up, the frame's or the held one: e + 1, and the held places move down.
+    pub fn hand_up(n: Numbers, held: &[u8]) -> Plan
+        requires { n.delivered < last_number }
+        ensures { result ≡ handing n held.now }
+    {
+        let delivered = n.delivered + 1;
+        Plan {
+            numbers: Numbers { delivered, ..n },
+            queue: Places::Keep,
+            held: Places::unless_empty(octets::is_clear(held), Places::Release(1)),
+            notice: Notice::HandedUp,
+            reply: say(Kind::Ack, n.local, n.remote, delivered),
+        }
+    }
+
+    // The same incarnation in another state, with this partner. Only an open end has blocks, and it begins with none: all leave.
+    pub fn turn(
+        n: Numbers,
+        held: &[u8],
+        state: u8,
+        remote: u32,
+        notice: Notice,
+        reply: Option<Header>,
+    ) -> Plan
+        ensures { result ≡ turning n held.now state remote notice reply }
+    {
+        Plan {
+            numbers: Numbers {
+                state,
+                local: n.local,
+                remote,
+                accepted: 0,
+                delivered: 0,
+                waiting: 0,
+            },
+            queue: Places::unless_empty(n.waiting == 0, Places::Clear),
+            held: Places::unless_empty(octets::is_clear(held), Places::Clear),
+            notice,
+            reply,
+        }
+    }
+
+    // The next incarnation in this state, with no partner known.
+    pub fn begin(n: Numbers, held: &[u8], state: u8, reply: Option<Header>) -> Plan
+        requires { n.local < last_incarnation }
+        ensures { result ≡ beginning n held.now state reply }
+    {
+        let next = Numbers {
             local: n.local + 1,
-            remote: 0,
-            accepted: 0,
-            delivered: 0,
-            waiting: 0,
-        },
-        queue: clear_queue(n.waiting),
-        held: clear_held(held),
-        notice: NONE,
-        reply,
+            ..n
+        };
+        Plan::turn(next, held, state, 0, Notice::Nothing, reply)
     }
-}
 
-// A block joins the waiting ones as number t; then t + 1.
-pub fn join(n: Numbers) -> Plan
-    requires { (n.accepted < last_number) × (n.waiting < queue_size) }
-    ensures { result ≡ joining n }
-{
-    Plan {
-        number: ACCEPTED,
-        numbers: Numbers {
-            state: n.state,
-            local: n.local,
-            remote: n.remote,
-            accepted: n.accepted + 1,
-            delivered: n.delivered,
-            waiting: n.waiting + 1,
-        },
-        queue: Places::Join(n.waiting as usize),
-        held: Places::Keep,
-        notice: NONE,
-        reply: say(DATA, n.local, n.remote, n.accepted),
+    // A block joins the waiting ones as number t; then t + 1.
+    pub fn join(n: Numbers) -> Plan
+        requires { (n.accepted < last_number) × (n.waiting < queue_size) }
+        ensures { result ≡ joining n }
+    {
+        Plan {
+            numbers: Numbers {
+                accepted: n.accepted + 1,
+                waiting: n.waiting + 1,
+                ..n
+            },
+            queue: Places::Join(n.waiting as usize),
+            held: Places::Keep,
+            notice: Notice::Nothing,
+            reply: say(Kind::Data, n.local, n.remote, n.accepted),
+        }
     }
-}
 
-// The blocks before this number leave; the oldest waiting one has number t - w.
-pub fn release(n: Numbers, number: u32) -> Plan
-    requires { (n.waiting ≤ n.accepted) × ((n.accepted - n.waiting < number) × (number ≤ n.accepted)) }
-    ensures { result ≡ releasing_plan n (number - (n.accepted - n.waiting)) }
-{
-    let gone = number - (n.accepted - (n.waiting as u32));
-    Plan {
-        number: ACCEPTED,
-        numbers: Numbers {
-            state: n.state,
-            local: n.local,
-            remote: n.remote,
-            accepted: n.accepted,
-            delivered: n.delivered,
-            waiting: n.waiting - (gone as u8),
-        },
-        queue: Places::Release(gone as usize),
-        held: Places::Keep,
-        notice: NONE,
-        reply: Reply::Nothing,
+    // The blocks before this number leave; the oldest waiting one has number t - w.
+    pub fn release(n: Numbers, number: u32) -> Plan
+        requires { (n.waiting ≤ n.accepted) × ((n.accepted - n.waiting < number) × (number ≤ n.accepted)) }
+        ensures { result ≡ releasing_plan n (number - (n.accepted - n.waiting)) }
+    {
+        let gone = number - n.oldest();
+        Plan {
+            numbers: Numbers {
+                waiting: n.waiting - (gone as u8),
+                ..n
+            },
+            queue: Places::Release(gone as usize),
+            held: Places::Keep,
+            notice: Notice::Nothing,
+            reply: None,
+        }
     }
-}
 
-// An early block: the first copy is held at its place, and each copy is acknowledged.
-pub fn hold(n: Numbers, held: &[u8], place: usize) -> Plan
-    requires { (length held.now ≡ held_size) × (place < held_size) }
-    ensures { result ≡ if_eq (get_or held.now place 0) 0 (holding_plan n place) (keeping n 0 (Reply.Frame (header_of ACK n.local n.remote n.delivered))) }
-{
-    let answer = say(ACK, n.local, n.remote, n.delivered);
-    if held[place] != 0 {
-        return keep(n, NONE, answer);
+    // An early block: the first copy is held at its place, and each copy is acknowledged.
+    #[tactic(auto, using(octets::proofs::Test::eq_yes, octets::proofs::Test::eq_no))]
+    pub fn hold(n: Numbers, held: &[u8], place: usize) -> Plan
+        requires { (length held.now ≡ held_size) × (place < held_size) }
+        ensures { result ≡ if_eq (get_or held.now place 0) 0 (holding_plan n place) (keeping n Notice.Nothing (Some (header_of Kind.Ack n.local n.remote n.delivered))) }
+    {
+        let answered = Plan::keep(
+            n,
+            Notice::Nothing,
+            say(Kind::Ack, n.local, n.remote, n.delivered),
+        );
+        if held[place] != 0 {
+            return answered;
+        }
+        Plan {
+            held: Places::Join(place),
+            ..answered
+        }
     }
-    Plan {
-        number: ACCEPTED,
-        numbers: n,
-        queue: Places::Keep,
-        held: Places::Join(place),
-        notice: NONE,
-        reply: answer,
+
+    // Whether the plan leaves an end of these numbers as it is: the waiting blocks change only with their count, so that nothing else is compared. A frame
+    // whose plan does, and sends nothing, is passed over.
+    #[tactic(auto, unfolding(crate::specs::Internal::same_numbers, crate::specs::Internal::staying))]
+    pub fn leaves_alone(self, n: Numbers) -> bool
+        ensures { result ≡ leaves_alone self n }
+    {
+        (self.numbers == n) & matches!(self.held, Places::Keep)
     }
-}
 
-// All six are compared without a branch between them.
-fn same(n: Numbers, m: Numbers) -> bool
-    ensures { result ≡ same_numbers n m }
-{
-    (n.state == m.state)
-        & ((n.local == m.local)
-            & ((n.remote == m.remote)
-                & ((n.accepted == m.accepted)
-                    & ((n.delivered == m.delivered) & (n.waiting == m.waiting)))))
-}
-
-// Whether the held blocks stay.
-fn stays(held: Places) -> bool
-    ensures { result ≡ staying held }
-{
-    match held {
-        Places::Keep => true,
-        Places::Join(_) => false,
-        Places::Release(_) => false,
-        Places::Clear => false,
-    }
-}
-
-// Whether a plan leaves an end of these numbers as it is: the waiting blocks change only with their count, so that nothing else is compared. A frame
-// whose plan does, and sends nothing, is passed over.
-pub fn leaves_alone(p: Plan, n: Numbers) -> bool
-    ensures { result ≡ leaves_alone p n }
-{
-    let held = p.held;
-    same(p.numbers, n) & stays(held)
-}
-
-// Writes what the plan sends at the start of out, and answers its length.
-fn write(reply: Reply, block: &[u8], out: &mut [u8]) -> usize
-    requires { Known reply × ((longest_frame ≤ length out.old) × (length block.now ≤ longest_block)) }
-    ensures { Sends (sent_by reply block.now) out.old out.new result }
-{
-    match reply {
-        Reply::Nothing => 0,
-        Reply::Frame(header) => frame::write(header, block, out),
+    // Writes what the plan sends at the start of out, and answers its length. joined is the block that joins, if one does, oldest the first of the
+    // waiting blocks.
+    pub fn send<'a>(self, joined: &'a [u8], oldest: &'a [u8], out: &mut [u8]) -> usize
+        requires { (longest_frame ≤ length out.old) × ((length oldest.now ≤ longest_block) × (length joined.now ≤ longest_block)) }
+        ensures { Sends (sent_by self.reply (block_out self.queue joined.now oldest.now)) out.old out.new result }
+    {
+        match self.reply {
+            None => 0,
+            Some(header) => frame::write(header, block_out(self.queue, joined, oldest), out),
+        }
     }
 }
 
@@ -307,34 +228,24 @@ fn block_out<'a>(queue: Places, joined: &'a [u8], oldest: &'a [u8]) -> &'a [u8]
     ensures { result.now ≡ block_out queue joined.now oldest.now }
 {
     match queue {
-        Places::Keep => oldest,
         Places::Join(_) => joined,
-        Places::Release(_) => oldest,
-        Places::Clear => oldest,
+        _ => oldest,
     }
-}
-
-// Sends what the plan says. joined is the block that joins, if one does, oldest the first of the waiting blocks.
-pub fn send_reply<'a>(p: Plan, joined: &'a [u8], oldest: &'a [u8], out: &mut [u8]) -> usize
-    requires { Known p.reply × ((longest_frame ≤ length out.old) × ((length oldest.now ≤ longest_block) × (length joined.now ≤ longest_block))) }
-    ensures { Sends (sent_by p.reply (block_out p.queue joined.now oldest.now)) out.old out.new result }
-{
-    let queue = p.queue;
-    let reply = p.reply;
-    write(reply, block_out(queue, joined, oldest), out)
 }
 
 // The block that a notice tells of, that of the frame received; empty where none is handed up.
-pub fn handed_up(notice: u8, block: &[u8]) -> &[u8]
-    ensures { result.now ≡ block_by notice block.now }
+#[tactic(auto, using(octets::proofs::Test::eq_yes, octets::proofs::Test::eq_no), unfolding(crate::specs::Internal::block_by))]
+pub fn handed_up(notice: Notice, block: &[u8]) -> &[u8]
+    ensures { result.now ≡ block_by (notice_number notice) block.now }
 {
-    if notice != HANDED_UP {
-        return &block[..0];
+    match notice {
+        Notice::HandedUp => block,
+        _ => &[],
     }
-    block
 }
 
 // The block handed up, of so many octets: the start of the frame's block; of a request, the start of up.
+#[tactic(auto, unfolding(call_spec::specs::Answers::block_part))]
 pub fn block_part<'a>(call: Call, block: &'a [u8], up: &'a [u8], n: usize) -> &'a [u8]
     requires { length (block_part call block.now up.now n) ≡ n }
     ensures { result.now ≡ block_part call block.now up.now n }

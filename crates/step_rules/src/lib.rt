@@ -1,15 +1,15 @@
-// Which row of the step table applies to a frame: the rules in code, one function for a state.
-#![tactic(auto)]
+// Which row of the step table applies to a frame: the rules in code, one method for a state.
+#![tactic(auto, using(octets::proofs::Test::eq_yes, octets::proofs::Test::eq_no, octets::proofs::Test::lt_yes, octets::proofs::Test::lt_no))]
 
-ghost use Rattle.std.specs.Prelude.{◌≡◌, ◌≤◌};
-ghost use Rattle.octets.specs.Test.{if_eq, if_lt};
+ghost use Rattle.std.specs.Prelude.{◌≡◌, ◌≤◌, ◌-◌};
 ghost use Rattle.protocol.specs.Table.{when_closed, when_listening, when_active, when_passive, data_row, ack_row, open_rows, when_established, when_closing, rule};
 ghost use Rattle.step_rules.specs.Internal.{Chosen};
 
-use frame::{ACK, CRACK, CRAO, CRPO, DATA, DR, DRACK, Header, REJ, RESET};
+use frame::{Header, Kind};
 use protocol::Rule;
 
-// The states; document 01 calls 2 calling, 3 answering and 4 open.
+// The states; document 01 calls 2 calling, 3 answering and 4 open. They stay numbers: a record of any octets is loaded before question 12 is asked
+// of it, and what it is told of a state (sound, status_of) speaks of all 256.
 pub const CLOSED: u8 = 0;
 
 pub const LISTENING: u8 = 1;
@@ -26,7 +26,7 @@ pub const CLOSING: u8 = 5;
 const HELD_SIZE: u32 = octets::HELD_SIZE as u32;
 
 // The numbers of an endpoint: its record without the waiting blocks and the held ones.
-#[derive(Clone, Copy)]
+#[derive(Clone, Copy, Debug, PartialEq, Eq)]
 pub struct Numbers {
     pub state: u8,
     pub local: u32,
@@ -36,189 +36,160 @@ pub struct Numbers {
     pub waiting: u8,
 }
 
-// A row whose test is that r = L: what it leads to, and what counts where the test fails.
-fn quotes(e: Numbers, f: Header, row: Rule, other: Rule) -> Rule
-    ensures { result ≡ if_eq f.quoted e.local row other }
-{
-    if f.quoted == e.local {
-        return row;
-    }
-    other
-}
-
-// The same where the test is that s = D.
-fn matches(e: Numbers, f: Header, row: Rule, other: Rule) -> Rule
-    ensures { result ≡ if_eq f.sender e.remote row other }
-{
-    if f.sender == e.remote {
-        return row;
-    }
-    other
-}
-
-// The same where the test is that s > D.
-fn exceeds(e: Numbers, f: Header, row: Rule, other: Rule) -> Rule
-    ensures { result ≡ if_lt e.remote f.sender row other }
-{
-    if e.remote < f.sender {
-        return row;
-    }
-    other
-}
-
-fn when_closed(e: Numbers, f: Header) -> Rule
-    ensures { Chosen when_closed e f result }
-{
-    let kind = f.kind;
-    match kind {
-        CRAO => Rule::Refuse,
-        CRPO => Rule::Refuse,
-        CRACK => Rule::Refuse,
-        DATA => Rule::Refuse,
-        ACK => Rule::Refuse,
-        DR => Rule::AcceptDisconnect,
-        _ => Rule::Ignore,
+impl Numbers {
+    // The number of the oldest waiting block, or of the next one where none waits: t - w.
+    pub fn oldest(self) -> u32
+        requires { self.waiting ≤ self.accepted }
+        ensures { result ≡ self.accepted - self.waiting }
+    {
+        self.accepted - u32::from(self.waiting)
     }
 }
 
-fn when_listening(e: Numbers, f: Header) -> Rule
-    ensures { Chosen when_listening e f result }
-{
-    let kind = f.kind;
-    match kind {
-        CRAO => Rule::Answer,
-        CRPO => Rule::Reset,
-        DR => Rule::AcceptDisconnect,
-        _ => Rule::Ignore,
+// The rows of each state. quoted is that r = L.
+impl Numbers {
+    #[tactic(auto, unfolding(protocol::specs::Table::when_closed, octets::specs::Test::if_eq, octets::specs::Test::if_lt, octets::specs::Test::when))]
+    fn when_closed(self, f: Header) -> Rule
+        ensures { Chosen when_closed self f result }
+    {
+        match f.kind {
+            Kind::Crao | Kind::Crpo | Kind::Crack | Kind::Data | Kind::Ack => Rule::Refuse,
+            Kind::Dr => Rule::AcceptDisconnect,
+            _ => Rule::Ignore,
+        }
     }
-}
 
-// Document 01: calling.
-fn when_active(e: Numbers, f: Header) -> Rule
-    ensures { Chosen when_active e f result }
-{
-    let kind = f.kind;
-    match kind {
-        CRAO => quotes(e, f, Rule::OpenAndConfirm, Rule::CallAgain),
-        CRPO => quotes(e, f, Rule::OpenAndConfirm, Rule::Ignore),
-        CRACK => quotes(e, f, Rule::Open, Rule::Ignore),
-        REJ => quotes(e, f, Rule::Rejected, Rule::Ignore),
-        DR => quotes(e, f, Rule::RejectedByDisconnect, Rule::AcceptDisconnect),
-        _ => Rule::Ignore,
+    #[tactic(auto, unfolding(protocol::specs::Table::when_listening, octets::specs::Test::if_eq, octets::specs::Test::if_lt, octets::specs::Test::when))]
+    fn when_listening(self, f: Header) -> Rule
+        ensures { Chosen when_listening self f result }
+    {
+        match f.kind {
+            Kind::Crao => Rule::Answer,
+            Kind::Crpo => Rule::Reset,
+            Kind::Dr => Rule::AcceptDisconnect,
+            _ => Rule::Ignore,
+        }
     }
-}
 
-// Document 01: answering.
-fn when_passive(e: Numbers, f: Header) -> Rule
-    ensures { Chosen when_passive e f result }
-{
-    let kind = f.kind;
-    match kind {
-        CRAO => Rule::Answer,
-        CRPO => Rule::Reset,
-        CRACK => matches(e, f, quotes(e, f, Rule::Open, Rule::Ignore), Rule::Ignore),
-        REJ => quotes(e, f, Rule::ListenAgain, Rule::Ignore),
-        RESET => quotes(e, f, Rule::ListenAgain, Rule::Ignore),
-        DR => quotes(e, f, Rule::ClosedByPartner, Rule::AcceptDisconnect),
-        _ => Rule::Ignore,
+    // Document 01: calling.
+    #[tactic(auto, unfolding(protocol::specs::Table::when_active, octets::specs::Test::if_eq, octets::specs::Test::if_lt, octets::specs::Test::when))]
+    fn when_active(self, f: Header) -> Rule
+        ensures { Chosen when_active self f result }
+    {
+        let quoted = f.quoted == self.local;
+        match f.kind {
+            Kind::Crao | Kind::Crpo if quoted => Rule::OpenAndConfirm,
+            Kind::Crao => Rule::CallAgain,
+            Kind::Crack if quoted => Rule::Open,
+            Kind::Rej if quoted => Rule::Rejected,
+            Kind::Dr if quoted => Rule::RejectedByDisconnect,
+            Kind::Dr => Rule::AcceptDisconnect,
+            _ => Rule::Ignore,
+        }
     }
-}
 
-// Open, a DATA.
-fn data_row(e: Numbers, f: Header) -> Rule
-    ensures { Chosen data_row e f result }
-{
-    if f.number == e.delivered {
-        return Rule::HandUp;
+    // Document 01: answering.
+    #[tactic(auto, unfolding(protocol::specs::Table::when_passive, octets::specs::Test::if_eq, octets::specs::Test::if_lt, octets::specs::Test::when))]
+    fn when_passive(self, f: Header) -> Rule
+        ensures { Chosen when_passive self f result }
+    {
+        let quoted = f.quoted == self.local;
+        match f.kind {
+            Kind::Crao => Rule::Answer,
+            Kind::Crpo => Rule::Reset,
+            Kind::Crack if quoted && f.sender == self.remote => Rule::Open,
+            Kind::Rej | Kind::Reset if quoted => Rule::ListenAgain,
+            Kind::Dr if quoted => Rule::ClosedByPartner,
+            Kind::Dr => Rule::AcceptDisconnect,
+            _ => Rule::Ignore,
+        }
     }
-    if f.number < e.delivered {
-        return Rule::Acknowledge;
-    }
-    if f.number - e.delivered < HELD_SIZE {
-        return Rule::Hold;
-    }
-    Rule::Acknowledge
-}
 
-// Open, an ACK.
-fn ack_row(e: Numbers, f: Header) -> Rule
-    requires { e.waiting ≤ e.accepted }
-    ensures { Chosen ack_row e f result }
-{
-    if e.accepted - (e.waiting as u32) < f.number {
-        if e.accepted < f.number {
+    // Open, a DATA, by how far its number is above e.
+    #[tactic(auto, unfolding(protocol::specs::Table::data_row, octets::specs::Test::if_eq, octets::specs::Test::if_lt, octets::specs::Test::when))]
+    fn data_row(self, f: Header) -> Rule
+        ensures { Chosen data_row self f result }
+    {
+        match f.number.checked_sub(self.delivered) {
+            Some(0) => Rule::HandUp,
+            Some(early) if early < HELD_SIZE => Rule::Hold,
+            _ => Rule::Acknowledge,
+        }
+    }
+
+    // Open, an ACK.
+    #[tactic(auto, unfolding(protocol::specs::Table::ack_row, octets::specs::Test::if_eq, octets::specs::Test::if_lt, octets::specs::Test::when))]
+    fn ack_row(self, f: Header) -> Rule
+        requires { self.waiting ≤ self.accepted }
+        ensures { Chosen ack_row self f result }
+    {
+        if self.oldest() < f.number && f.number <= self.accepted {
+            Rule::Release
+        } else {
+            Rule::Ignore
+        }
+    }
+
+    // Document 01: open.
+    #[tactic(auto, unfolding(protocol::specs::Table::open_rows, octets::specs::Test::if_eq, octets::specs::Test::if_lt, octets::specs::Test::when))]
+    fn open_rows(self, f: Header) -> Rule
+        requires { self.waiting ≤ self.accepted }
+        ensures { Chosen open_rows self f result }
+    {
+        match f.kind {
+            Kind::Crao | Kind::Crpo => Rule::Confirm,
+            Kind::Dr => Rule::ClosedByPartner,
+            Kind::Data => self.data_row(f),
+            Kind::Ack => self.ack_row(f),
+            _ => Rule::Ignore,
+        }
+    }
+
+    // Only with s = D and r = L, but for REJ.
+    #[tactic(auto, unfolding(protocol::specs::Table::when_established, protocol::specs::Table::open_rows, octets::specs::Test::if_eq, octets::specs::Test::if_lt, octets::specs::Test::when))]
+    fn when_established(self, f: Header) -> Rule
+        requires { self.waiting ≤ self.accepted }
+        ensures { Chosen when_established self f result }
+    {
+        let quoted = f.quoted == self.local;
+        match f.kind {
+            Kind::Rej if quoted => Rule::ClosedByRejection,
+            _ if quoted && f.sender == self.remote => self.open_rows(f),
+            _ => Rule::Ignore,
+        }
+    }
+
+    #[tactic(auto, unfolding(protocol::specs::Table::when_closing, octets::specs::Test::if_eq, octets::specs::Test::if_lt, octets::specs::Test::when))]
+    fn when_closing(self, f: Header) -> Rule
+        ensures { Chosen when_closing self f result }
+    {
+        let quoted = f.quoted == self.local;
+        let later = self.remote < f.sender;
+        match f.kind {
+            Kind::Dr if later || quoted => Rule::FinishedByDisconnect,
+            Kind::Drack | Kind::Rej if quoted => Rule::Finished,
+            Kind::Crao | Kind::Crpo if later => Rule::Finished,
+            _ => Rule::Ignore,
+        }
+    }
+
+    // The row that applies. If s < D, the frame is passed over in every state.
+    #[tactic(auto, unfolding(protocol::specs::Table::rule, octets::specs::Test::if_eq, octets::specs::Test::if_lt, octets::specs::Test::when))]
+    pub fn choose(self, f: Header) -> Rule
+        requires { self.waiting ≤ self.accepted }
+        ensures { Chosen rule self f result }
+    {
+        if f.sender < self.remote {
             return Rule::Ignore;
         }
-        return Rule::Release;
-    }
-    Rule::Ignore
-}
-
-// Document 01: open.
-fn open_rows(e: Numbers, f: Header) -> Rule
-    requires { e.waiting ≤ e.accepted }
-    ensures { Chosen open_rows e f result }
-{
-    let kind = f.kind;
-    match kind {
-        CRAO => Rule::Confirm,
-        CRPO => Rule::Confirm,
-        DR => Rule::ClosedByPartner,
-        DATA => data_row(e, f),
-        ACK => ack_row(e, f),
-        _ => Rule::Ignore,
-    }
-}
-
-// Only with s = D and r = L, but for REJ.
-fn when_established(e: Numbers, f: Header) -> Rule
-    requires { e.waiting ≤ e.accepted }
-    ensures { Chosen when_established e f result }
-{
-    if f.kind == REJ {
-        return quotes(e, f, Rule::ClosedByRejection, Rule::Ignore);
-    }
-    let rows = open_rows(e, f);
-    matches(e, f, quotes(e, f, rows, Rule::Ignore), Rule::Ignore)
-}
-
-fn when_closing(e: Numbers, f: Header) -> Rule
-    ensures { Chosen when_closing e f result }
-{
-    let kind = f.kind;
-    match kind {
-        DR => exceeds(
-            e,
-            f,
-            Rule::FinishedByDisconnect,
-            quotes(e, f, Rule::FinishedByDisconnect, Rule::Ignore),
-        ),
-        DRACK => quotes(e, f, Rule::Finished, Rule::Ignore),
-        REJ => quotes(e, f, Rule::Finished, Rule::Ignore),
-        CRAO => exceeds(e, f, Rule::Finished, Rule::Ignore),
-        CRPO => exceeds(e, f, Rule::Finished, Rule::Ignore),
-        _ => Rule::Ignore,
-    }
-}
-
-// The row that applies. If s < D, the frame is passed over in every state.
-pub fn choose(e: Numbers, f: Header) -> Rule
-    requires { e.waiting ≤ e.accepted }
-    ensures { Chosen rule e f result }
-{
-    let sender = f.sender;
-    let remote = e.remote;
-    if sender < remote {
-        return Rule::Ignore;
-    }
-    let state = e.state;
-    match state {
-        CLOSED => when_closed(e, f),
-        LISTENING => when_listening(e, f),
-        ACTIVE_OPENING => when_active(e, f),
-        PASSIVE_OPENING => when_passive(e, f),
-        ESTABLISHED => when_established(e, f),
-        CLOSING => when_closing(e, f),
-        _ => Rule::Ignore,
+        match self.state {
+            CLOSED => self.when_closed(f),
+            LISTENING => self.when_listening(f),
+            ACTIVE_OPENING => self.when_active(f),
+            PASSIVE_OPENING => self.when_passive(f),
+            ESTABLISHED => self.when_established(f),
+            CLOSING => self.when_closing(f),
+            _ => Rule::Ignore,
+        }
     }
 }
