@@ -2,7 +2,7 @@
 use Prim.Native.Nat.{ℕ, zero, suc, ◌+◌, ◌-◌, ◌*◌, ◌/◌, ◌%◌, ◌<◌, ◌≤◌}
 use mathlib.Core.Path.{◌≡◌, refl, sym, ap, ap₂, ◌∙◌}
 use mathlib.Core.Logic.{⊎_elim}
-use mathlib.Core.Bool.{Bool, true, false, ◌&&◌, ◌||◌, and_comm, and_assoc, or-true}
+use mathlib.Core.Bool.{Bool, true, false, ◌&&◌, ◌||◌, and-true, and_assoc, or-true}
 use mathlib.Core.List.{List, [], ◌∷◌, ◌++◌}
 use native.Mathlib.Nat.{div-add-mod'}
 use native.Mathlib.Omega.{arith}
@@ -10,7 +10,12 @@ use native.Mathlib.Numerals.{add-one}
 use lib.Dec.{eqb, lit<}
 use borrow.Author.Tests.{eqb-true}
 use lib.Arith.{digits_div, digits_mod}
-use lib.ListN.{length, take, get_or}
+use lib.ListN.{length, take, drop, get_or}
+use Rattle.std.proofs.Math.Nat.{mul-le-mul_left}
+use lib.Seq.{get_or-take, get_or-drop}
+use Rattle.std.specs.Int.{w16, to_le_bytes}
+use Rattle.std.specs.List.{fold}
+use Rattle.std.specs.Simd.{first_chunks}
 use Rattle.octets.specs.Sizes.{longest_frame}
 use Rattle.octets.specs.Test.{when, if_lt, in_range}
 use Rattle.octets.specs.Octets.{Octets}
@@ -31,10 +36,13 @@ unfolding digit
 digit_sum n h = if-lt (λ (d : ℕ). d ≡ 48 + n + 39 * ((n + 6) / 16)) n 10 (λ l. omega arith) (λ l. omega arith)
 
 -- two digits in one number
-pub two_digits : (h l : ℕ) {r : ℕ} → h < 16 → r ≡ digit l * 256 + digit h → (r % 256 ≡ digit h) × (r / 256 ≡ digit l)
-two_digits h l below e =
-    let d : digit h < 256 = omega (arith, digit_sum h below) in
-    (rw e (digits_mod (digit l) d), rw e (digits_div (digit l) d))
+pub two_digits : (h l : ℕ) {r : ℕ} → h < 16 → l < 16 → r ≡ digit l * 256 + digit h → to_le_bytes w16 r ≡ digit h ∷ digit l ∷ []
+two_digits h l {r} a b e =
+    let low : digit h < 256 = omega (arith, digit_sum h a) in
+    let high : digit l < 256 = omega (arith, digit_sum l b) in
+    let first : r % 256 ≡ digit h = rw e (digits_mod (digit l) low) in
+    let second : r / 256 % 256 ≡ digit l = omega arith in
+    ap₂ (λ (x y : ℕ). x ∷ y ∷ []) first second
 
 pub value_figure : (c : ℕ) → c < 65 → value c ≡ c - 48
 unfolding value
@@ -148,15 +156,11 @@ known c h = by (is_digit_lem c h)
           halves = omega arith;
         })
 
--- a test of every character, one character more
-pub all_more : (p : ℕ → Bool) (s : List ℕ) (i : ℕ) → i < length s → all p (take (i + 1) s) ≡ (all p (take i s) && p (get_or s i 0))
+-- a test of every character, which a fold joins
+pub all_fold : (p : ℕ → Bool) (s : List ℕ) (a : Bool) → fold (λ (yes : Bool) (c : ℕ). yes && p c) a s ≡ (a && all p s)
 unfolding all
-all_more p s i h = rw (add-one i) (turn s i h)
-  where
-    turn : (t : List ℕ) (k : ℕ) → k < length t → all p (take (suc k) t) ≡ (all p (take k t) && p (get_or t k 0))
-    turn [] k l = absurd (omega arith)
-    turn (c ∷ t) zero l = and_comm (p c) true
-    turn (c ∷ t) (suc k) l = rw (turn t k (omega arith)) (sym (and_assoc (p c) (all p (take k t)) (p (get_or t k 0))))
+all_fold p [] a = sym (and-true a)
+all_fold p (c ∷ s) a = all_fold p s (a && p c) ∙ and_assoc a (p c) (all p s)
 
 pub all-at : (p : ℕ → Bool) (s : List ℕ) (i : ℕ) → all p s ≡ true → i < length s → p (get_or s i 0) ≡ true
 unfolding all
@@ -221,6 +225,22 @@ unhex-more l i h =
     turn (x ∷ y ∷ t) (suc k) g =
         let e : 2 * suc k ≡ suc (suc (2 * k)) = omega arith in
         rw e (ap (λ (r : List ℕ). (value x * 16 + value y) ∷ r) (turn t k (omega arith)))
+
+-- a character of a pair
+pub pair_at : (n k : ℕ) (l : List ℕ) (i j : ℕ) (d : List ℕ) → i < k → j < n → get_or (get_or (first_chunks n k l) i d) j 0 ≡ get_or l (n * i + j) 0
+pair_at n zero l i j d h g = absurd (omega arith)
+pair_at n (suc k) l zero j d h g =
+    let e : n * zero + j ≡ j = omega arith in
+    rw e (get_or-take n l j 0 g)
+pair_at n (suc k) l (suc i) j d h g =
+    let e : n + (n * i + j) ≡ n * suc i + j = omega arith in
+    pair_at n k (drop n l) i j d (omega arith) g ∙ get_or-drop n l (n * i + j) 0 ∙ ap (λ (m : ℕ). get_or l m 0) e
+
+pub pair_digit : (n k : ℕ) (l : List ℕ) (i j : ℕ) (d : List ℕ) → i < k → j < n → n * k ≤ length l → all is_digit l ≡ true
+    → is_digit (get_or (get_or (first_chunks n k l) i d) j 0) ≡ true
+pair_digit n k l i j d h g f t =
+    let e : n * i + n ≤ n * k = omega (arith, mul-le-mul_left n (let m : suc i ≤ k = omega arith in m)) in
+    ap is_digit (pair_at n k l i j d h g) ∙ all-at is_digit l (n * i + j) t (omega arith)
 
 -- reading what was written
 pub unhex-hex : (s : List ℕ) → Octets s → unhex (hex s) ≡ s

@@ -1,7 +1,7 @@
 // A line of text and the octets that it stands for.
 #![tactic(auto)]
 
-ghost use Rattle.std.specs.Prelude.{◌≡◌, true, ◌*◌, ◌/◌, ◌%◌, ◌≤◌, ◌<◌, length};
+ghost use Rattle.std.specs.Prelude.{◌≡◌, true, [], ◌∷◌, ◌*◌, ◌/◌, ◌%◌, ◌≤◌, ◌<◌, length};
 ghost use Rattle.octets.specs.Octets.{put, left};
 ghost use Rattle.hexadecimal.specs.Line.{digit, is_digit, value, hex, unhex, all, length_ok, read_into, line_of};
 
@@ -24,14 +24,15 @@ const LETTERS: u16 = (b'a' - 10 - b'0') as u16;
 
 // The two digits of an octet, by arithmetic on their values, without a branch: six more than a figure's value is below 16, six more than a
 // letter's is not. Both are made at once, so that they are stored at once.
-fn to_digits(b: u8) -> u16
-    ensures { (result % 256 ≡ digit (b / 16)) × (result / 256 ≡ digit (b % 16)) }
+fn to_digits(b: u8) -> [u8; 2]
+    ensures { result ≡ digit (b / 16) ∷ digit (b % 16) ∷ [] }
 {
-    let octet = b as u16;
+    let octet = u16::from(b);
     let values = octet / 16 + octet % 16 * 256;
     let more = values + 6 * TWICE;
     let letters = more / 16 % 2 + more / 4096 * 256;
-    values + FIGURES * TWICE + LETTERS * letters
+    let digits = values + FIGURES * TWICE + LETTERS * letters;
+    digits.to_le_bytes()
 }
 
 // Writes the digits of s to the start of out.
@@ -39,12 +40,10 @@ pub fn write(s: &[u8], out: &mut [u8])
     requires { 2 * length s.now ≤ length out.old }
     ensures { out.new ≡ put out.old 0 (hex s.now) }
 {
-    let mut i = 0;
-    while i < s.len() {
-        let digits = to_digits(s[i]);
-        out[2 * i] = (digits % 256) as u8;
-        out[2 * i + 1] = (digits / 256) as u8;
-        i += 1;
+    for (i, b) in s.iter().enumerate() {
+        let [high, low] = to_digits(*b);
+        out[2 * i] = high;
+        out[2 * i + 1] = low;
     }
 }
 
@@ -55,17 +54,11 @@ fn is_digit(c: u8) -> bool
     ((b'0' <= c) & (c <= b'9')) | (((b'A' <= c) & (c <= b'F')) | ((b'a' <= c) & (c <= b'f')))
 }
 
+// Question 2. The fold has no branch, so that it takes many characters at once.
 fn all_digits(line: &[u8]) -> bool
     ensures { result ≡ all is_digit line.now }
 {
-    let mut yes = true;
-    let mut i = 0;
-    while i < line.len() {
-        let c = line[i];
-        yes = yes & is_digit(c);
-        i += 1;
-    }
-    yes
+    line.iter().fold(true, |yes, c| yes & is_digit(*c))
 }
 
 // The number that a digit stands for: the low four bits of its character, and nine more for a letter, since those of A and of a are 1. All letters, and no
@@ -82,11 +75,9 @@ fn decode(line: &[u8], out: &mut [u8])
     requires { (all is_digit line.now ≡ true) × ((length line.now % 2 ≡ 0) × (length line.now / 2 ≤ length out.old)) }
     ensures { out.new ≡ put out.old 0 (unhex line.now) }
 {
-    let n = line.len() / 2;
-    let mut i = 0;
-    while i < n {
-        out[i] = to_value(line[2 * i]) * 16 + to_value(line[2 * i + 1]);
-        i += 1;
+    let (pairs, _) = line.as_chunks::<2>();
+    for (i, pair) in pairs.iter().enumerate() {
+        out[i] = to_value(pair[0]) * 16 + to_value(pair[1]);
     }
 }
 
