@@ -10,8 +10,9 @@ ghost use Rattle.lent_record.specs.Record.{format, paged_for, record_questions};
 ghost use Rattle.lent_record.specs.Told.{status_of, stands, answer_of, Restarted};
 
 use call_spec::Status;
-use endpoint::{BLOCKS_AT, Endpoint, HELD_BLOCKS_AT, HELD_LENGTHS_AT, LENGTHS_AT};
+use endpoint::{Endpoint, Parts};
 use octets::Refusal;
+use step_plan::Notice;
 
 // The octets of a record.
 pub const RECORD_SIZE: usize = endpoint::RECORD_SIZE;
@@ -19,7 +20,7 @@ pub const RECORD_SIZE: usize = endpoint::RECORD_SIZE;
 // What a status tells where no question refuses, and where nothing has come about.
 const SUCCESS: u8 = 0;
 
-const NO_NOTICE: u8 = 0;
+const NO_NOTICE: u8 = Notice::Nothing as u8;
 
 // What a call on a lent record answers; sent is the length of the frame sent, block that of the block handed up.
 #[derive(Clone, Copy)]
@@ -30,19 +31,11 @@ pub struct Answer {
 }
 
 // Question 12 of a record.
-#[tactic(auto, unfolding(endpoint::specs::Record::decode))]
 pub fn is_sound(rec: &[u8]) -> bool
     requires { record_size ≤ length rec.now }
     ensures { result ≡ format.sound rec.now }
 {
-    let n = endpoint::load_numbers(rec);
-    endpoint::is_sound(
-        n,
-        &rec[LENGTHS_AT..BLOCKS_AT],
-        &rec[BLOCKS_AT..HELD_LENGTHS_AT],
-        &rec[HELD_LENGTHS_AT..HELD_BLOCKS_AT],
-        &rec[HELD_BLOCKS_AT..RECORD_SIZE],
-    )
+    Parts::load(rec).is_sound()
 }
 
 // Question 15 of a page beside a record.
