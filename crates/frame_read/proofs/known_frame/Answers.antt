@@ -1,0 +1,43 @@
+use Prim.Native.Nat.{ℕ, ◌≤◌}
+use mathlib.Core.Path.{◌≡◌, refl, sym, ap, ◌∙◌}
+use mathlib.Core.List.{List}
+use lib.ListN.{length}
+use Rattle.std.proofs.lemmas.Result.{err_from_is_err_and}
+use Rattle.octets.specs.Test.{first, mapped}
+use Rattle.octets.proofs.Test.{all_yes}
+use Rattle.frame.specs.Layout.{numbers_size}
+use Rattle.frame.specs.Read.{size_questions}
+use Rattle.frame.specs.Answer.{kind_number}
+use Rattle.frame.specs.Frame.{DATA}
+use Rattle.frame.specs.declared.Kind.{Kind}
+use Rattle.frame.specs.declared.Kind.TheVariants.{Data}
+use Rattle.frame.proofs.Classes.{kind_is_frame}
+use Rattle.frame.proofs.Reading.{frame_refused, frame-numbers, numbers_there, refusal_some}
+use Rattle.frame_read.proofs.known_frame.Goals as goal
+
+-- questions 4 to 6 are passed, so the numbers are there
+there : (k : Kind) (r : List ℕ) → 0 ≡ first (size_questions (kind_number k) r) → numbers_size (kind_number k) ≤ length r
+there k r h = numbers_there (kind_number k) (length r) (all_yes 4 _ _ (sym h) tt).0
+
+pub returns-in_err-frame_refusal : goal.returns-in_err-frame_refusal
+unfolding mapped
+returns-in_err-frame_refusal c =
+    let p = err_from_is_err_and c.from_residual.result c.from_residual.ensures.1 in
+    let k = c.args.kind in
+    rw (p.1, p.2) (frame_refused (kind_number k) c.args.rest.now (kind_is_frame k) (rw c.in_err-frame_refusal.was at c.frame_refusal.ensures) (refusal_some _))
+
+pub frame_of-requires : goal.frame_of-requires
+frame_of-requires c = rw c.in-Data.is at (there c.args.kind c.args.rest.now (rw c.in_ok-frame_refusal.was at c.frame_refusal.ensures))
+
+pub frame_of-requires-in_default : goal.frame_of-requires-in_default
+frame_of-requires-in_default c = there c.args.kind c.args.rest.now (rw c.in_ok-frame_refusal.was at c.frame_refusal.ensures)
+
+pub returns-in-Data : goal.returns-in-Data
+returns-in-Data c =
+    let h = rw c.in_ok-frame_refusal.was at c.frame_refusal.ensures in
+    rw c.in-Data.is (c.frame_of.ensures ∙ sym (frame-numbers DATA c.args.rest.now (kind_is_frame Data) (sym (rw c.in-Data.is at h))))
+
+pub returns-in_default : goal.returns-in_default
+returns-in_default c =
+    let k = c.args.kind in
+    c.frame_of-in_default.ensures ∙ sym (frame-numbers (kind_number k) c.args.rest.now (kind_is_frame k) (sym (rw c.in_ok-frame_refusal.was at c.frame_refusal.ensures)))
