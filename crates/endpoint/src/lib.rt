@@ -150,14 +150,17 @@ fn numbers_ok(n: Numbers) -> bool
 }
 
 // The octets from n on of the place that starts at at are 0. All 64 are looked at, and those before n let pass: the loop then has no branch
-// and always the same length, and takes many octets at once. j is an octet, so that as many of it are compared with n at once.
+// and always the same length, and takes many octets at once. j is counted by hand, in an octet, so that as many of it are compared with n at
+// once: an index of the loop is compared in 64 bits, which was measured, with 141 instructions instead of 44.
 fn rest_ok(n: u8, blocks: &[u8], at: usize) -> bool
     requires { at + longest_block ≤ length blocks.now }
     ensures { result ≡ zeros (take (longest_block - n) (drop (at + n) blocks.now)) }
 {
     let mut ok = true;
-    for j in 0..Endpoint::LONGEST_BLOCK as u8 {
-        ok = ok & ((j < n) | (blocks[at + octets::wide(j)] == 0));
+    let mut j = 0;
+    for x in &blocks[at..at + Endpoint::LONGEST_BLOCK] {
+        ok = ok & ((j < n) | (*x == 0));
+        j += 1;
     }
     ok
 }

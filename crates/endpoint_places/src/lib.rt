@@ -6,20 +6,20 @@ ghost use Rattle.octets.specs.Sizes.{longest_frame, longest_block, queue_size, h
 ghost use Rattle.octets.specs.Octets.{put};
 ghost use Rattle.call_spec.specs.declared.Call.TheVariants.{Request};
 ghost use Rattle.step_plan.specs.declared.Places.TheVariants.{Keep, Clear};
-ghost use Rattle.step_plan.specs.Internal.{block_by, block_out, sent_by, Known, Sends};
+ghost use Rattle.step_plan.specs.Internal.{notice_number, block_by, block_out, sent_by, Sends};
 ghost use Rattle.endpoint.specs.View.{place_block};
 ghost use Rattle.endpoint_places.specs.Internal.{places_after, PlaceFor, block_from, Handy, HandsUp};
 
 use call_spec::Call;
 use endpoint::{Endpoint, Slots};
-use step_plan::{Places, Plan};
+use step_plan::{Notice, Places, Plan};
 
 // Sends the frame of a plan for a record in which these blocks wait, and answers its length.
 pub fn send<'a>(p: Plan, joined: &'a [u8], queue: Slots<'a>, out: &mut [u8]) -> usize
-    requires { Known p.reply × ((get_or queue.lengths.now 0 0 ≤ longest_block) × ((length joined.now ≤ longest_block) × (longest_frame ≤ length out.old))) }
+    requires { (get_or queue.lengths.now 0 0 ≤ longest_block) × ((length joined.now ≤ longest_block) × (longest_frame ≤ length out.old)) }
     ensures { Sends (sent_by p.reply (block_out p.queue joined.now (place_block queue.entry.lengths.now queue.entry.blocks.now 0))) out.old out.new result }
 {
-    step_plan::send_reply(p, joined, queue.first(), out)
+    p.send(joined, queue.first(), out)
 }
 
 // The first places leave: the others move to the front, and zeros follow.
@@ -73,22 +73,30 @@ pub fn change_places(places: Places, width: usize, s: &[u8], d: &mut [u8])
 }
 
 // Copies the block that a request hands up to the start of up, and answers its length: the first of the held ones, with notice 5.
-fn collect<'a>(notice: u8, held: Slots<'a>, up: &mut [u8]) -> usize
-    requires { notice ≡ 5 → (get_or held.lengths.now 0 0 ≤ longest_block) × (longest_block ≤ length up.old) }
-    ensures { HandsUp Request (block_by notice (place_block held.entry.lengths.now held.entry.blocks.now 0)) up.old up.new result }
+fn collect<'a>(notice: Notice, held: Slots<'a>, up: &mut [u8]) -> usize
+    requires { notice_number notice ≡ 5 → (get_or held.lengths.now 0 0 ≤ longest_block) × (longest_block ≤ length up.old) }
+    ensures { HandsUp Request (block_by (notice_number notice) (place_block held.entry.lengths.now held.entry.blocks.now 0)) up.old up.new result }
 {
-    if notice != step_plan::HANDED_UP {
-        return 0;
+    match notice {
+        Notice::HandedUp => {
+            let block = held.first();
+            octets::copy(up, 0, block);
+            block.len()
+        }
+        _ => 0,
     }
-    let block = held.first();
-    octets::copy(up, 0, block);
-    block.len()
 }
 
 // Hands up the block that a notice tells of, and answers its length: a request's is copied to up, one received stays where it is, in its frame.
-pub fn hand_up<'a>(call: Call, notice: u8, held: Slots<'a>, block: &[u8], up: &mut [u8]) -> usize
-    requires { notice ≡ 5 → Handy call held.lengths.now (length up.old) }
-    ensures { HandsUp call (block_by notice (block_from call held.entry.lengths.now held.entry.blocks.now block.now)) up.old up.new result }
+pub fn hand_up<'a>(
+    call: Call,
+    notice: Notice,
+    held: Slots<'a>,
+    block: &[u8],
+    up: &mut [u8],
+) -> usize
+    requires { notice_number notice ≡ 5 → Handy call held.lengths.now (length up.old) }
+    ensures { HandsUp call (block_by (notice_number notice) (block_from call held.entry.lengths.now held.entry.blocks.now block.now)) up.old up.new result }
 {
     match call {
         Call::Request => collect(notice, held, up),

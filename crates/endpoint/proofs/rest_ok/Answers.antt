@@ -1,8 +1,8 @@
-use Rattle.std.proofs.Common.{ℕ, ◌≡◌, refl, arith, ◌+◌, ◌-◌, ◌<◌, List, length, take, drop, get_or, length-drop}
+use Rattle.std.proofs.Common.{ℕ, ◌≡◌, refl, ◌∙◌, arith, ◌+◌, ◌-◌, ◌<◌, List, length, take, drop, get_or, length-drop}
 use mathlib.Core.Bool.{◌&&◌, ◌||◌}
 use native.Mathlib.Nat.{zero-sub}
 use lib.Dec.{ltb, eqb}
-use lib.Seq.{get_or-drop}
+use lib.Seq.{get_or-drop, get_or-take}
 use borrow.Author.Tests.{lt-ltb, le-ltb}
 use Rattle.octets.specs.Sizes.{longest_block}
 use Rattle.octets.specs.Test.{zeros}
@@ -26,16 +26,24 @@ rest_more b at n i h =
     let more = zeros-more (drop (at + n) b) (i - n) (omega (arith, length-drop (at + n) b)) in
     rw (x, le-ltb i n m) (rw (get_or-drop (at + n) b (i - n) 0, y) at more))
 
-pub loop-j-init : goal.loop-j-init
+pub loop-x-init : goal.loop-x-init
 unfolding zeros
-loop-j-init c = rw zero-sub refl
+loop-x-init c = record { counted = refl; zeros_so_far = rw zero-sub refl }
 
-pub loop-j-preserved : goal.loop-j-preserved
-loop-j-preserved c =
+pub loop-x-preserved : goal.loop-x-preserved
+loop-x-preserved c =
     let a = c.args in
-    rw (c.loop-j.invariant, c.wide.ensures.0) (rest_more a.blocks.now a.at a.n c.loop-j.j (omega arith))
+    let b = a.blocks.now in
+    let i = c.loop-x.x-index in
+    let few : i < a.at + longest_block - a.at = omega arith in
+    let here : get_or (take (a.at + longest_block - a.at) (drop a.at b)) i 0 ≡ get_or b (a.at + i) 0 =
+    get_or-take (a.at + longest_block - a.at) (drop a.at b) i 0 few ∙ get_or-drop a.at b i 0 in
+    record {
+      counted = omega arith;
+      zeros_so_far = rw (c.loop-x.invariant.zeros_so_far, c.loop-x.invariant.counted, here) (rest_more b a.at a.n i (omega arith));
+    }
 
 pub returns : goal.returns
 returns c =
-    let e : c.loop-j.j ≡ longest_block = omega arith in
-    rw e at c.loop-j.invariant
+    let e : c.loop-x.x-index ≡ longest_block = omega arith in
+    rw e at c.loop-x.invariant.zeros_so_far

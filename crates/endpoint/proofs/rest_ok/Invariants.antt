@@ -2,5 +2,5 @@ use Rattle.std.proofs.Common.{◌≡◌, ◌+◌, ◌-◌, take, drop}
 use Rattle.octets.specs.Test.{zeros}
 use Rattle.endpoint.proofs.rest_ok.Given as goal
 
-abbrev pub invariant-loop-j : goal.invariant-loop-j
-invariant-loop-j l = l.ok ≡ zeros (take (l.j - l.n) (drop (l.at + l.n) l.blocks))
+abbrev pub invariant-loop-x : goal.invariant-loop-x
+invariant-loop-x l = record { counted : l.j ≡ l.x-index; zeros_so_far : l.ok ≡ zeros (take (l.x-index - l.n) (drop (l.at + l.n) l.blocks)) }
