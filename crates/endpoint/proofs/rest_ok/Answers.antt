@@ -1,4 +1,4 @@
-use Rattle.std.proofs.Common.{ℕ, ◌≡◌, refl, ◌∙◌, arith, ◌+◌, ◌-◌, ◌<◌, List, length, take, drop, get_or, length-drop}
+use Rattle.std.proofs.Common.{ℕ, ◌≡◌, refl, ◌∙◌, arith, ◌+◌, ◌-◌, ◌<◌, List, length, take, drop, get_or, length-drop, length-take}
 use mathlib.Core.Bool.{◌&&◌, ◌||◌}
 use native.Mathlib.Nat.{zero-sub}
 use lib.Dec.{ltb, eqb}
@@ -26,6 +26,10 @@ rest_more b at n i h =
     let more = zeros-more (drop (at + n) b) (i - n) (omega (arith, length-drop (at + n) b)) in
     rw (x, le-ltb i n m) (rw (get_or-drop (at + n) b (i - n) 0, y) at more))
 
+-- an octet of a part
+in_part : (b : List ℕ) (at k i : ℕ) → i < length (take k (drop at b)) → get_or (take k (drop at b)) i 0 ≡ get_or b (at + i) 0
+in_part b at k i h = get_or-take k (drop at b) i 0 (omega (arith, length-take k (drop at b))) ∙ get_or-drop at b i 0
+
 pub loop-x-init : goal.loop-x-init
 unfolding zeros
 loop-x-init c = record { counted = refl; zeros_so_far = rw zero-sub refl }
@@ -33,14 +37,11 @@ loop-x-init c = record { counted = refl; zeros_so_far = rw zero-sub refl }
 pub loop-x-preserved : goal.loop-x-preserved
 loop-x-preserved c =
     let a = c.args in
-    let b = a.blocks.now in
     let i = c.loop-x.x-index in
-    let few : i < a.at + longest_block - a.at = omega arith in
-    let here : get_or (take (a.at + longest_block - a.at) (drop a.at b)) i 0 ≡ get_or b (a.at + i) 0 =
-    get_or-take (a.at + longest_block - a.at) (drop a.at b) i 0 few ∙ get_or-drop a.at b i 0 in
     record {
       counted = omega arith;
-      zeros_so_far = rw (c.loop-x.invariant.zeros_so_far, c.loop-x.invariant.counted, here) (rest_more b a.at a.n i (omega arith));
+      zeros_so_far =
+          rw (c.loop-x.invariant.zeros_so_far, c.loop-x.invariant.counted, in_part a.blocks.now a.at _ i c.loop-x-test.true) (rest_more a.blocks.now a.at a.n i (omega (arith, length-take {A = ℕ}, length-drop {A = ℕ})));
     }
 
 pub returns : goal.returns
