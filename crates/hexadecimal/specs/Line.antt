@@ -2,9 +2,7 @@
 -- 2; document 02, N1).
 use Rattle.std.specs.Prelude.{ℕ, ◌+◌, ◌-◌, ◌*◌, ◌/◌, ◌%◌, Bool, true, ◌&&◌, ◌||◌, not, List, [], ◌∷◌, map, length, leb, eqb}
 use Rattle.octets.specs.Sizes.{longest_frame}
-use Rattle.octets.specs.Test.{when, if_lt, in_range, Question, first, Outcome, refused, ok, outcome}
-use Rattle.hexadecimal.specs.declared.Line.{Line}
-use Rattle.hexadecimal.specs.declared.Line.TheVariants.{Decoded, Refused}
+use Rattle.octets.specs.Test.{when, if_lt, in_range, Question, first, Outcome, outcome}
 
 -- the digit of a number below 16: 0 to 9, then a to f
 unfoldable pub digit : ℕ → ℕ
@@ -66,8 +64,3 @@ read_line l = outcome (first (line_questions l)) (unhex l)
 -- the same into a lent buffer, which question 11 asks for first
 unfoldable pub read_into : List ℕ → List ℕ → Outcome (List ℕ)
 read_into l out = outcome (first ((11, leb longest_frame (length out)) ∷ line_questions l)) (unhex l)
-
--- the answer of the call: how many octets, or the refusal's number
-unfoldable pub line_of : Outcome (List ℕ) → Line
-line_of (refused n) = Refused n
-line_of (ok s) = Decoded (length s)

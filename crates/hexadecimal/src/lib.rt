@@ -2,17 +2,12 @@
 #![tactic(auto)]
 
 ghost use Rattle.std.specs.Prelude.{◌≡◌, true, [], ◌∷◌, ◌*◌, ◌/◌, ◌%◌, ◌≤◌, ◌<◌, length};
+ghost use Rattle.octets.specs.Test.{mapped};
 ghost use Rattle.octets.specs.Octets.{put, left};
-ghost use Rattle.hexadecimal.specs.Line.{digit, is_digit, value, hex, unhex, all, length_ok, read_into, line_of};
+ghost use Rattle.octets.specs.Refusal.{told};
+ghost use Rattle.hexadecimal.specs.Line.{digit, is_digit, value, hex, unhex, all, length_ok, read_into};
 
-use octets::refusal;
-
-// What a line is read as: so many octets at the start of the buffer, or document 01's number of the refusal.
-#[derive(Clone, Copy)]
-pub enum Line {
-    Decoded(usize),
-    Refused(u8),
-}
+use octets::Refusal;
 
 // Two numbers in one: the first in its low octet, the second in its high one. The same number twice is its product by TWICE.
 const TWICE: u16 = 0x0101;
@@ -88,19 +83,19 @@ fn length_ok(n: usize) -> bool
     (2 <= n) & (n <= 2 * octets::LONGEST_FRAME) & (n % 2 == 0)
 }
 
-// Reads a line into out, which has room for the longest frame. A refusal leaves every octet of out.
-pub fn read(line: &[u8], out: &mut [u8]) -> Line
-    ensures { (result ≡ line_of (read_into line.now out.old)) × (out.new ≡ left (read_into line.now out.old) out.old) }
+// Reads a line into out, which has room for the longest frame: so many octets at its start. A refusal leaves every octet of out.
+pub fn read(line: &[u8], out: &mut [u8]) -> Result<usize, Refusal>
+    ensures { (told result ≡ mapped length (read_into line.now out.old)) × (out.new ≡ left (read_into line.now out.old) out.old) }
 {
     if out.len() < octets::LONGEST_FRAME {
-        return Line::Refused(refusal::SHORT_BUFFER);
+        return Err(Refusal::ShortBuffer);
     }
     if !length_ok(line.len()) {
-        return Line::Refused(refusal::BAD_LENGTH);
+        return Err(Refusal::BadLength);
     }
     if !all_digits(line) {
-        return Line::Refused(refusal::BAD_DIGIT);
+        return Err(Refusal::BadDigit);
     }
     decode(line, out);
-    Line::Decoded(line.len() / 2)
+    Ok(line.len() / 2)
 }
