@@ -37,10 +37,10 @@ pub fn class_of(s: &[u8]) -> Option<Class>
 
 // Question 5.
 #[tactic(auto, unfolding(frame::specs::Read::count_ok, octets::specs::Test::in_range))]
-fn count_ok(count: u8) -> bool
+pub fn count_ok(count: usize) -> bool
     ensures { result ≡ count_ok count }
 {
-    (1 <= count) & (count <= octets::LONGEST_BLOCK as u8)
+    (1 <= count) & (count <= octets::LONGEST_BLOCK)
 }
 
 // What follows is over the kind and the octets after the head. Question 4 where no block follows.
@@ -63,11 +63,11 @@ fn block_refusal(size: usize, rest: &[u8]) -> Result<(), Refusal>
     if rest.len() < size {
         return Err(Refusal::BadSize);
     }
-    let count = rest[size - 1];
+    let count = octets::wide(rest[size - 1]);
     if !count_ok(count) {
         return Err(Refusal::BadCount);
     }
-    if rest.len() != size + octets::wide(count) {
+    if rest.len() != size + count {
         return Err(Refusal::BadBlock);
     }
     Ok(())
