@@ -46,7 +46,8 @@ pub const HELD_BLOCKS_AT: usize = HELD_LENGTHS_AT + octets::HELD_SIZE;
 pub const RECORD_SIZE: usize = HELD_BLOCKS_AT + PLACES_SIZE;
 
 // Document 01's record of an end: L and D are local and remote, t is accepted, e is delivered, w is waiting. N2: the held places are
-// those of the numbers e to e + 7, and a length of 0 is none.
+// those of the numbers e to e + 7, and a length of 0 is none. The lengths and the blocks are flat arrays, as in its octets (encode, decode), so that
+// the same code reads both.
 #[derive(Clone, Copy)]
 pub struct Endpoint {
     pub state: u8,
@@ -137,7 +138,7 @@ impl From<Endpoint> for Numbers {
 fn numbers_ok(n: Numbers) -> bool
     ensures { result ≡ all_of (numbers_sound n.state n.local n.remote n.accepted n.delivered n.waiting) }
 {
-    let waiting = octets::wide32(n.waiting);
+    let waiting = u32::from(n.waiting);
     if n.state == ESTABLISHED {
         return (waiting <= Endpoint::QUEUE_SIZE as u32)
             & ((waiting <= n.accepted) & ((1 <= n.local) & (1 <= n.remote)));
@@ -171,7 +172,7 @@ fn place_ok<'a>(filled: usize, used: usize, places: Slots<'a>, i: usize) -> bool
     requires { i < queue_size }
     ensures { result ≡ place_ok filled used places.entry.lengths.now places.entry.blocks.now i }
 {
-    let n = octets::wide(places.lengths[i]);
+    let n = usize::from(places.lengths[i]);
     let blocks = places.blocks;
     let at = i * Endpoint::LONGEST_BLOCK;
     if n == 0 {
@@ -256,7 +257,7 @@ impl<'a> Parts<'a> {
         if !numbers_ok(n) {
             return false;
         }
-        let waiting = octets::wide(n.waiting);
+        let waiting = usize::from(n.waiting);
         places_ok(waiting, waiting, self.queue) & held_ok(n.state, n.delivered, self.held)
     }
 }

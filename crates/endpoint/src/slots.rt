@@ -33,7 +33,7 @@ impl<'a> Slots<'a> {
         ensures block { result.now ≡ place_block self.entry.lengths.now self.entry.blocks.now 0 }
         ensures len { length result.now ≡ get_or self.entry.lengths.now 0 0 }
     {
-        let count = octets::wide(self.lengths[0]);
+        let count = usize::from(self.lengths[0]);
         let blocks = self.blocks;
         &blocks[..count]
     }

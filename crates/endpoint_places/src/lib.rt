@@ -60,6 +60,7 @@ pub fn clears(state: u8, queue: Places, held: Places) -> bool
 }
 
 // What a plan makes of places of so many octets, of blocks or of their lengths; s joins.
+#[tactic(auto, unfolding(crate::specs::Internal::places_after))]
 pub fn change_places(places: Places, width: usize, s: &[u8], d: &mut [u8])
     requires { PlaceFor places width s.now d.old }
     ensures { d.new ≡ places_after places width s.now d.old }
@@ -88,6 +89,7 @@ fn collect<'a>(notice: Notice, held: Slots<'a>, up: &mut [u8]) -> usize
 }
 
 // Hands up the block that a notice tells of, and answers its length: a request's is copied to up, one received stays where it is, in its frame.
+#[tactic(auto, unfolding(crate::specs::Internal::block_from, crate::specs::Internal::handed_to))]
 pub fn hand_up<'a>(
     call: Call,
     notice: Notice,

@@ -30,9 +30,9 @@ outside st l d t e w h =
 
 pub returns-then-n-eq-ESTABLISHED : goal.returns-then-n-eq-ESTABLISHED
 unfolding numbers_sound in_range all_of when
-returns-then-n-eq-ESTABLISHED c = rw (c.if-n-eq-ESTABLISHED.true, c.wide32-waiting.ensures.0, and-true (leb 1 c.args.n.remote)) refl
+returns-then-n-eq-ESTABLISHED c = rw (c.if-n-eq-ESTABLISHED.true, c.from-waiting.ensures, and-true (leb 1 c.args.n.remote)) refl
 
 pub returns : goal.returns
 returns c =
     let n = c.args.n in
-    rw c.wide32-waiting.ensures.0 (outside n.state n.local n.remote n.accepted n.delivered n.waiting c.if-n-eq-ESTABLISHED.false)
+    rw c.from-waiting.ensures (outside n.state n.local n.remote n.accepted n.delivered n.waiting c.if-n-eq-ESTABLISHED.false)

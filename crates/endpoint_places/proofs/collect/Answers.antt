@@ -1,5 +1,6 @@
-use Rattle.std.proofs.Common.{◌≢◌, refl, ap, length, arith}
+use Rattle.std.proofs.Common.{◌∙◌, ◌≢◌, refl, ap, length, arith}
 use Rattle.frame.specs.Frame.{Block}
+use Rattle.octets.specs.Octets.{put}
 use Rattle.octets.proofs.Octets.{put-none}
 use Rattle.octets.proofs.Test.{eq_yes, eq_no}
 use Rattle.step_plan.specs.declared.Notice.{Notice}
@@ -21,7 +22,7 @@ pub returns-in-HandedUp : goal.returns-in-HandedUp
 unfolding block_by handed_to
 returns-in-HandedUp c =
     let b = c.first-block.ensures.block in
-    rw (c.in-HandedUp.is, eq_yes _ _ _ _ refl) (record { count = ap (λ (s : Block). length s) b; octets = rw b at c.copy.ensures })
+    rw (c.in-HandedUp.is, eq_yes _ _ _ _ refl) (record { count = ap (λ (s : Block). length s) b; octets = c.copy.ensures ∙ ap (λ (s : Block). put c.args.up.now 0 s) b })
 
 pub returns-in_default : goal.returns-in_default
 unfolding block_by handed_to

@@ -10,4 +10,4 @@ returns-then-not-numbers_ok c = rw (sym c.numbers_ok.ensures ∙ c.if-not-number
 
 pub returns : goal.returns
 returns c =
-    places_decide (whole c.args.self) (sym c.numbers_ok.ensures ∙ c.if-not-numbers_ok.false) (rw c.wide-waiting.ensures.0 at c.places_ok.ensures) c.held_ok.ensures
+    places_decide (whole c.args.self) (sym c.numbers_ok.ensures ∙ c.if-not-numbers_ok.false) (rw c.from-waiting.ensures at c.places_ok.ensures) c.held_ok.ensures
