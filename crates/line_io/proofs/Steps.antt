@@ -8,21 +8,15 @@ use native.Mathlib.Omega.{arith}
 use lib.ListN.{length, take, drop, length-take, length-drop, length-append}
 use lib.Seq.{length-take-le, take_at}
 use Rattle.octets.specs.Octets.{put}
-use Rattle.octets.specs.Test.{when, if_eq}
+use Rattle.octets.specs.Test.{if_eq}
 use Rattle.octets.proofs.Test.{by_eq, eq_yes, eq_no, if-lt}
 use Rattle.octets.proofs.Buffers.{put_fits}
 use Rattle.line_split.specs.Split.{ended, last, longest_kept, cut}
 use Rattle.line_io.specs.declared.Place.{Place}
-use Rattle.line_io.specs.Answering.{Answering, Cuts, state_after, answers}
-use Rattle.line_io.specs.Place.{buffer_size, PlaceFits, between, ready_line, one_less, emptied, answered_with, Flushed, AfterRead, Taken, Refilled, Next}
+use Rattle.line_io.specs.Answering.{Answering, Answered, Cuts, state_after, answers}
+use Rattle.line_io.specs.Place.{buffer_size, PlaceFits, between, ready_line, one_less, answered_with, Flushed, AfterRead, Taken, Refilled, Next}
 use Rattle.line_io.specs.Step.{Went, Rests, Wrote, ReadOn, Finished, Stopped, Stepped}
 use Rattle.line_io.proofs.Answers.{answers-cut, after-cut}
-
--- a write
-pub flushed : {p q : Place} (all : Bool) → q ≡ emptied p (when all p.steps 0) → Flushed p q
-unfolding when
-flushed {p} true e = record { place = e ∙ ap (emptied p) (sym (ap (λ (x : Place). x.steps) e)); steps = λ _. ap (λ (x : Place). x.steps) e }
-flushed {p} false e = record { place = e ∙ ap (emptied p) (sym (ap (λ (x : Place). x.steps) e)); steps = λ n. absurd (n (ap (λ (x : Place). x.steps) e)) }
 
 -- a read counts what it brings
 pub counted : {n : ℕ} {p q : Place} → AfterRead n p q → AfterRead q.end p q
@@ -169,7 +163,7 @@ module _ {room : ℕ} {buf line : List ℕ} {p q : Place} (f : PlaceFits p) (l :
 -- the answer to a line, after what waits already
 pub record Replied (a : Answering) (s : a.State) (line out : List ℕ) (filled : ℕ) (s' : a.State) (out' : List ℕ) (n : ℕ) : Type 0 where
   pub state : s' ≡ a.next s line
-  pub room : filled + n ≤ length out
+  pub room : filled + n ≤ buffer_size
   pub told : take (filled + n) out' ≡ take filled out ++ a.says s line
 
 last_some : (l : List ℕ) → length l ≢ 0 → last l ≡ l ∷ []
@@ -277,42 +271,43 @@ module _ {a : Answering} where
       }
 
   pub step_line : Cuts a → {room : ℕ} {s s' : a.State} {buf line out buf' line' out' : List ℕ} {p q : Place} {n : ℕ} → length line' ≡ longest_kept
-      → Next room buf line p buf' line' q → q.lines ≢ 0 → Replied a s (ready_line buf' line' q) out q.filled s' out' n → q.filled + n ≤ buffer_size
+      → Next room buf line p buf' line' q → q.lines ≢ 0 → Replied a s (ready_line buf' line' q) out q.filled s' out' n
       → Stepped a room s buf line out p s' buf' line' out' (answered_with q n)
-  step_line c {buf' = buf'} {p = p} {q = q} w x m r b =
+  step_line c {buf' = buf'} {p = p} {q = q} w x m r =
       record {
         went = λ h k. line-went c (x.taken h k).0 (x.taken h k).1 m r;
         wrote = λ h k. absurd (m (ap (λ (y : Place). y.lines) (x.flushed h k).0.place));
         read_on = λ h k e. absurd (e (ready_last m (refill (x.refilled h))).end);
         finished = λ h k e. let d = ready_last m (refill (x.refilled h)) in line-ends buf' (omega (arith, w, d.kept, x.fits.kept)) (x.refilled h).held m r d;
         stopped = λ h k. absurd (omega (arith, k, (ready_last m (refill (x.refilled h))).steps));
-        fits = record { used = x.fits.used; read = x.fits.read; kept = omega arith; filled = b };
+        fits = record { used = x.fits.used; read = x.fits.read; kept = omega arith; filled = r.room };
         less = x.less;
       }
 
 -- the free part of a buffer of which so much is filled
 abbrev pub free : List ℕ → ℕ → List ℕ
-free out filled = take (length out - filled) (drop filled out)
+free out filled = take (buffer_size - filled) (drop filled out)
 
-pub free-room : (out : List ℕ) (filled room : ℕ) → filled + room ≤ length out → room ≤ length (free out filled)
-free-room out filled room h = simp (length-take, length-drop) (omega arith)
+module _ (out : List ℕ) (size : length out ≡ buffer_size) where
+  pub free-room : (filled room : ℕ) → filled + room ≤ buffer_size → room ≤ length (free out filled)
+  free-room filled room h = simp (length-take, length-drop) (omega arith)
 
--- an answer in the free part of a buffer, which comes back as x and is no longer than it was
-pub replied : {a : Answering} {s s' : a.State} (line out : List ℕ) (filled : ℕ) {n : ℕ} {x : List ℕ} → filled ≤ length out
-    → s' ≡ a.next s line → n ≡ length (a.says s line) → x ≡ put (free out filled) 0 (a.says s line) → length x ≡ length (free out filled)
-    → Replied a s line out filled s' (take filled out ++ (x ++ drop (length out - filled) (drop filled out))) n
-unfolding put
-replied {a = a} {s = s} line out filled {n} {x} h es en ex l =
-    let t = a.says s line in
-    let d = free out filled in
-    let rest = drop (length out - filled) (drop filled out) in
-    let r = drop (0 + length t) d ++ rest in
-    let e : take filled out ++ (x ++ rest) ≡ (take filled out ++ t) ++ r =
-    ap (λ (y : List ℕ). take filled out ++ (y ++ rest)) ex
-    ∙ ap (λ (y : List ℕ). take filled out ++ y) (append_assoc t (drop (0 + length t) d) rest)
-    ∙ sym (append_assoc (take filled out) t r) in
-    let m : length (take filled out ++ t) ≡ filled + n =
-    length-append (take filled out) t ∙ omega (arith, length-take-le filled out h, en) in
-    let f = put_fits d t ex l in
-    let b : n ≤ length out - filled = omega (arith, en, simp (length-take, length-drop) at f) in
-    record { state = es; room = omega arith; told = ap (take (filled + n)) e ∙ take_at (take filled out ++ t) r (filled + n) m }
+  -- an answer in the free part of a buffer, which comes back as x and is no longer than it was
+  pub replied : {a : Answering} {s s' : a.State} {line : List ℕ} {n : ℕ} {x : List ℕ} (filled : ℕ) → filled ≤ buffer_size
+      → Answered a s line (free out filled) s' x n → length x ≡ length (free out filled)
+      → Replied a s line out filled s' (take filled out ++ (x ++ drop (buffer_size - filled) (drop filled out))) n
+  unfolding put
+  replied {a = a} {s = s} {line = line} {n = n} {x = x} filled h w l =
+      let t = a.says s line in
+      let d = free out filled in
+      let rest = drop (buffer_size - filled) (drop filled out) in
+      let r = drop (0 + length t) d ++ rest in
+      let e : take filled out ++ (x ++ rest) ≡ (take filled out ++ t) ++ r =
+      ap (λ (y : List ℕ). take filled out ++ (y ++ rest)) w.buffer
+      ∙ ap (λ (y : List ℕ). take filled out ++ y) (append_assoc t (drop (0 + length t) d) rest)
+      ∙ sym (append_assoc (take filled out) t r) in
+      let m : length (take filled out ++ t) ≡ filled + n =
+      length-append (take filled out) t ∙ omega (arith, length-take-le filled out (omega arith), w.count) in
+      let f = put_fits d t w.buffer l in
+      let b : n ≤ buffer_size - filled = omega (arith, w.count, simp (length-take, length-drop) at f) in
+      record { state = w.state; room = omega arith; told = ap (take (filled + n)) e ∙ take_at (take filled out ++ t) r (filled + n) m }

@@ -1,5 +1,6 @@
 -- The text that answers an input: line by line, in order. Both programs are such; each says what answers a line.
-use Rattle.std.specs.Prelude.{ℕ, ◌≡◌, List, [], ◌∷◌, ◌++◌}
+use Rattle.std.specs.Prelude.{ℕ, ◌≡◌, List, [], ◌∷◌, ◌++◌, length}
+use Rattle.octets.specs.Octets.{put}
 use Rattle.line_split.specs.Split.{lines_of, cut}
 
 -- What answers lines: a state, the text that it says to a line, and the state after that.
@@ -7,6 +8,12 @@ pub record Answering : Type 1 where
   pub State : Type 0
   pub next : State → List ℕ → State
   pub says : State → List ℕ → List ℕ
+
+-- A line is answered: the state after it, and what it says at the start of the buffer.
+pub record Answered (a : Answering) (s : a.State) (line out : List ℕ) (s' : a.State) (out' : List ℕ) (n : ℕ) : Type 0 where
+  pub state : s' ≡ a.next s line
+  pub count : n ≡ length (a.says s line)
+  pub buffer : out' ≡ put out 0 (a.says s line)
 
 -- the state after lines
 unfoldable pub state_after : (a : Answering) → a.State → List (List ℕ) → a.State

@@ -1,10 +1,12 @@
 // Lines of text from standard input, and text to standard output, through buffers: all of a program but its answers.
 #![tactic(auto)]
 
-ghost use Rattle.std.specs.Prelude.{◌≡◌, ◌+◌, ◌≤◌, ◌<◌, length, take};
-ghost use Rattle.octets.specs.Test.{when};
+ghost use Rattle.std.specs.Prelude.{ℕ, ◌≡◌, ◌+◌, ◌≤◌, ◌<◌, length, take, replicate};
 ghost use Rattle.line_split.specs.Split.{longest_kept};
-ghost use Rattle.line_io.specs.Place.{buffer_size, PlaceFits, Starts, ready_line, emptied, answered_with, AfterRead, Filled, Taken, Next};
+ghost use Rattle.line_io.specs.Answering.{Answering, Answered, Cuts};
+ghost use Rattle.line_io.specs.Place.{buffer_size, PlaceFits, Starts, ready_line, answered_with, Flushed, AfterRead, Filled, Taken, Next};
+ghost use Rattle.line_io.specs.Step.{Stepped};
+ghost use Rattle.line_io.specs.Program.{Ran};
 
 use std::fmt::InlineText;
 use std::io::{Error, Print, Read, Stderr, Stdin, Stdout};
@@ -40,187 +42,278 @@ pub struct Streams {
     pub error: Stderr,
 }
 
-// Before the first read, with more steps than any run takes.
-pub fn start() -> Place
-    ensures { Starts result }
-{
-    Place {
-        at: 0,
-        end: 0,
-        kept: 0,
-        filled: 0,
-        lines: 0,
-        from: 0,
-        to: 0,
-        steps: u64::MAX,
+// The input at hand, what is held of a line, and the output that waits.
+#[derive(Drop)]
+pub struct Buffers {
+    pub input: [u8; BUFFER_SIZE],
+    pub line: [u8; LONGEST_KEPT],
+    pub output: [u8; BUFFER_SIZE],
+}
+
+// What answers the lines of a program, in state after state.
+pub trait Responder {
+    ghost answering: { Answering };
+
+    ghost state: { Self → answering.State };
+
+    ghost ROOM: { ℕ };
+
+    // The room that an answer may take.
+    const ROOM: usize;
+
+    // Writes the answer to a line, which is given without its line feed, to the start of out. The result is how many
+    // characters it wrote.
+    fn answer(&mut self, line: &[u8], out: &mut [u8]) -> usize
+        requires { ROOM ≤ length out.old }
+        ensures { Answered answering (state self.old) line.now out.old (state self.new) out.new result };
+
+    // What is kept of a line says all that counts of it, and an answer fits the buffer.
+    ghost cuts: { Cuts answering };
+
+    ghost fits: { ROOM ≤ buffer_size };
+}
+
+impl From<&HostRuntime> for Streams {
+    fn from(rt: &HostRuntime) -> Streams {
+        Streams {
+            input: rt.stdin(),
+            output: rt.stdout(),
+            error: rt.stderr(),
+        }
     }
 }
 
-// The output that waits.
-fn waiting(out: &[u8], p: Place) -> &[u8]
-    requires { p.filled ≤ length out.now }
-    ensures { result.now ≡ take p.filled out.now }
-{
-    let filled = p.filled;
-    &out[..filled]
+impl Streams {
+    // Tells what failed, and why.
+    fn tell(self, what: &str, why: Error) {
+        let text = InlineText::<256>::of(why);
+        let reason = reason(text.as_str());
+        let _ = eprintln!(self.error; "{what}: {reason}");
+    }
 }
 
 // The reason of a failure, without the number of the system that std puts after it.
 fn reason(text: &str) -> &str {
-    match text.rsplit_once(" (os error ") {
-        Some((reason, _)) => reason,
-        None => text,
+    text.rsplit_once(" (os error ")
+        .map_or(text, |(reason, _)| reason)
+}
+
+impl Place {
+    // Before the first read, with more steps than any run takes.
+    pub fn start() -> Place
+        ensures { Starts result }
+    {
+        Place {
+            at: 0,
+            end: 0,
+            kept: 0,
+            filled: 0,
+            lines: 0,
+            from: 0,
+            to: 0,
+            steps: u64::MAX,
+        }
     }
-}
 
-// Tells what failed, and why.
-fn tell(streams: Streams, what: &str, why: Error) {
-    let text = InlineText::<256>::of(why);
-    let reason = reason(text.as_str());
-    let _ = eprintln!(streams.error; "{what}: {reason}");
-}
+    // The output that waits.
+    fn waiting(self, output: &[u8]) -> &[u8]
+        requires { self.filled ≤ length output.now }
+        ensures { result.now ≡ take self.filled output.now }
+    {
+        &output[..self.filled]
+    }
 
-// Writes what waits of the output, and tells why where not all was written. Whether all was, no contract can say.
-fn flush(streams: Streams, out: &[u8], p: Place) -> bool
-    requires { p.filled ≤ length out.now }
-{
-    match streams.output.write_all(waiting(out, p)) {
-        Ok(()) => true,
-        Err(why) => {
-            tell(streams, "standard output", why);
-            false
+    // After a read of n octets. At the end of the input there are none; text after the last line feed is a line too, and one
+    // step is left, which writes its answer.
+    fn after_read(self, n: usize) -> Place
+        requires { self.lines ≡ 0 }
+        ensures { AfterRead n self result }
+    {
+        let p = Place {
+            at: 0,
+            end: n,
+            from: 0,
+            to: 0,
+            ..self
+        };
+        if n > 0 {
+            return p;
+        }
+        Place {
+            lines: if self.kept > 0 { 1 } else { 0 },
+            steps: 1,
+            ..p
+        }
+    }
+
+    // The line that is ready.
+    pub fn ready<'a>(self, input: &'a [u8], line: &'a [u8]) -> &'a [u8]
+        requires { (self.kept ≤ length line.now) × ((self.from ≤ self.to) × (self.to ≤ length input.now)) }
+        ensures { result.now ≡ ready_line input.now line.now self }
+    {
+        if self.kept > 0 {
+            &line[..self.kept]
+        } else {
+            &input[self.from..self.to]
+        }
+    }
+
+    // The line that was ready has its answer: n more characters of output wait.
+    pub fn answered(self, n: usize) -> Place
+        requires { self.filled + n ≤ buffer_size }
+        ensures { result ≡ answered_with self n }
+    {
+        Place {
+            kept: 0,
+            filled: self.filled + n,
+            lines: 0,
+            ..self
         }
     }
 }
 
-// Nothing waits after a write. The program is done where not all was written.
-fn after_write(p: Place, all: bool) -> Place
-    ensures { result ≡ emptied p (when all p.steps 0) }
-{
-    let mut q = p;
-    q.filled = 0;
-    q.lines = 0;
-    if all {
-        return q;
-    }
-    q.steps = 0;
-    q
-}
-
-// After a read of n octets. At the end of the input there are none; text after the last line feed is a line too, and one step
-// is left, which writes its answer.
-fn after_read(p: Place, n: usize) -> Place
-    requires { p.lines ≡ 0 }
-    ensures { AfterRead n p result }
-{
-    let mut q = p;
-    q.at = 0;
-    q.end = n;
-    q.from = 0;
-    q.to = 0;
-    if n > 0 {
-        return q;
-    }
-    q.steps = 1;
-    if q.kept == 0 {
-        return q;
-    }
-    q.lines = 1;
-    q
-}
-
-// Reads on where a step is left. What is read, no contract can say.
-fn fill(streams: Streams, buf: &mut [u8; BUFFER_SIZE], p: Place) -> Place
-    requires { p.lines ≡ 0 }
-    ensures { Filled p buf.new result }
-{
-    if p.steps == 0 {
-        return p;
-    }
-    let mut input = streams.input;
-    match input.read(buf) {
-        Ok(n) => after_read(p, n),
-        Err(why) => {
-            tell(streams, "standard input", why);
-            after_read(p, 0)
+impl Buffers {
+    pub fn new() -> Buffers
+        ensures { (result.input ≡ replicate buffer_size 0) × ((result.line ≡ replicate longest_kept 0) × (result.output ≡ replicate buffer_size 0)) }
+    {
+        Buffers {
+            input: [0; BUFFER_SIZE],
+            line: [0; LONGEST_KEPT],
+            output: [0; BUFFER_SIZE],
         }
     }
+
+    // Writes what waits of the output: then nothing waits. The program is done where not all was written, and says why. Whether
+    // all was, no contract can say.
+    fn flush(&self, streams: Streams, p: Place) -> Place
+        requires { p.filled ≤ buffer_size }
+        ensures { Flushed p result }
+    {
+        let written = Place {
+            filled: 0,
+            lines: 0,
+            ..p
+        };
+        match streams.output.write_all(p.waiting(&self.output)) {
+            Ok(()) => written,
+            Err(why) => {
+                streams.tell("standard output", why);
+                Place {
+                    steps: 0,
+                    ..written
+                }
+            }
+        }
+    }
+
+    // Reads on where a step is left. What is read, no contract can say.
+    fn fill(&mut self, streams: Streams, p: Place) -> Place
+        requires { p.lines ≡ 0 }
+        ensures filled { Filled p self.new.input result }
+        ensures others { (self.new.line ≡ self.old.line) × (self.new.output ≡ self.old.output) }
+    {
+        if p.steps == 0 {
+            return p;
+        }
+        let mut input = streams.input;
+        match input.read(&mut self.input) {
+            Ok(n) => p.after_read(n),
+            Err(why) => {
+                streams.tell("standard input", why);
+                p.after_read(0)
+            }
+        }
+    }
+
+    // Takes the next line of the input at hand, or what there is of it.
+    fn take(&mut self, p: Place) -> Place
+        requires place_fits { (PlaceFits p) × (p.at < p.end) }
+        ensures taken { Taken self.old.input self.old.line p self.new.line result }
+        ensures others { (self.new.input ≡ self.old.input) × (self.new.output ≡ self.old.output) }
+    {
+        let input = &self.input;
+        let line = &mut self.line;
+        let stop = p.at + line_split::line_length(&input[p.at..p.end]);
+        let q = Place {
+            from: p.at,
+            to: stop,
+            ..p
+        };
+        if stop == p.end {
+            let kept = line_split::keep(line, p.kept, &input[p.at..p.end]);
+            return Place {
+                at: p.end,
+                kept,
+                lines: 0,
+                ..q
+            };
+        }
+        let q = Place {
+            at: stop + 1,
+            lines: 1,
+            ..q
+        };
+        if p.kept == 0 {
+            return q;
+        }
+        let kept = line_split::keep(line, p.kept, &input[p.at..stop]);
+        Place { kept, ..q }
+    }
+
+    // One step towards the next line: reads on, makes room for an answer, or takes a line. Where one is ready, room characters
+    // of the output are free.
+    pub fn next(&mut self, streams: Streams, room: usize, p: Place) -> Place
+        requires { (PlaceFits p) × (0 < p.steps) }
+        ensures next { Next room self.old.input self.old.line p self.new.input self.new.line result }
+        ensures output { self.new.output ≡ self.old.output }
+    {
+        let q = Place {
+            steps: p.steps - 1,
+            ..p
+        };
+        if p.at == p.end {
+            let written = self.flush(streams, q);
+            return self.fill(streams, written);
+        }
+        if BUFFER_SIZE - p.filled < room {
+            return self.flush(streams, q);
+        }
+        self.take(q)
+    }
 }
 
-// Takes the next line of the input at hand, or what there is of it.
-fn take(buf: &[u8], line: &mut [u8], p: Place) -> Place
-    requires place_fits { (PlaceFits p) × (p.at < p.end) }
-    requires buf_len { (length buf.now ≡ buffer_size) × (length line.old ≡ longest_kept) }
-    ensures { Taken buf.now line.old p line.new result }
-{
-    let at = p.at;
-    let end = p.end;
-    let kept = p.kept;
-    let stop = at + line_split::line_length(&buf[at..end]);
-    let mut q = p;
-    q.from = at;
-    q.to = stop;
-    if stop == end {
-        q.at = end;
-        q.kept = line_split::keep(line, kept, &buf[at..end]);
-        q.lines = 0;
-        return q;
-    }
-    q.at = stop + 1;
-    q.lines = 1;
-    if kept == 0 {
-        return q;
-    }
-    q.kept = line_split::keep(line, kept, &buf[at..stop]);
-    q
-}
-
-// One step towards the next line: reads on, makes room for an answer, or takes a line. Where one is ready, room characters of
-// out are free.
-pub fn next(
+// One step of a program, with the answer where a line is ready.
+pub fn step<A: Responder>(
+    answers: &mut A,
     streams: Streams,
-    buf: &mut [u8; BUFFER_SIZE],
-    line: &mut [u8; LONGEST_KEPT],
-    out: &[u8],
-    room: usize,
+    buffers: &mut Buffers,
     p: Place,
 ) -> Place
-    requires { (PlaceFits p) × ((0 < p.steps) × (length out.now ≡ buffer_size)) }
-    ensures { Next room buf.old line.old p buf.new line.new result }
+    requires { (PlaceFits p) × (0 < p.steps) }
+    ensures { Stepped A.answering A.ROOM (A.state answers.old) buffers.old.input buffers.old.line buffers.old.output p
+        (A.state answers.new) buffers.new.input buffers.new.line buffers.new.output result }
 {
-    let mut q = p;
-    q.steps = p.steps - 1;
-    if p.at == p.end {
-        return fill(streams, buf, after_write(q, flush(streams, out, q)));
+    let q = buffers.next(streams, A::ROOM, p);
+    if q.lines == 0 {
+        return q;
     }
-    if BUFFER_SIZE - p.filled < room {
-        return after_write(q, flush(streams, out, q));
-    }
-    take(buf, line, q)
+    let Buffers {
+        input,
+        line,
+        output,
+    } = buffers;
+    let n = answers.answer(q.ready(input, line), &mut output[q.filled..]);
+    q.answered(n)
 }
 
-// The line that is ready.
-pub fn ready<'a>(buf: &'a [u8], line: &'a [u8], p: Place) -> &'a [u8]
-    requires { (p.kept ≤ length line.now) × ((p.from ≤ p.to) × (p.to ≤ length buf.now)) }
-    ensures { result.now ≡ ready_line buf.now line.now p }
+// A program: steps while some are left.
+pub fn run<A: Responder>(answers: &mut A, streams: Streams, buffers: &mut Buffers) -> Place
+    ensures { (Ran A.answering A.ROOM (A.state answers.old) (A.state answers.new) buffers.new.input buffers.new.line buffers.new.output result)
+        × (result.steps ≡ 0) }
 {
-    let kept = p.kept;
-    if kept > 0 {
-        return &line[..kept];
+    let mut p = Place::start();
+    while p.steps > 0 {
+        p = step(answers, streams, buffers, p);
     }
-    let from = p.from;
-    let to = p.to;
-    &buf[from..to]
-}
-
-// The line that was ready has its answer: n more characters of output wait.
-pub fn answered(p: Place, n: usize) -> Place
-    requires { p.filled + n ≤ buffer_size }
-    ensures { result ≡ answered_with p n }
-{
-    let mut q = p;
-    q.kept = 0;
-    q.filled = p.filled + n;
-    q.lines = 0;
-    q
+    p
 }
