@@ -193,6 +193,7 @@ fn place_ok<'a>(filled: usize, used: usize, places: Slots<'a>, i: usize) -> bool
     rest_ok(places.lengths[i], blocks, at)
 }
 
+#[tactic(auto, using(octets::proofs::Each::all_more, octets::proofs::Each::all_fail), unfolding(crate::specs::Internal::places_ok, octets::specs::Test::all_below))]
 fn places_ok<'a>(filled: usize, used: usize, places: Slots<'a>) -> bool
     ensures { result ≡ places_ok filled used places.entry.lengths.now places.entry.blocks.now }
 {
@@ -238,6 +239,7 @@ pub struct Parts<'a> {
 
 impl<'a> Parts<'a> {
     // Those of the record at the start of s.
+    #[tactic(auto, unfolding(crate::specs::Record::decode))]
     pub fn load(s: &'a [u8]) -> Parts<'a>
         requires { record_size ≤ length s.now }
         ensures { whole result ≡ decode s.now }

@@ -28,6 +28,7 @@ impl<'a> Slots<'a> {
     }
 
     // The block of the first place.
+    #[tactic(auto, unfolding(crate::specs::View::place_block))]
     pub fn first(self) -> &'a [u8]
         requires { get_or self.lengths.now 0 0 ≤ longest_block }
         ensures block { result.now ≡ place_block self.entry.lengths.now self.entry.blocks.now 0 }
