@@ -1,3 +1,4 @@
 pub mod Lines
 pub mod Blocks
+pub mod Told
 pub mod Writes

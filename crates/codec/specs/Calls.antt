@@ -7,8 +7,7 @@ use Rattle.hexadecimal.specs.Line.{hex}
 use Rattle.frame.specs.Frame.{Block, DATA, connect, listen, end_listening, close, timer, collect, send}
 use Rattle.frame.specs.Layout.{is_frame, encode}
 use Rattle.frame.specs.Read.{count_ok, read_frame, read_request, Input, frame, request, read_input}
-use Rattle.frame.specs.Answer.{header_of, frame_of, request_number}
-use Rattle.frame.specs.declared.Header.{Header}
+use Rattle.frame.specs.Answer.{frame_with, request_number}
 
 -- how many octets a success has; a refusal leaves the number lent
 unfoldable pub count_told : Outcome (List ℕ) → ℕ → ℕ
@@ -33,11 +32,21 @@ read_known known s =
     (if_eq known 3 (read_input s)
     (refused 3)))
 
+-- the numbers of a frame as C has them: any octet may be its kind
+pub record Numbers : Type 0 where
+  pub kind : ℕ
+  pub sender : ℕ
+  pub quoted : ℕ
+  pub number : ℕ
+
+abbrev pub numbers_of : ℕ → ℕ → ℕ → ℕ → Numbers
+numbers_of k s r n = record { kind = k; sender = s; quoted = r; number = n }
+
 -- the numbers read; a refusal leaves those lent
-unfoldable pub shown : Outcome Input → Header → Header
+unfoldable pub shown : Outcome Input → Numbers → Numbers
 shown (refused n) h = h
-shown (ok (frame f)) h = header_of f.kind f.sender f.quoted f.number
-shown (ok (request q)) h = header_of (request_number q) 0 0 0
+shown (ok (frame f)) h = numbers_of f.kind f.sender f.quoted f.number
+shown (ok (request q)) h = numbers_of (request_number q) 0 0 0
 
 -- the block read: that of a DATA or a send
 unfoldable pub block_read : Input → Block
@@ -56,7 +65,7 @@ pub record BlockTold (o : Outcome Input) (s : List ℕ) (c c' : ℕ) : Type 0 wh
   pub block : mapped (λ (i : Input). drop (length s - c') s) o ≡ mapped block_read o
 
 -- writing it asks for the buffer, for a frame's kind, and for the count of a DATA's block
-abbrev pub write_questions : Header → Block → List ℕ → List Question
+abbrev pub write_questions : Numbers → Block → List ℕ → List Question
 write_questions h b out =
     (11, leb longest_frame (length out))
     ∷ (3, is_frame h.kind)
@@ -64,5 +73,5 @@ write_questions h b out =
     ∷ []
 
 -- a number or a block that the kind does not have is not written
-unfoldable pub write_frame : Header → Block → List ℕ → Outcome (List ℕ)
-write_frame h b out = outcome (first (write_questions h b out)) (encode (frame_of h b))
+unfoldable pub write_frame : Numbers → Block → List ℕ → Outcome (List ℕ)
+write_frame h b out = outcome (first (write_questions h b out)) (encode (frame_with h.kind h.sender h.quoted h.number b))

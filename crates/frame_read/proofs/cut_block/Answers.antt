@@ -1,13 +1,13 @@
-use mathlib.Core.Path.{◌≡◌, refl, sym, ap, ◌∙◌}
+use mathlib.Core.Path.{◌≡◌, refl}
 use mathlib.Core.List.{List, []}
 use Prim.Native.Nat.{ℕ}
 use mathlib.Core.Logic.{◌≢◌}
-use lib.ListN.{length, get_or}
+use lib.ListN.{get_or}
 use Rattle.frame.specs.Frame.{DATA, SEND}
 use Rattle.octets.specs.Test.{when, if_eq}
 use Rattle.octets.specs.Octets.{size}
 use Rattle.frame.specs.Layout.{has_block, layout, numbers_size}
-use Rattle.frame.specs.Read.{kind_of, after_head, block_at, cut_block}
+use Rattle.frame.specs.Read.{kind_of, block_at, cut_block}
 use Rattle.frame.proofs.Classes.{rest_is, none_kind}
 use Rattle.frame.proofs.Shape.{no_block}
 use native.Mathlib.Omega.{arith}

@@ -1,6 +1,3 @@
-use Prim.Native.Nat.{ℕ, ◌≤◌}
-use mathlib.Core.Path.{◌≡◌, refl, sym, ap, ◌∙◌}
-use lib.ListN.{get_or}
 use Rattle.std.proofs.lemmas.Result.{err_from_is_err_and}
 use Rattle.octets.specs.Test.{mapped}
 use Rattle.frame.specs.Read.{kind_of, after_head, cut_block, read_frame}

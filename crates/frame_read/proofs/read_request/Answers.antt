@@ -1,12 +1,10 @@
-use Prim.Native.Nat.{ℕ, ◌≤◌}
+use Prim.Native.Nat.{ℕ}
 use mathlib.Core.Path.{◌≡◌, refl, sym, ap, ◌∙◌}
-use mathlib.Core.Bool.{true, false}
 use mathlib.Core.List.{List, []}
-use lib.ListN.{get_or}
 use Rattle.std.proofs.lemmas.Result.{err_from_is_err_and}
 use Rattle.octets.specs.Test.{mapped, ok, when, if_eq}
 use Rattle.octets.specs.Octets.{size}
-use Rattle.frame.specs.Layout.{is_request, has_block, layout, numbers_size}
+use Rattle.frame.specs.Layout.{has_block, layout, numbers_size}
 use Rattle.frame.specs.Read.{kind_of, after_head, cut_block, block_at, request_at, read_request}
 use Rattle.frame.specs.Answer.{request_of, request_number}
 use Rattle.frame.specs.declared.RequestKind.{RequestKind}

@@ -1,7 +1,7 @@
-use mathlib.Core.Path.{◌≡◌, refl, sym}
+use mathlib.Core.Path.{refl}
 use mathlib.Core.Logic.{◌≢◌}
-use mathlib.Core.Bool.{true, false}
-use mathlib.Core.List.{[], ◌∷◌}
+use mathlib.Core.Bool.{false}
+use mathlib.Core.List.{[]}
 use Rattle.octets.specs.Test.{first, when, if_eq}
 use Rattle.octets.specs.Octets.{size}
 use Rattle.frame.specs.Frame.{SEND}
