@@ -46,16 +46,17 @@ pub const HELD_BLOCKS_AT: usize = HELD_LENGTHS_AT + octets::HELD_SIZE;
 pub const RECORD_SIZE: usize = HELD_BLOCKS_AT + PLACES_SIZE;
 
 // Document 01's record of an end: L and D are local and remote, t is accepted, e is delivered, w is waiting. N2: the held places are
-// those of the numbers e to e + 7, and a length of 0 is none. The lengths and the blocks are flat arrays, as in its octets (encode, decode), so that
-// the same code reads both.
+// those of the numbers e to e + 7, and a length of 0 is none.
 #[derive(Clone, Copy)]
 pub struct Endpoint {
+    // A number and no enum: a record of any octets is loaded before question 12 is asked of it, and sound speaks of all 256.
     pub state: u8,
     pub local: u32,
     pub remote: u32,
     pub accepted: u32,
     pub delivered: u32,
     pub waiting: u8,
+    // Lengths beside blocks, as in the record's octets (encode, decode), so that the same code (Slots) reads both.
     pub lengths: [u8; octets::QUEUE_SIZE],
     pub blocks: [u8; PLACES_SIZE],
     pub held_lengths: [u8; octets::HELD_SIZE],
@@ -151,13 +152,13 @@ fn numbers_ok(n: Numbers) -> bool
 }
 
 // The octets from n on of the place that starts at at are 0. All 64 are looked at, and those before n let pass: the loop then has no branch
-// and always the same length, and takes many octets at once. j is counted by hand, in an octet, so that as many of it are compared with n at
-// once: an index of the loop is compared in 64 bits, which was measured, with 141 instructions instead of 44.
+// and always the same length, and takes many octets at once.
 fn rest_ok(n: u8, blocks: &[u8], at: usize) -> bool
     requires { at + longest_block ≤ length blocks.now }
     ensures { result ≡ zeros (take (longest_block - n) (drop (at + n) blocks.now)) }
 {
     let mut ok = true;
+    // Counted by hand, in an octet: as an index of the loop it is compared with n in 64 bits, measured with 141 instructions instead of 44.
     let mut j = 0;
     for x in &blocks[at..at + Endpoint::LONGEST_BLOCK] {
         ok = ok & ((j < n) | (*x == 0));
