@@ -183,8 +183,8 @@ impl Plan {
 
     // An early block: the first copy is held at its place, and each copy is acknowledged.
     #[tactic(auto, using(octets::proofs::Test::eq_yes, octets::proofs::Test::eq_no))]
-    pub fn hold(n: Numbers, held: &[u8], place: usize) -> Plan
-        requires { (length held.now ≡ held_size) × (place < held_size) }
+    pub fn hold(n: Numbers, held: &[u8; octets::HELD_SIZE], place: usize) -> Plan
+        requires { place < held_size }
         ensures { result ≡ if_eq (get_or held.now place 0) 0 (holding_plan n place) (keeping n Notice.Nothing (Some (header_of Kind.Ack n.local n.remote n.delivered))) }
     {
         let answered = Plan::keep(
