@@ -102,25 +102,13 @@ fn numbers_ok(kind: Kind, sender: u32, quoted: u32, number: u32) -> bool
         & (((1 <= quoted) | (kind == Kind::Crao)) & ((number <= LAST_DATA) | !(kind == Kind::Data)))
 }
 
-// The number of a DATA or the count of an ACK; 0 of a frame that has two numbers only.
-fn number_of(kind: Kind, rest: &[u8]) -> u32
-    requires { numbers_size (kind_number kind) ≤ length rest.now }
-    ensures { result ≡ number_at 2 (kind_number kind) rest.now }
-{
-    match kind {
-        Kind::Data | Kind::Ack => octets::load32(rest, NUMBER),
-        _ => 0,
-    }
-}
-
 // The frame whose questions 3 to 6 are passed.
-fn frame_of(kind: Kind, rest: &[u8]) -> Result<Header, Refusal>
-    requires { numbers_size (kind_number kind) ≤ length rest.now }
+fn frame_of(kind: Kind, number: u32, rest: &[u8]) -> Result<Header, Refusal>
+    requires { (numbers_size (kind_number kind) ≤ length rest.now) × (number ≡ number_at 2 (kind_number kind) rest.now) }
     ensures { (let f : Frame = frame_at (kind_number kind) rest.now in mapped (λ h. frame_of h (block_at (kind_number kind) rest.now)) (told result) ≡ when (readable f) (ok f) (refused 7)) }
 {
     let sender = octets::load32(rest, SENDER);
     let quoted = octets::load32(rest, QUOTED);
-    let number = number_of(kind, rest);
     if !numbers_ok(kind, sender, quoted, number) {
         return Err(Refusal::BadNumber);
     }
@@ -132,14 +120,15 @@ fn frame_of(kind: Kind, rest: &[u8]) -> Result<Header, Refusal>
     })
 }
 
-// A frame whose kind is known. DATA comes most: where the kind is at hand, the tests of the others fall away.
+// A frame whose kind is known; one that has two numbers only has 0 for the third. DATA comes most: where the kind is at hand, the tests of the others fall away.
 fn known_frame(kind: Kind, rest: &[u8]) -> Result<Header, Refusal>
     ensures { mapped (λ h. frame_of h (block_at (kind_number kind) rest.now)) (told result) ≡ read_frame_as (kind_number kind) rest.now }
 {
     frame_refusal(kind, rest)?;
     match kind {
-        Kind::Data => frame_of(Kind::Data, rest),
-        _ => frame_of(kind, rest),
+        Kind::Data => frame_of(Kind::Data, octets::load32(rest, NUMBER), rest),
+        Kind::Ack => frame_of(Kind::Ack, octets::load32(rest, NUMBER), rest),
+        _ => frame_of(kind, 0, rest),
     }
 }
 

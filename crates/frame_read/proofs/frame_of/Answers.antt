@@ -30,18 +30,18 @@ module _ (kind : Kind) (r : List ℕ) where
     whole = (λ i. frame_with k ((hs ∙ sym says.sender) i) ((hq ∙ sym says.quoted) i) (hn i) (block_at k r)) ∙ sym says.whole
 
 pub load32-sender-requires : goal.load32-sender-requires
-load32-sender-requires c = omega (arith, (says c.args.kind c.args.rest.now).two, c.requires)
+load32-sender-requires c = omega (arith, (says c.args.kind c.args.rest.now).two, c.requires.0)
 
 pub load32-quoted-requires : goal.load32-quoted-requires
-load32-quoted-requires c = omega (arith, (says c.args.kind c.args.rest.now).two, c.requires)
+load32-quoted-requires c = omega (arith, (says c.args.kind c.args.rest.now).two, c.requires.0)
 
 pub returns-then-not-numbers_ok : goal.returns-then-not-numbers_ok
 unfolding when mapped
 returns-then-not-numbers_ok c =
-    rw (sym (seven c.args.kind c.args.rest.now c.load32-sender.ensures c.load32-quoted.ensures c.number_of-number.ensures c.numbers_ok.ensures) ∙ c.if-not-numbers_ok.true) refl
+    rw (sym (seven c.args.kind c.args.rest.now c.load32-sender.ensures c.load32-quoted.ensures c.requires.1 c.numbers_ok.ensures) ∙ c.if-not-numbers_ok.true) refl
 
 pub returns : goal.returns
 unfolding when mapped
 returns c =
-    rw (sym (seven c.args.kind c.args.rest.now c.load32-sender.ensures c.load32-quoted.ensures c.number_of-number.ensures c.numbers_ok.ensures) ∙ c.if-not-numbers_ok.false)
-    (ap ok (whole c.args.kind c.args.rest.now c.load32-sender.ensures c.load32-quoted.ensures c.number_of-number.ensures))
+    rw (sym (seven c.args.kind c.args.rest.now c.load32-sender.ensures c.load32-quoted.ensures c.requires.1 c.numbers_ok.ensures) ∙ c.if-not-numbers_ok.false)
+    (ap ok (whole c.args.kind c.args.rest.now c.load32-sender.ensures c.load32-quoted.ensures c.requires.1))
