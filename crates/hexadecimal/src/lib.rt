@@ -46,7 +46,7 @@ pub fn write(s: &[u8], out: &mut [u8])
 fn is_digit(c: u8) -> bool
     ensures { result ≡ is_digit c }
 {
-    ((b'0' <= c) & (c <= b'9')) | (((b'A' <= c) & (c <= b'F')) | ((b'a' <= c) & (c <= b'f')))
+    c.is_ascii_hexdigit()
 }
 
 // Question 2. The fold has no branch, so that it takes many characters at once.

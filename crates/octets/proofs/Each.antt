@@ -12,7 +12,6 @@ use lib.Dec.{eqb}
 use lib.ListN.{length, take, get_or}
 use lib.Seq.{take-suc}
 use borrow.Author.Tests.{eqb-true, eq-eqb, ne_eqb}
-use Rattle.std.specs.List.{fold}
 use Rattle.octets.specs.Test.{all_below, zeros}
 use Rattle.octets.proofs.Test.{both, joined}
 
@@ -59,11 +58,9 @@ pub zeros-more : (s : List ℕ) (i : ℕ) → i < length s → (zeros (take i s)
 unfolding zeros
 zeros-more s i h = sym (rw (add-one, take-suc s i 0 h) (zeros-append (take i s) (get_or s i 0 ∷ []) ∙ ap (λ (b : Bool). zeros (take i s) && b) (and-true (eqb (get_or s i 0) 0))))
 
--- nor of all that a fold joins
-pub zeros_fold : (a : ℕ) (s : List ℕ) → eqb (fold bit_or a s) 0 ≡ (eqb a 0 && zeros s)
-unfolding zeros
-zeros_fold a [] = sym (and-true (eqb a 0))
-zeros_fold a (x ∷ s) = zeros_fold (bit_or a x) s ∙ ap (λ (b : Bool). b && zeros s) (or-zero a x) ∙ and_assoc (eqb a 0) (eqb x 0) (zeros s)
+-- and where x has the bits of those before it
+pub bits_more : (s : List ℕ) (i : ℕ) → i < length s → (x : ℕ) → eqb x 0 ≡ zeros (take i s) → eqb (bit_or x (get_or s i 0)) 0 ≡ zeros (take (i + 1) s)
+bits_more s i h x e = or-zero x (get_or s i 0) ∙ rw e (zeros-more s i h)
 
 pub zeros-at : (s : List ℕ) (i : ℕ) → zeros s ≡ true → get_or s i 0 ≡ 0
 unfolding zeros

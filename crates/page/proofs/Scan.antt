@@ -4,13 +4,14 @@ use mathlib.Core.Path.{◌≡◌, refl, sym, ap, ◌∙◌}
 use mathlib.Core.Logic.{◌≢◌}
 use mathlib.Core.Bool.{Bool, true, false, ◌&&◌, and-true, and_assoc, false≢true}
 use mathlib.Core.List.{List, [], ◌∷◌, ◌++◌}
+use native.Mathlib.Numerals.{add-one}
 use native.Mathlib.Omega.{arith}
 use Rattle.std.proofs.lemmas.List.{get_or_default}
 use borrow.Author.Tests.{eqb-true, eq-eqb, ne_eqb}
 use lib.Bits.{bit_and, and_le_l, and_le_r}
 use lib.Dec.{eqb}
 use lib.ListN.{length, take, drop, set, get_or, take-append-drop}
-use lib.Seq.{take-add, length-take-le, get_or-take}
+use lib.Seq.{take-suc, take-add, length-take-le, get_or-take}
 use Rattle.std.specs.List.{fold}
 use Rattle.std.specs.List.Sorted.{IsPartitionedBy, IsPartitionPoint}
 use Rattle.std.specs.Simd.{first_chunks}
@@ -37,18 +38,19 @@ and-unused a b h k =
     let f = both (eqb a unused) (eqb b unused) e in
     rw (eqb-true a unused f.0, eqb-true b unused f.1) refl)
 
--- and of all that a fold joins, where each is an octet
-unused-from : (a : ℕ) (s : List ℕ) → a ≤ unused → ((i : ℕ) → get_or s i 0 ≤ unused) → eqb (fold bit_and a s) unused ≡ (eqb a unused && only unused s)
+-- one octet more
+only_snoc : (x : ℕ) (s : List ℕ) (y : ℕ) → only x (s ++ (y ∷ [])) ≡ (only x s && eqb y x)
 unfolding only
-unused-from a [] h o = sym (and-true (eqb a unused))
-unused-from a (x ∷ s) h o =
-    let k : x ≤ unused = o 0 in
-    unused-from (bit_and a x) s (omega (arith, and_le_l a x)) (λ i. o (suc i))
-    ∙ ap (λ (b : Bool). b && only unused s) (and-unused a x h k)
-    ∙ and_assoc (eqb a unused) (eqb x unused) (only unused s)
+only_snoc x [] y = and-true (eqb y x)
+only_snoc x (z ∷ s) y = rw (only_snoc x s y) (sym (and_assoc (eqb z x) (only x s) (eqb y x)))
 
-pub unused_fold : (s : List ℕ) → ((i : ℕ) → get_or s i 0 ≤ unused) → eqb (fold bit_and unused s) unused ≡ only unused s
-unused_fold s o = unused-from unused s (omega arith) o
+only-more : (x : ℕ) (s : List ℕ) (i : ℕ) → i < length s → (only x (take i s) && eqb (get_or s i 0) x) ≡ only x (take (i + 1) s)
+only-more x s i h = sym (rw (add-one, take-suc s i 0 h) (only_snoc x (take i s) (get_or s i 0)))
+
+-- where x has the bits that all those before it have
+pub bits_more : (s : List ℕ) (i : ℕ) → i < length s → get_or s i 0 ≤ unused → (x : ℕ) → x ≤ unused → eqb x unused ≡ only unused (take i s)
+    → eqb (bit_and x (get_or s i 0)) unused ≡ only unused (take (i + 1) s)
+bits_more s i h k x f e = and-unused x (get_or s i 0) f k ∙ rw e (only-more unused s i h)
 
 -- what is left of a page from the place i
 abbrev pub left : ℕ → List ℕ → List ℕ
@@ -206,8 +208,8 @@ module _ (s : List ℕ) (l : page_size ≤ length s) where
       (λ h. absurd (n (sym (get_or-take page_size s i 0 k) ∙ leading_below (take page_size s) i h)))
       (λ h. h)
 
-  pub goes-not : (n : ℕ) → last_incarnation < n → false ≡ goes_with n s
-  goes-not n h = alike _ _ (λ r. absurd (false≢true r)) (λ r. absurd (omega (arith, goes_last n s l r)))
+  pub goes_not : (n : ℕ) → last_incarnation < n → false ≡ goes_with n s
+  goes_not n h = alike _ _ (λ r. absurd (false≢true r)) (λ r. absurd (omega (arith, goes_last n s l r)))
 
   -- the place i of the octet that reserves n: below the count it is 00, and at the count it is not
   pub keeps : (n i : ℕ) → get_or s i 0 ≡ used → i ≤ count s → i < page_size → n ≤ numbers_each * i + numbers_each → s ≡ reserving n s
