@@ -1,14 +1,17 @@
 -- One step of a program, from the contracts of what it calls.
-use Prim.Native.Nat.{ℕ, ◌+◌, ◌-◌, ◌≤◌, ◌<◌}
+use Prim.Native.Nat.{ℕ, zero, suc, ◌+◌, ◌-◌, ◌≤◌, ◌<◌}
 use mathlib.Core.Path.{◌≡◌, refl, sym, ap, subst, ◌∙◌}
 use mathlib.Core.Logic.{◌≢◌}
 use mathlib.Core.Bool.{Bool, true, false}
 use mathlib.Core.List.{List, [], ◌∷◌, ◌++◌, append_assoc, append-nil}
 use native.Mathlib.Omega.{arith}
+use lib.Dec.{ltb}
+use Rattle.std.proofs.Common.{lt-ltb}
 use lib.ListN.{length, take, drop, length-take, length-drop, length-append}
 use lib.Seq.{length-take-le, take_at}
+use Rattle.std.proofs.lemmas.Bool.{false≢true}
 use Rattle.octets.specs.Octets.{put}
-use Rattle.octets.specs.Test.{if_eq}
+use Rattle.octets.specs.Test.{when, if_eq}
 use Rattle.octets.proofs.Test.{by_eq, eq_yes, eq_no, if-lt}
 use Rattle.octets.proofs.Buffers.{put_fits}
 use Rattle.line_split.specs.Split.{ended, last, longest_kept, cut}
@@ -17,6 +20,12 @@ use Rattle.line_io.specs.Answering.{Answering, Answered, Cuts, state_after, answ
 use Rattle.line_io.specs.Place.{buffer_size, PlaceFits, between, ready_line, one_less, answered_with, Flushed, AfterRead, Taken, Refilled, Next}
 use Rattle.line_io.specs.Step.{Went, Rests, Wrote, ReadOn, Finished, Stopped, Stepped}
 use Rattle.line_io.proofs.Answers.{answers-cut, after-cut}
+
+-- something is held
+pub some_held : (k : ℕ) → ltb 0 k ≡ if_eq k 0 false true
+unfolding if_eq when
+some_held zero = refl
+some_held (suc k) = lt-ltb 0 (suc k) (omega arith) ∙ sym (eq_no (suc k) 0 false true (λ z. omega arith))
 
 -- a read counts what it brings
 pub counted : {n : ℕ} {p q : Place} → AfterRead n p q → AfterRead q.end p q
@@ -28,7 +37,7 @@ record Halted (p q : Place) : Type 0 where
   pub end : q.end ≡ p.end
   pub kept : q.kept ≡ p.kept
   pub filled : q.filled ≡ 0
-  pub lines : q.lines ≡ 0
+  pub has_line : q.has_line ≡ false
   pub steps : q.steps ≡ 0
 
 record More (p : Place) (buf' : List ℕ) (q : Place) : Type 0 where
@@ -38,7 +47,7 @@ record More (p : Place) (buf' : List ℕ) (q : Place) : Type 0 where
   pub read : q.end ≤ buffer_size
   pub kept : q.kept ≡ p.kept
   pub filled : q.filled ≡ 0
-  pub lines : q.lines ≡ 0
+  pub has_line : q.has_line ≡ false
   pub steps : q.steps ≡ p.steps - 1
   pub left : q.steps ≢ 0
 
@@ -49,7 +58,7 @@ record Ended (p q : Place) : Type 0 where
   pub filled : q.filled ≡ 0
   pub begins : q.from ≡ 0
   pub stops : q.to ≡ 0
-  pub lines : q.lines ≡ if_eq p.kept 0 0 1
+  pub has_line : q.has_line ≡ if_eq p.kept 0 false true
   pub steps : q.steps ≡ 1
   pub left : 1 < p.steps
 
@@ -71,7 +80,7 @@ refill {p = p} {q = q} r =
       end = ap (λ (x : Place). x.end) d;
       kept = ap (λ (x : Place). x.kept) d;
       filled = ap (λ (x : Place). x.filled) d;
-      lines = ap (λ (x : Place). x.lines) d;
+      has_line = ap (λ (x : Place). x.has_line) d;
       steps = ap (λ (x : Place). x.steps) d ∙ z;
     }))
     (λ n. let w = r.filled.read n in
@@ -85,7 +94,7 @@ refill {p = p} {q = q} r =
       filled = w.filled ∙ f;
       begins = w.begins;
       stops = w.stops;
-      lines = (w.over z).0 ∙ ap (λ (x : ℕ). if_eq x 0 0 1) k;
+      has_line = (w.over z).0 ∙ ap (λ (x : ℕ). if_eq x 0 false true) k;
       steps = (w.over z).1;
       left = omega (arith, l, n);
     }))
@@ -96,7 +105,7 @@ refill {p = p} {q = q} r =
       read = b.1;
       kept = w.kept ∙ k;
       filled = w.filled ∙ f;
-      lines = (w.more z).0;
+      has_line = (w.more z).0;
       steps = (w.more z).1 ∙ l;
       left = λ y. n (sym (w.more z).1 ∙ y);
     })))
@@ -115,9 +124,9 @@ refill_fits f l (reads m) = (fits_by f (omega (arith, m.at)) m.read m.kept m.fil
 refill_fits f l (ends d) = (fits_by f (omega (arith, d.at)) (omega (arith, d.end)) d.kept d.filled, omega (arith, d.steps, d.left))
 
 -- the line that is ready where the input at hand is used up is the last
-ready_last : {p q : Place} {buf' : List ℕ} → q.lines ≢ 0 → Refill p buf' q → Ended p q
-ready_last n (halts h) = absurd (n h.lines)
-ready_last n (reads m) = absurd (n m.lines)
+ready_last : {p q : Place} {buf' : List ℕ} → q.has_line ≢ false → Refill p buf' q → Ended p q
+ready_last n (halts h) = absurd (n h.has_line)
+ready_last n (reads m) = absurd (n m.has_line)
 ready_last n (ends d) = d
 
 -- one step towards the next line, in each of its cases
@@ -146,7 +155,7 @@ module _ {room : ℕ} {buf line : List ℕ} {p q : Place} (f : PlaceFits p) (l :
         taken = λ _ z. absurd (omega (arith, k, z));
         fits = fits_by f (omega (arith, at, end, f.used)) (omega (arith, end, f.read)) (ap (λ (x : Place). x.kept) e) (ap (λ (x : Place). x.filled) e);
         less = by_eq q.steps 0 (λ z. omega (arith, z)) (λ n. omega (arith, w.steps n));
-        ready = λ _ n. absurd (n (ap (λ (x : Place). x.lines) e));
+        ready = λ _ n. absurd (n (ap (λ (x : Place). x.has_line) e));
       }
 
   pub next-taken : {line' : List ℕ} → p.at ≢ p.end → p.filled + room ≤ buffer_size → Taken buf line (one_less p) line' q → Next room buf line p buf line' q
@@ -181,12 +190,12 @@ module _ {a : Answering} where
   none_reads e n m (reads r) = record { rests = rests e r.kept r.filled; at = r.at; end = r.stands; steps = r.steps }
   none_reads e n m (ends d) = absurd (m d.end)
 
-  none-ends : {s : a.State} {line buf' out : List ℕ} {p q : Place} → q.lines ≡ 0 → q.steps ≢ 0 → q.end ≡ 0 → Refill p buf' q → Finished a s line p s out q
+  none-ends : {s : a.State} {line buf' out : List ℕ} {p q : Place} → q.has_line ≡ false → q.steps ≢ 0 → q.end ≡ 0 → Refill p buf' q → Finished a s line p s out q
   unfolding state_after answers last
   none-ends z n m (halts h) = absurd (n h.steps)
   none-ends z n m (reads r) = absurd (r.some m)
   none-ends {p = p} z n m (ends d) =
-      let k : p.kept ≡ 0 = by_eq p.kept 0 (λ h. h) (λ h. absurd (omega (arith, z, d.lines, eq_no {A = ℕ} p.kept 0 0 1 h))) in
+      let k : p.kept ≡ 0 = by_eq p.kept 0 (λ h. h) (λ h. absurd (false≢true (sym z ∙ d.has_line ∙ eq_no p.kept 0 false true h))) in
       record { at = d.at; held = d.kept ∙ k; steps = d.steps; state = rw k refl; told = rw (k, d.filled) refl }
 
   none-stops : {s : a.State} {line buf' line' : List ℕ} {p q : Place} → line' ≡ line → q.steps ≡ 0 → Refill p buf' q → Stopped a s line p s line' q
@@ -206,7 +215,7 @@ module _ {a : Answering} where
       }
 
   -- and where a piece of a line is held
-  none-went : {s : a.State} {buf line out buf' line' : List ℕ} {p q : Place} → Taken buf line (one_less p) line' q → buf' ≡ buf → q.lines ≡ 0
+  none-went : {s : a.State} {buf line out buf' line' : List ℕ} {p q : Place} → Taken buf line (one_less p) line' q → buf' ≡ buf → q.has_line ≡ false
       → Went a s buf line out p s buf' line' out q
   unfolding state_after answers
   none-went {out = out} {p = p} t b z =
@@ -221,7 +230,7 @@ module _ {a : Answering} where
       }
 
   pub step-none : {room : ℕ} (s : a.State) {buf line : List ℕ} (out : List ℕ) {buf' line' : List ℕ} {p q : Place}
-      → Next room buf line p buf' line' q → q.lines ≡ 0 → Stepped a room s buf line out p s buf' line' out q
+      → Next room buf line p buf' line' q → q.has_line ≡ false → Stepped a room s buf line out p s buf' line' out q
   step-none s out x z =
       record {
         went = λ h r. none-went (x.taken h r).0 (x.taken h r).1 z;
@@ -234,11 +243,11 @@ module _ {a : Answering} where
       }
 
   -- a line is answered: the last one,
-  line-ends : {s s' : a.State} {line : List ℕ} (buf' : List ℕ) {line' out out' : List ℕ} {p q : Place} {n : ℕ} → p.kept ≤ length line' → line' ≡ line → q.lines ≢ 0
+  line-ends : {s s' : a.State} {line : List ℕ} (buf' : List ℕ) {line' out out' : List ℕ} {p q : Place} {n : ℕ} → p.kept ≤ length line' → line' ≡ line → q.has_line ≢ false
       → Replied a s (ready_line buf' line' q) out q.filled s' out' n → Ended p q → Finished a s line p s' out' (answered_with q n)
   unfolding state_after answers ready_line
   line-ends {s = s} {line = line} buf' {line' = line'} {out = out} {p = p} {q = q} b e m r d =
-      let k : p.kept ≢ 0 = λ z. m (d.lines ∙ eq_yes {A = ℕ} p.kept 0 0 1 z) in
+      let k : p.kept ≢ 0 = λ z. m (d.has_line ∙ eq_yes p.kept 0 false true z) in
       let y : ready_line buf' line' q ≡ take p.kept line = eq_no q.kept 0 _ _ (λ z. k (sym d.kept ∙ z)) ∙ rw (e, d.kept) refl in
       let w : last (take p.kept line) ≡ take p.kept line ∷ [] = last_some _ (λ z. k (omega (arith, z, length-take-le p.kept line (omega (arith, b, ap length e))))) in
       record {
@@ -250,7 +259,7 @@ module _ {a : Answering} where
       }
 
   -- and any other
-  line-went : Cuts a → {s s' : a.State} {buf line out buf' line' out' : List ℕ} {p q : Place} {n : ℕ} → Taken buf line (one_less p) line' q → buf' ≡ buf → q.lines ≢ 0
+  line-went : Cuts a → {s s' : a.State} {buf line out buf' line' out' : List ℕ} {p q : Place} {n : ℕ} → Taken buf line (one_less p) line' q → buf' ≡ buf → q.has_line ≢ false
       → Replied a s (ready_line buf' line' q) out q.filled s' out' n → Went a s buf line out p s' buf' line' out' (answered_with q n)
   unfolding state_after answers cut
   line-went c {s = s} {buf = buf} {line = line} {out = out} {line' = line'} {p = p} {q = q} t b z r' =
@@ -271,12 +280,12 @@ module _ {a : Answering} where
       }
 
   pub step_line : Cuts a → {room : ℕ} {s s' : a.State} {buf line out buf' line' out' : List ℕ} {p q : Place} {n : ℕ} → length line' ≡ longest_kept
-      → Next room buf line p buf' line' q → q.lines ≢ 0 → Replied a s (ready_line buf' line' q) out q.filled s' out' n
+      → Next room buf line p buf' line' q → q.has_line ≢ false → Replied a s (ready_line buf' line' q) out q.filled s' out' n
       → Stepped a room s buf line out p s' buf' line' out' (answered_with q n)
   step_line c {buf' = buf'} {p = p} {q = q} w x m r =
       record {
         went = λ h k. line-went c (x.taken h k).0 (x.taken h k).1 m r;
-        wrote = λ h k. absurd (m (ap (λ (y : Place). y.lines) (x.flushed h k).0.place));
+        wrote = λ h k. absurd (m (ap (λ (y : Place). y.has_line) (x.flushed h k).0.place));
         read_on = λ h k e. absurd (e (ready_last m (refill (x.refilled h))).end);
         finished = λ h k e. let d = ready_last m (refill (x.refilled h)) in line-ends buf' (omega (arith, w, d.kept, x.fits.kept)) (x.refilled h).held m r d;
         stopped = λ h k. absurd (omega (arith, k, (ready_last m (refill (x.refilled h))).steps));

@@ -2,10 +2,12 @@
 use Prim.Native.Nat.{ℕ, suc, ◌+◌, ◌-◌, ◌≤◌, ◌<◌}
 use mathlib.Core.Path.{◌≡◌, refl, sym, ap, subst, ◌∙◌}
 use mathlib.Core.Logic.{◌≢◌}
+use mathlib.Core.Bool.{true, false}
 use mathlib.Core.List.{List, [], ◌∷◌, ◌++◌}
 use native.Mathlib.Omega.{arith}
 use lib.ListN.{length, take, drop, length-drop}
 use lib.Seq.{length-take-le, take-take}
+use Rattle.std.proofs.lemmas.Bool.{true≢false}
 use Rattle.octets.specs.Test.{if_eq}
 use Rattle.octets.proofs.Test.{eq_yes, eq_no}
 use Rattle.line_split.specs.Lines.{line_length, Kept}
@@ -25,7 +27,7 @@ module _ (buf line : List ℕ) (p : Place) (n : ℕ) (on : p.at < p.end) (read :
   all = length-take-le (p.end - p.at) (drop p.at buf) (rw length-drop (omega arith))
 
   pub takes-piece : p.at + n ≡ p.end → {line' : List ℕ} {m f t : ℕ} → Kept line p.kept (between p.at p.end buf) line' m → m ≤ length line → f ≤ t → t ≤ p.end
-      → Taken buf line p line' (record { at = p.end; end = p.end; kept = m; filled = p.filled; lines = 0; from = f; to = t; steps = p.steps })
+      → Taken buf line p line' (record { at = p.end; end = p.end; kept = m; filled = p.filled; has_line = false; from = f; to = t; steps = p.steps })
   takes-piece z w b g s =
       let h : line_length (between p.at p.end buf) ≡ length (between p.at p.end buf) = omega (arith, e, z, all) in
       record {
@@ -63,10 +65,10 @@ module _ (buf line : List ℕ) (p : Place) (n : ℕ) (on : p.at < p.end) (read :
     -- after a line, at is past its line feed
     takes-line : {line' : List ℕ} {m f t x : ℕ} → x ≡ p.at + n + 1 → m ≤ longest_kept → f ≤ t → t ≤ p.end
         → cut (take p.kept line ++ between p.at (p.at + n) buf) ≡ cut (if_eq m 0 (between f t buf) (take m line'))
-        → Taken buf line p line' (record { at = x; end = p.end; kept = m; filled = p.filled; lines = 1; from = f; to = t; steps = p.steps })
+        → Taken buf line p line' (record { at = x; end = p.end; kept = m; filled = p.filled; has_line = true; from = f; to = t; steps = p.steps })
     unfolding ready_line
     takes-line {line'} {m} {f} {t} ex b g s r =
-        subst (λ (x : ℕ). Taken buf line p line' (record { at = x; end = p.end; kept = m; filled = p.filled; lines = 1; from = f; to = t; steps = p.steps })) (sym ex)
+        subst (λ (x : ℕ). Taken buf line p line' (record { at = x; end = p.end; kept = m; filled = p.filled; has_line = true; from = f; to = t; steps = p.steps })) (sym ex)
         (record {
           on = omega arith;
           used = omega (arith, less);
@@ -76,18 +78,18 @@ module _ (buf line : List ℕ) (p : Place) (n : ℕ) (on : p.at < p.end) (read :
           held = b;
           begins = g;
           stops = s;
-          none = λ y. absurd (omega arith);
+          none = λ y. absurd (true≢false y);
           one = λ _. (rw ends-one (ap (λ (x : List ℕ). x ∷ []) r), begins-none);
         })
 
     pub takes-fresh : p.kept ≡ 0 → {f t x : ℕ} → x ≡ p.at + n + 1 → f ≡ p.at → t ≡ p.at + n
-        → Taken buf line p line (record { at = x; end = p.end; kept = p.kept; filled = p.filled; lines = 1; from = f; to = t; steps = p.steps })
+        → Taken buf line p line (record { at = x; end = p.end; kept = p.kept; filled = p.filled; has_line = true; from = f; to = t; steps = p.steps })
     takes-fresh y {f} {t} ex ef et =
         takes-line ex k (omega arith) (omega (arith, less)) (ap cut (rw (eq_yes p.kept 0 (between f t buf) (take p.kept line) y, y, ef, et) refl))
 
     pub takes-kept : p.kept ≢ 0 → {line' : List ℕ} {m f t x : ℕ} → Kept line p.kept (between p.at (p.at + n) buf) line' m → m ≤ length line → x ≡ p.at + n + 1
         → f ≤ t → t ≤ p.end
-        → Taken buf line p line' (record { at = x; end = p.end; kept = m; filled = p.filled; lines = 1; from = f; to = t; steps = p.steps })
+        → Taken buf line p line' (record { at = x; end = p.end; kept = m; filled = p.filled; has_line = true; from = f; to = t; steps = p.steps })
     takes-kept y {line'} {m} {f} {t} w b ex g s =
         takes-line ex (omega arith) g s
         (rw (eq_no m 0 (between f t buf) (take m line') (λ z. y (omega (arith, z, w.count)))) (sym (ap cut (kept_cut line _ p.kept l k w) ∙ cut-cut _)))

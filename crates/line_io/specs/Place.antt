@@ -1,5 +1,5 @@
 -- A program's place, and what each function of this crate makes of it.
-use Rattle.std.specs.Prelude.{ℕ, ◌+◌, ◌-◌, ◌≤◌, ◌<◌, ◌≡◌, ◌≢◌, List, [], ◌∷◌, map, length, take, drop}
+use Rattle.std.specs.Prelude.{ℕ, true, false, ◌+◌, ◌-◌, ◌≤◌, ◌<◌, ◌≡◌, ◌≢◌, List, [], ◌∷◌, map, length, take, drop}
 use Rattle.octets.specs.Test.{if_eq}
 use Rattle.line_split.specs.Split.{ended, unfinished, longest_kept, cut}
 use Rattle.line_io.specs.declared.Place.{Place}
@@ -38,7 +38,7 @@ one_less p = record {
   end = p.end;
   kept = p.kept;
   filled = p.filled;
-  lines = p.lines;
+  has_line = p.has_line;
   from = p.from;
   to = p.to;
   steps = p.steps - 1;
@@ -51,7 +51,7 @@ emptied p n = record {
   end = p.end;
   kept = p.kept;
   filled = 0;
-  lines = 0;
+  has_line = false;
   from = p.from;
   to = p.to;
   steps = n;
@@ -64,7 +64,7 @@ answered_with p n = record {
   end = p.end;
   kept = 0;
   filled = p.filled + n;
-  lines = 0;
+  has_line = false;
   from = p.from;
   to = p.to;
   steps = p.steps;
@@ -83,8 +83,8 @@ pub record AfterRead (n : ℕ) (p q : Place) : Type 0 where
   pub filled : q.filled ≡ p.filled
   pub begins : q.from ≡ 0
   pub stops : q.to ≡ 0
-  pub more : n ≢ 0 → (q.lines ≡ 0) × (q.steps ≡ p.steps)
-  pub over : n ≡ 0 → (q.lines ≡ if_eq p.kept 0 0 1) × (q.steps ≡ 1)
+  pub more : n ≢ 0 → (q.has_line ≡ false) × (q.steps ≡ p.steps)
+  pub over : n ≡ 0 → (q.has_line ≡ if_eq p.kept 0 false true) × (q.steps ≡ 1)
 
 -- More is read where a step is left. How much, and which octets, no contract says.
 pub record Filled (p : Place) (buf' : List ℕ) (q : Place) : Type 0 where
@@ -102,9 +102,9 @@ pub record Taken (buf line : List ℕ) (p : Place) (line' : List ℕ) (q : Place
   pub held : q.kept ≤ longest_kept
   pub begins : q.from ≤ q.to
   pub stops : q.to ≤ q.end
-  pub none : q.lines ≡ 0 → (ended (take p.kept line) (between p.at q.at buf) ≡ [])
+  pub none : q.has_line ≡ false → (ended (take p.kept line) (between p.at q.at buf) ≡ [])
       × (take q.kept line' ≡ cut (unfinished (take p.kept line) (between p.at q.at buf)))
-  pub one : q.lines ≢ 0 → (map cut (ended (take p.kept line) (between p.at q.at buf)) ≡ cut (ready_line buf line' q) ∷ [])
+  pub one : q.has_line ≢ false → (map cut (ended (take p.kept line) (between p.at q.at buf)) ≡ cut (ready_line buf line' q) ∷ [])
       × (unfinished (take p.kept line) (between p.at q.at buf) ≡ [])
 
 -- Where the input at hand is used up: a write and then a read.
@@ -129,4 +129,4 @@ pub record Next (room : ℕ) (buf line : List ℕ) (p : Place) (buf' line' : Lis
   pub taken : p.at ≢ p.end → p.filled + room ≤ buffer_size → (Taken buf line (one_less p) line' q) × (buf' ≡ buf)
   pub fits : PlaceFits q
   pub less : q.steps < p.steps
-  pub ready : room ≤ buffer_size → q.lines ≢ 0 → LineReady room q
+  pub ready : room ≤ buffer_size → q.has_line ≢ false → LineReady room q

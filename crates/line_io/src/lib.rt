@@ -1,7 +1,7 @@
 // Lines of text from standard input, and text to standard output, through buffers: all of a program but its answers.
 #![tactic(auto)]
 
-ghost use Rattle.std.specs.Prelude.{ℕ, ◌≡◌, ◌+◌, ◌≤◌, ◌<◌, length, take, replicate};
+ghost use Rattle.std.specs.Prelude.{ℕ, false, ◌≡◌, ◌+◌, ◌≤◌, ◌<◌, length, take, replicate};
 ghost use Rattle.line_split.specs.Split.{longest_kept};
 ghost use Rattle.line_io.specs.Answering.{Answering, Answered, Cuts};
 ghost use Rattle.line_io.specs.Place.{buffer_size, PlaceFits, Starts, ready_line, answered_with, Flushed, AfterRead, Filled, Taken, Next};
@@ -21,17 +21,16 @@ pub const LONGEST_KEPT: usize = 2 * octets::LONGEST_FRAME + 1;
 // How far a program is. The input at hand is read up to end and used up to at; kept characters of a line that began in earlier
 // input are held; filled characters of output wait. One line is ready or none: what is held or, where nothing is, the input at
 // hand between from and to. The program is done where no steps are left; each step leaves fewer, so that every run ends.
-// Every field is a word: a struct with gaps between its fields takes longer to copy.
 #[derive(Clone, Copy)]
 pub struct Place {
     pub at: usize,
     pub end: usize,
     pub kept: usize,
     pub filled: usize,
-    pub lines: usize,
     pub from: usize,
     pub to: usize,
     pub steps: u64,
+    pub has_line: bool,
 }
 
 // What a program reads and writes, and where it says what failed.
@@ -108,7 +107,7 @@ impl Place {
             end: 0,
             kept: 0,
             filled: 0,
-            lines: 0,
+            has_line: false,
             from: 0,
             to: 0,
             steps: u64::MAX,
@@ -126,7 +125,7 @@ impl Place {
     // After a read of n octets. At the end of the input there are none; text after the last line feed is a line too, and one
     // step is left, which writes its answer.
     fn after_read(self, n: usize) -> Place
-        requires { self.lines ≡ 0 }
+        requires { self.has_line ≡ false }
         ensures { AfterRead n self result }
     {
         let p = Place {
@@ -140,7 +139,7 @@ impl Place {
             return p;
         }
         Place {
-            lines: if self.kept > 0 { 1 } else { 0 },
+            has_line: self.kept > 0,
             steps: 1,
             ..p
         }
@@ -166,7 +165,7 @@ impl Place {
         Place {
             kept: 0,
             filled: self.filled + n,
-            lines: 0,
+            has_line: false,
             ..self
         }
     }
@@ -191,7 +190,7 @@ impl Buffers {
     {
         let written = Place {
             filled: 0,
-            lines: 0,
+            has_line: false,
             ..p
         };
         match streams.output.write_all(p.waiting(&self.output)) {
@@ -208,7 +207,7 @@ impl Buffers {
 
     // Reads on where a step is left. What is read, no contract can say.
     fn fill(&mut self, streams: Streams, p: Place) -> Place
-        requires { p.lines ≡ 0 }
+        requires { p.has_line ≡ false }
         ensures filled { Filled p self.new.input result }
         ensures others { (self.new.line ≡ self.old.line) × (self.new.output ≡ self.old.output) }
     {
@@ -244,13 +243,13 @@ impl Buffers {
             return Place {
                 at: p.end,
                 kept,
-                lines: 0,
+                has_line: false,
                 ..q
             };
         }
         let q = Place {
             at: stop + 1,
-            lines: 1,
+            has_line: true,
             ..q
         };
         if p.kept == 0 {
@@ -294,16 +293,16 @@ pub fn step<A: Responder>(
         (A.state answers.new) buffers.new.input buffers.new.line buffers.new.output result }
 {
     let q = buffers.next(streams, A::ROOM, p);
-    if q.lines == 0 {
-        return q;
+    if q.has_line {
+        let Buffers {
+            input,
+            line,
+            output,
+        } = buffers;
+        let n = answers.answer(q.ready(input, line), &mut output[q.filled..]);
+        return q.answered(n);
     }
-    let Buffers {
-        input,
-        line,
-        output,
-    } = buffers;
-    let n = answers.answer(q.ready(input, line), &mut output[q.filled..]);
-    q.answered(n)
+    q
 }
 
 // A program: steps while some are left.

@@ -1,23 +1,19 @@
-use Rattle.std.proofs.Common.{rules}
+use Rattle.std.proofs.Common.{rules, sym, ◌∙◌}
+use Rattle.std.proofs.lemmas.Bool.{true≢false}
 use Rattle.line_io.proofs.Steps.{free-room, step-none, step_line, replied}
 use Rattle.line_io.proofs.step.Goals as goal
-
-pub returns-then-q-eq0 : goal.returns-then-q-eq0
-returns-then-q-eq0 g c =
-    let x = rw c.ROOM.ensures at c.next-q.ensures.next in
-    rw c.next-q.ensures.output (step-none (g.A.Responder.state c.args.answers.now) c.args.buffers.now.output x c.if-q-eq0.true)
 
 -- a line is ready, and there is room for its answer
 pub ready-requires : goal.ready-requires
 ready-requires g c =
     let x = rw c.ROOM.ensures at c.next-q.ensures.next in
-    let y = x.ready g.met.A.Responder.fits c.if-q-eq0.false in
+    let y = x.ready g.met.A.Responder.fits (λ z. true≢false (sym c.if-q.true ∙ z)) in
     search rules
 
 pub answer-n-requires : goal.answer-n-requires
 answer-n-requires g c =
     let x = rw c.ROOM.ensures at c.next-q.ensures.next in
-    let y = x.ready g.met.A.Responder.fits c.if-q-eq0.false in
+    let y = x.ready g.met.A.Responder.fits (λ z. true≢false (sym c.if-q.true ∙ z)) in
     free-room c.next-q.new.self.output (search rules) c.next-q.result.filled _ y.free
 
 pub answered-requires : goal.answered-requires
@@ -26,9 +22,14 @@ answered-requires g c =
     let r = replied c.next-q.new.self.output (search rules) c.next-q.result.filled x.fits.filled c.answer-n.ensures (search rules) in
     r.room
 
-pub returns : goal.returns
-returns g c =
+pub returns-then-q : goal.returns-then-q
+returns-then-q g c =
     let x = rw c.ROOM.ensures at c.next-q.ensures.next in
     let r = replied c.next-q.new.self.output (search rules) c.next-q.result.filled x.fits.filled c.answer-n.ensures (search rules) in
     rw (c.answered.ensures, ← c.next-q.ensures.output)
-    (step_line g.met.A.Responder.cuts (search rules) x c.if-q-eq0.false (rw c.ready.ensures at r))
+    (step_line g.met.A.Responder.cuts (search rules) x (λ z. true≢false (sym c.if-q.true ∙ z)) (rw c.ready.ensures at r))
+
+pub returns : goal.returns
+returns g c =
+    let x = rw c.ROOM.ensures at c.next-q.ensures.next in
+    rw c.next-q.ensures.output (step-none (g.A.Responder.state c.args.answers.now) c.args.buffers.now.output x c.if-q.false)
