@@ -61,7 +61,7 @@ pub fn is_run(page: &[u8]) -> bool
 }
 
 // Question 15 of a call, beside a record with this L: is the page a run of 00 followed only by FF, and is its count of 00 L/16 rounded up?
-#[tactic(auto, using(crate::proofs::Scan::goes_not), unfolding(crate::specs::Page::goes_with))]
+#[tactic(auto, using(crate::proofs::Scan::goes_not))]
 pub fn goes_with(local: u32, page: &[u8]) -> bool
     requires { page_size ≤ length page.now }
     ensures { result ≡ goes_with local page.now }
