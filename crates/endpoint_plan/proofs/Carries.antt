@@ -1,9 +1,9 @@
 -- What the plan of a call is, that it can be carried out, and what carrying it out leaves.
 use Prim.Native.Nat.{ℕ, zero, suc, ◌+◌, ◌*◌, ◌≤◌, ◌<◌}
 use mathlib.Core.Path.{◌≡◌, refl, sym, subst, ap, ap₂, ◌∙◌}
-use mathlib.Core.Logic.{◌≢◌}
 use mathlib.Core.Bool.{true}
 use mathlib.Core.List.{List, [], ◌∷◌, ◌++◌}
+use Rattle.std.specs.Prelude.{Result, Ok, Err}
 use native.Mathlib.Nat.{mul-one}
 use native.Mathlib.Omega.{arith}
 use borrow.Author.Tests.{le-leb, leb-true}
@@ -13,15 +13,16 @@ use lib.Seq.{take_all, take_at}
 use Rattle.octets.specs.Sizes.{longest_frame, longest_block, queue_size, held_size, last_number, page_size, numbers_each, last_incarnation}
 use Rattle.octets.specs.Test.{when, first, Outcome, refused, ok, mapped, refusing, number_of}
 use Rattle.octets.specs.Octets.{put, left, padded}
-use Rattle.octets.proofs.Test.{both, joined, by_eq, eq_yes, eq_no, passing}
+use Rattle.octets.specs.declared.refusal.Refusal.{Refusal}
+use Rattle.octets.specs.Refusal.{refusal_number}
+use Rattle.octets.proofs.Test.{both, joined, by_eq, eq_yes, eq_no, passing, refusing_of}
 use Rattle.octets.proofs.Octets.{put-none}
-use Rattle.octets.proofs.Outcomes.{is_refused}
 use Rattle.frame.specs.Frame.{Block}
 use Rattle.frame.specs.Read.{cut_block}
-use Rattle.frame.specs.Answer.{frame_of, meant}
+use Rattle.frame.specs.Answer.{meant}
 use Rattle.frame.specs.declared.Message.{Message}
 use Rattle.frame.specs.declared.Message.TheVariants as message
-use Rattle.page.specs.Page.{runs, reserving}
+use Rattle.page.specs.Page.{runs, goes_with, reserving}
 use Rattle.page.specs.Page as pages
 use Rattle.page.proofs.Laws.{goes_so, goes_last, stays}
 use Rattle.protocol.specs.Endpoint as abstract
@@ -37,23 +38,27 @@ use Rattle.step_rules.specs.Internal.{holding}
 use Rattle.step_plan.specs.declared.Plan.{Plan}
 use Rattle.step_plan.specs.declared.Places.{Places}
 use Rattle.step_plan.specs.declared.Places.TheVariants.{Keep, Join, Release, Clear}
-use Rattle.step_plan.specs.Internal.{block_by, queue_after, held_after, Room, HeldRoom, block_out, sent_by, Known, Oldest, Comes, Sends}
-use Rattle.step_plan.proofs.Comes.{refuses}
+use Rattle.step_plan.specs.Internal.{block_by, queue_after, held_after, Room, HeldRoom, block_out, sent_by, Oldest, Comes, ComesOf, notice_number, Sends}
 use Rattle.step_plan.proofs.Up.{right, told}
 use Rattle.step_plan.proofs.Up as up
 use Rattle.endpoint.specs.declared.Endpoint.{Endpoint}
 use Rattle.endpoint.specs.View.{places_of, places_size, pack, tab, place_block, view}
 use Rattle.endpoint.specs.Sound.{sound}
-use Rattle.endpoint.specs.Internal.{numbers_of}
+use Rattle.endpoint.specs.declared.Parts.{Parts}
+use Rattle.endpoint.specs.Internal.{whole, numbers_of}
 use Rattle.endpoint.proofs.Packs.{Long, Tidy, Small, small, count, length-tab, tab-head, small-tab, lengths-back, blocks-back, pack-view, lengths_added, blocks_added, lengths-dropped, blocks-dropped}
 use Rattle.endpoint.proofs.Sounds.{by_lt, tidy, tidy-held, lengths-held, facts}
 use Rattle.endpoint_places.specs.Internal.{places_after, InEight, PlanFits, lengths_after, blocks_after, carried, block_from, Handy, handed_to, HandsUp}
 use Rattle.endpoint_places.proofs.HeldPlaces.{zeros-padded, held-lengths-after, held-blocks-after}
 use Rattle.endpoint_plan.specs.Calls.{outcome_of}
-use Rattle.endpoint_plan.specs.Internal.{input_of, Plannable, PlannedBy, PlansFor, Plans, PlansAny, number_left, Reserved}
-use Rattle.endpoint_plan.proofs.Messages.{reads_as, carries_it, number_fits, accepted_short}
+use Rattle.endpoint_plan.specs.Internal.{rooms_ok, input_of, Plannable, PlannedBy, PlansFor, Plans, PlansAny, Reserved}
+use Rattle.endpoint_plan.proofs.Messages.{unread, reads_as, carries_it, number_fits, accepted_short}
 use Rattle.endpoint_plan.proofs.Numbers.{local-after, receive-local}
-use Rattle.endpoint_plan.proofs.Ready.{accepted_by, Passes, all_passed, passes}
+use Rattle.endpoint_plan.proofs.Ready.{some_number, Passes, all_passed, passes}
+
+-- the parts of a record have their lengths
+pub long : (p : Parts) → Long (whole p)
+long p = record { lengths = p.queue.eight_lengths; blocks = p.queue.eight_blocks; held_lengths = p.held.eight_lengths; held_blocks = p.held.eight_blocks }
 
 -- the oldest block is the one at place 0
 heads : (w : ℕ) (f : ℕ → Block) → Oldest (tab w f) (f 0)
@@ -194,35 +199,21 @@ module _ (e : Endpoint) (s : sound e ≡ true) (long : Long e) where
   unfolding view
   carries {b} {p = p} c = carried-is p b c.counted c.room c.place ∙ ap pack c.endpoint
 
--- A message of these octets, whose questions before 3 have come to n: 0 only of a sound record.
-module _ (e : Endpoint) (long : Long e) (c : Call) (s : List ℕ) where
-  planned-at : (m : Message) → meant m (cut_block s) ≡ input_of c s → sound e ≡ true → Plannable m (numbers_of e) e.held_lengths
-  unfolding meant
-  planned-at (message.Request q) h f = (laden e f long, (long.held_lengths, number-left e f long))
-  planned-at (message.Frame g) h f = (laden e f long, (long.held_lengths, number_fits c s (frame_of g (cut_block s)) h))
-  planned-at (message.Refused k) h f = tt
-
-  refused-is : (m : Message) (n : ℕ) → meant m (cut_block s) ≡ refused n → m ≡ message.Refused n
-  unfolding meant
-  refused-is (message.Request q) n h = absurd (let z : ◌≡◌ {A = ℕ} 0 1 = cc in omega arith)
-  refused-is (message.Frame g) n h = absurd (let z : ◌≡◌ {A = ℕ} 0 1 = cc in omega arith)
-  refused-is (message.Refused k) n h = cc
-
+-- A message that was read from these octets.
+module _ (e : Endpoint) (long : Long e) (fine : sound e ≡ true) (c : Call) (s : List ℕ) where
   -- it can be planned for
-  pub plannable : (m : Message) (n : ℕ) → meant m (cut_block s) ≡ refusing n (input_of c s) → (n ≡ 0 → sound e ≡ true) → Plannable m (numbers_of e) e.held_lengths
-  unfolding refusing
-  plannable m zero h f = planned-at m h (f refl)
-  plannable m (suc n) h f = rw (refused-is m (suc n) h) tt
+  pub plannable : (m : Message) → ok (meant m (cut_block s)) ≡ input_of c s → Plannable m (numbers_of e) e.held_lengths
+  unfolding meant
+  plannable (message.Request q) h = (laden e fine long, number-left e fine long)
+  plannable (message.Frame g) h = (laden e fine long, number_fits c s g h)
 
   -- and what the plan is of
-  pub planned : (m : Message) (n : ℕ) → meant m (cut_block s) ≡ refusing n (input_of c s) → (n ≡ 0 → sound e ≡ true) → {p : Plan}
-      → PlannedBy m (numbers_of e) e.held_lengths p → ComesAt e (cut_block s) (refusing n (does c s (view e))) p
-  unfolding refusing view
-  planned m zero h f w =
+  planned : (m : Message) → ok (meant m (cut_block s)) ≡ input_of c s → (r : Result Plan Refusal) → PlannedBy m (numbers_of e) e.held_lengths r
+      → ComesOf (numbers_of e) (view e).queue (view e).held (cut_block s) (place_block e.lengths e.blocks 0) (does c s (view e)) r
+  unfolding view
+  planned m h r w =
       rw (reads_as m c s (view e) h)
-      (w.comes (cut_block s) (carries_it m c s h) (view e).queue (view e).held (place_block e.lengths e.blocks 0) (count e) (oldest-at e) (lengths-held e (f refl) long))
-  planned m (suc n) h f w =
-      refuses (numbers_of e) (view e).queue (view e).held (cut_block s) (place_block e.lengths e.blocks 0) (count e) (suc n) refl (w.refuses (suc n) (refused-is m (suc n) h))
+      (w (cut_block s) (carries_it m c s h) (view e).queue (view e).held (place_block e.lengths e.blocks 0) (count e) (oldest-at e) (lengths-held e fine long))
 
 -- what is left of the buffer
 pub sends_is : (out : List ℕ) {out' : List ℕ} {n : ℕ} (o : Outcome Step) → Sends (sent_in o) out out' n → out' ≡ buffer_after out o
@@ -277,57 +268,40 @@ from_received : (c : Call) (l d b : Block) → c ≡ call.Receive → block_from
 unfolding block_from
 from_received c l d b h = rw h refl
 
--- the number that a plan leaves
-pub is_left : (p : Plan) → p.number ≡ 0 → number_left p ≡ p.numbers.local
-unfolding number_left
-is_left p z = eq_yes _ _ _ _ z
-
-pub asks_reserved : {A : Type 0} (p : Plan) (page : List ℕ) → p.numbers.local ≤ numbers_each * pages.count page → (p.number ≡ 0) × A
-    → (p.number ≡ 0) × (Reserved p page × A)
-asks_reserved p page h a = (a.0, (omega (arith, is_left p a.0), a.1))
-
-pub none_left : (p : Plan) → p.number ≢ 0 → number_left p ≡ 0
-unfolding number_left
-none_left p n = eq_no _ _ _ _ n
-
 -- the same plan, of the block that was cut
 pub by_block : {c : Call} {r : Rooms} {e : Endpoint} {b b' : Block} {o : Outcome Step} {p : Plan} → b' ≡ b → PlansFor c r e b o p → PlansFor c r e b' o p
 by_block {c} {r} {e} {o = o} {p} h w = subst (λ (x : Block). PlansFor c r e x o p) (sym h) w
 
 -- A plan of a call that comes to o, with the block b.
 module _ (e : Endpoint) (long : Long e) (c : Call) (r : Rooms) (b : Block) (o : Outcome Step) {p : Plan} (w : PlansFor c r e b o p) where
-  -- one that is accepted can be carried out
-  module _ (z : p.number ≡ 0) where
-    pub is-accepted : number_of o ≡ 0
-    is-accepted = sym w.comes.number ∙ z
+  rooms-are : (leb longest_frame r.frame ≡ true) × (block_room_ok c r.block ≡ true)
+  rooms-are = both (leb longest_frame r.frame) (block_room_ok c r.block) w.roomy
 
-    rooms-are : (leb longest_frame r.frame ≡ true) × (block_room_ok c r.block ≡ true)
-    rooms-are = both (leb longest_frame r.frame) (block_room_ok c r.block) (w.roomy z)
+  -- its frame can be sent
+  pub sendable : (get_or e.lengths 0 0 ≤ longest_block) × ((length b ≤ longest_block) × (longest_frame ≤ r.frame))
+  sendable = (first_short e w.is_sound long, (w.short, leb-true longest_frame r.frame rooms-are.0))
 
-    -- its frame can be sent
-    pub sendable : Known p.reply × ((get_or e.lengths 0 0 ≤ longest_block) × ((length b ≤ longest_block) × (longest_frame ≤ r.frame)))
-    sendable = (w.comes.known, (first_short e (w.is_sound z) long, (w.short z, leb-true longest_frame r.frame rooms-are.0)))
+  -- it can be carried out
+  pub ready-to : PlanFits p b
+  ready-to = (
+    (queue_in_eight p.queue b e.waiting (few e w.is_sound long) (rw (count e) at w.comes.room), held_in_eight p.held b _ w.comes.place),
+    w.short,
+  )
 
-    pub ready-to : PlanFits p b
-    ready-to = (
-      (queue_in_eight p.queue b e.waiting (few e (w.is_sound z) long) (rw (count e) at w.comes.room), held_in_eight p.held b _ w.comes.place),
-      w.short z,
-    )
+  -- and it leaves the record that is answered
+  pub leaves : carried p b e ≡ pack (endpoint_after (view e) o)
+  leaves = carries e w.is_sound long w.comes
 
-    -- and it leaves the record that is answered
-    pub leaves : carried p b e ≡ pack (endpoint_after (view e) o)
-    leaves = carries e (w.is_sound z) long w.comes
+  -- there is room for the block that is handed up
+  handy-at : (k : Call) → block_room_ok k r.block ≡ true → Handy k e.held_lengths r.block
+  unfolding block_room_ok
+  handy-at call.Request k = (held-short-at e w.is_sound long, leb-true longest_block r.block k)
+  handy-at call.Receive k = tt
 
-    -- there is room for the block that is handed up
-    handy-at : (k : Call) → block_room_ok k r.block ≡ true → Handy k e.held_lengths r.block
-    unfolding block_room_ok
-    handy-at call.Request k = (held-short-at e (w.is_sound z) long, leb-true longest_block r.block k)
-    handy-at call.Receive k = tt
+  pub handy : Handy c e.held_lengths r.block
+  handy = handy-at c rooms-are.1
 
-    pub handy : Handy c e.held_lengths r.block
-    handy = handy-at c rooms-are.1
-
-  pub hands-up : block_by p.notice (block_from c e.held_lengths e.held_blocks b) ≡ block_of o
+  pub hands-up : block_by (notice_number p.notice) (block_from c e.held_lengths e.held_blocks b) ≡ block_of o
   hands-up = ap (λ (n : ℕ). block_by n (block_from c e.held_lengths e.held_blocks b)) w.comes.notice ∙ w.handed
 
   -- it stands where it was handed up to
@@ -341,92 +315,98 @@ module _ (e : Endpoint) (long : Long e) (c : Call) (r : Rooms) (b : Block) (o : 
       → Sends (sent_in o) out out' n
   sends s = rw w.comes.sent at s
 
-  -- one that refuses
-  pub is-turned-down : p.number ≢ 0 → o ≡ refused p.number
-  is-turned-down z = rw w.comes.number (is_refused o (λ y. z (w.comes.number ∙ y)))
-
--- The plan of a call with a page, whose questions before 3 have come to n.
+-- A call of an end with a page.
 module _ (e : Endpoint) (long : Long e) (page : List ℕ) (c : Arguments) where
   abbrev questions : ℕ
   questions = first (own_questions (sound e) e.local page c)
 
-  sound-if : questions ≡ 0 → sound e ≡ true
-  sound-if h = (all_passed (sound e) e.local page c h).is_fine
-
-  -- it can be planned for, and its plan is that of the call
-  pub can-plan : (m : Message) → meant m (cut_block c.octets) ≡ refusing questions (input_of c.call c.octets) → Plannable m (numbers_of e) e.held_lengths
-  can-plan m h = plannable e long c.call c.octets m questions h sound-if
-
-  pub plans : (m : Message) → meant m (cut_block c.octets) ≡ refusing questions (input_of c.call c.octets) → {p : Plan}
-      → PlannedBy m (numbers_of e) e.held_lengths p → Plans e page c p
+  -- a refusal by its questions before 3 is what it comes to
+  pub declined : (q : Refusal) → refusal_number q ≡ questions → outcome_of e page c ≡ refused (refusal_number q)
   unfolding outcome_of asked view
-  plans m h {p} w =
-      let k = planned e long c.call c.octets m questions h sound-if w in
-      let passed : p.number ≡ 0 → Passes (sound e) e.local page c = λ z. passes (sound e) page (view e) c (sym k.number ∙ z) in
-      record {
-        comes = k;
-        handed = ap (block_by (notice_of (outcome_of e page c))) (from_is e c.call (cut_block c.octets)) ∙ told (right (sound e) page (view e) c);
-        roomy = λ z. joined (le-leb longest_frame c.room (passed z).frame_room) (passed z).block_room;
-        is_sound = λ z. (passed z).is_fine;
-        short = λ z. accepted_short c.call c.octets (view e) (accepted_by questions _ (sym k.number ∙ z)).1;
-      }
+  declined q h = ap (λ (n : ℕ). refusing n (does c.call c.octets (view e))) (sym h) ∙ refusing_of _ (refusal_number q) (some_number q)
+
+  module _ (z : questions ≡ 0) where
+    -- where they are passed, it comes to what its octets do
+    goes-on : outcome_of e page c ≡ does c.call c.octets (view e)
+    unfolding outcome_of asked refusing view
+    goes-on = rw z refl
+
+    passed : Passes (sound e) e.local page c
+    passed = all_passed (sound e) e.local page c z
+
+    pub unread-is : {n : ℕ} → refused n ≡ input_of c.call c.octets → outcome_of e page c ≡ refused n
+    unread-is h = goes-on ∙ unread c.call c.octets (view e) h
+
+    -- its message can be planned for
+    pub can-plan : (m : Message) → ok (meant m (cut_block c.octets)) ≡ input_of c.call c.octets → Plannable m (numbers_of e) e.held_lengths
+    can-plan m h = plannable e long passed.is_fine c.call c.octets m h
+
+    -- and its plan is that of the call
+    pub plans : (m : Message) → ok (meant m (cut_block c.octets)) ≡ input_of c.call c.octets → (r : Result Plan Refusal)
+        → PlannedBy m (numbers_of e) e.held_lengths r → Plans e page c r
+    unfolding outcome_of view
+    plans m h (Ok p) w =
+        let k = rw (sym goes-on) at (planned e long passed.is_fine c.call c.octets m h (Ok p) w) in
+        record {
+          comes = k;
+          handed = ap (block_by (notice_of (outcome_of e page c))) (from_is e c.call (cut_block c.octets)) ∙ told (right (sound e) page (view e) c);
+          roomy = joined (le-leb longest_frame c.room passed.frame_room) passed.block_room;
+          is_sound = passed.is_fine;
+          short = accepted_short c.call c.octets (view e) (ap number_of (sym goes-on) ∙ k.accepted);
+        }
+    plans m h (Err q) w = goes-on ∙ planned e long passed.is_fine c.call c.octets m h (Err q) w
 
 -- where 11, 12 and 15 are passed, it is the same for every page and all rooms
-pub plans_any : (e : Endpoint) → Long e → sound e ≡ true → (c : Call) (s : List ℕ) (m : Message) → meant m (cut_block s) ≡ input_of c s → {p : Plan}
-    → PlannedBy m (numbers_of e) e.held_lengths p → PlansAny e c s p
-unfolding first when refusing
-plans_any e long fine c s m h w page r k l g =
-    let room = both (leb longest_frame r.frame) (block_room_ok c r.block) k in
-    let z : first (own_questions (sound e) e.local page (given c s r)) ≡ 0 = rw (room.0, room.1, le-leb page_size (length page) l, fine, g) refl in
-    plans e long page (given c s r) m (h ∙ ap (λ (n : ℕ). refusing n (input_of c s)) (sym z)) w
+module _ (e : Endpoint) (fine : sound e ≡ true) (c : Call) (s page : List ℕ) (r : Rooms) (k : rooms_ok c r ≡ true) (l : page_size ≤ length page) (g : goes_with e.local page ≡ true) where
+  all-yes : first (own_questions (sound e) e.local page (given c s r)) ≡ 0
+  unfolding first when
+  all-yes = let room = both (leb longest_frame r.frame) (block_room_ok c r.block) k in rw (room.0, room.1, le-leb page_size (length page) l, fine, g) refl
 
-module _ (e : Endpoint) (long : Long e) (page : List ℕ) (c : Arguments) {p : Plan} (w : Plans e page c p) where
+pub unread_any : (e : Endpoint) → Long e → sound e ≡ true → (c : Call) (s : List ℕ) (q : Refusal) → refused (refusal_number q) ≡ input_of c s → PlansAny e c s (Err q)
+unread_any e long fine c s q h page r k l g = unread-is e long page (given c s r) (all-yes e fine c s page r k l g) h
+
+pub plans_any : (e : Endpoint) → Long e → sound e ≡ true → (c : Call) (s : List ℕ) (m : Message) → ok (meant m (cut_block s)) ≡ input_of c s
+    → (r : Result Plan Refusal) → PlannedBy m (numbers_of e) e.held_lengths r → PlansAny e c s r
+plans_any e long fine c s m h p w page r k l g = plans e long page (given c s r) (all-yes e fine c s page r k l g) m h p w
+
+module _ (e : Endpoint) (page : List ℕ) (c : Arguments) {p : Plan} (w : Plans e page c (Ok p)) where
   abbrev o : Outcome Step
   o = outcome_of e page c
 
-  -- a plan that is accepted: the buffers have room, the record is sound, the page goes with it
-  module _ (z : p.number ≡ 0) where
-    passed : Passes (sound e) e.local page c
-    unfolding outcome_of view
-    passed = passes (sound e) page (view e) c (sym w.comes.number ∙ z)
+  -- the buffers have room, the record is sound, the page goes with it
+  accepted : Passes (sound e) e.local page c
+  unfolding outcome_of view
+  accepted = passes (sound e) page (view e) c w.comes.accepted
 
-    -- the number that it leaves can be reserved
-    local_is : p.numbers.local ≡ (endpoint_after (view e) o).local
-    unfolding view
-    local_is = ap (λ (a : abstract.Endpoint). a.local) w.comes.endpoint
+  -- the number that it leaves can be reserved
+  local_is : p.numbers.local ≡ (endpoint_after (view e) o).local
+  unfolding view
+  local_is = ap (λ (a : abstract.Endpoint). a.local) w.comes.endpoint
 
-    local-next : Next (view e) (endpoint_after (view e) o)
-    unfolding outcome_of asked view
-    local-next =
-        next (view e) o (λ x h. local-after (view e) c.call c.octets (passing (first (own_questions (sound e) e.local page c)) h).1)
+  local-next : Next (view e) (endpoint_after (view e) o)
+  unfolding outcome_of asked view
+  local-next =
+      next (view e) o (λ x h. local-after (view e) c.call c.octets (passing (first (own_questions (sound e) e.local page c)) h).1)
 
-    pub reservable : ((page_size ≤ length page) × (runs page ≡ true))
-        × ((p.numbers.local ≤ last_incarnation) × (p.numbers.local ≤ numbers_each * pages.count page + numbers_each))
-    unfolding view
-    reservable =
-        let g = goes_so e.local page passed.goes in
-        let l = local-next in
-        let n = l.left (goes_last e.local page passed.page_long passed.goes) in
-        ((passed.page_long, g.0), (omega (arith, local_is, n), omega (arith, local_is, l.most)))
+  pub reservable : ((page_size ≤ length page) × (runs page ≡ true))
+      × ((p.numbers.local ≤ last_incarnation) × (p.numbers.local ≤ numbers_each * pages.count page + numbers_each))
+  unfolding view
+  reservable =
+      let g = goes_so e.local page accepted.goes in
+      let l = local-next in
+      let n = l.left (goes_last e.local page accepted.page_long accepted.goes) in
+      ((accepted.page_long, g.0), (omega (arith, local_is, n), omega (arith, local_is, l.most)))
 
-    -- and reserving it is what the call leaves of the page
-    pub reserves : {page' : List ℕ} → page' ≡ reserving p.numbers.local page → page' ≡ page_after page o
-    unfolding view
-    reserves h =
-        let g = goes_so e.local page passed.goes in
-        h ∙ ap (λ (n : ℕ). reserving n page) local_is ∙ page_is (view e) page o (omega arith)
+  -- and reserving it is what the call leaves of the page
+  pub reserves : {page' : List ℕ} → page' ≡ reserving p.numbers.local page → page' ≡ page_after page o
+  unfolding view
+  reserves h =
+      let g = goes_so e.local page accepted.goes in
+      h ∙ ap (λ (n : ℕ). reserving n page) local_is ∙ page_is (view e) page o (omega arith)
 
-    -- receiving begins no number, and the one at hand is reserved
-    received-at-hand : c.call ≡ call.Receive → p.numbers.local ≤ numbers_each * pages.count page
-    unfolding outcome_of asked view
-    received-at-hand h =
-        let g = goes_so e.local page passed.goes in
-        omega (arith, local_is, heard_same (view e) o (λ x k. receive-local (view e) c.octets (rw h at (passing (first (own_questions (sound e) e.local page c)) k).1)))
-
+  -- receiving begins no number, and the one at hand is reserved
   pub received-reserved : c.call ≡ call.Receive → Reserved p page
+  unfolding outcome_of asked view
   received-reserved h =
-      by_eq p.number 0 (λ z. omega (arith, is_left p z, received-at-hand z h)) (λ n. omega (arith, none_left p n))
-
-  pub reserves-none : p.number ≢ 0 → page ≡ page_after page o
-  unfolding page_after
-  reserves-none z = rw (is-turned-down e long c.call _ (cut_block c.octets) o w z) refl
+      let g = goes_so e.local page accepted.goes in
+      omega (arith, local_is, heard_same (view e) o (λ x k. receive-local (view e) c.octets (rw h at (passing (first (own_questions (sound e) e.local page c)) k).1)))

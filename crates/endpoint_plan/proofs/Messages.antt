@@ -10,7 +10,9 @@ use Rattle.octets.proofs.Test.{eq_yes}
 use Rattle.frame.specs.Frame.{Frame, Request, DATA}
 use Rattle.frame.specs.Layout.{is_frame, is_request}
 use Rattle.frame.specs.Read.{kind_of, after_head, cut_block, frame_at, request_at, read_questions, read_frame, read_request, frame, request}
-use Rattle.frame.specs.Answer.{request_of, frame_of, meant}
+use Rattle.frame.specs.Answer.{kind_number, request_of, frame_of, meant}
+use Rattle.frame.specs.declared.Kind.TheVariants.{Data}
+use Rattle.frame.specs.declared.Header.{Header}
 use Rattle.frame.specs.declared.Message.{Message}
 use Rattle.frame.specs.declared.Message.TheVariants as message
 use Rattle.frame.proofs.Blocks.{request_short, frame-short, data-sized}
@@ -45,22 +47,27 @@ unfolding input_of reads mapped
 refused_read call.Request s n h = rw (unmapped request (read_request s) n h) refl
 refused_read call.Receive s n h = rw (unmapped frame (read_frame s) n h) refl
 
--- the message comes to what the octets do
-pub reads_as : (m : Message) (c : Call) (s : List ℕ) (e : Endpoint) → meant m (cut_block s) ≡ input_of c s → does c s e ≡ follows m (cut_block s) e
+-- octets that cannot be read come to the refusal
+pub unread : (c : Call) (s : List ℕ) (e : Endpoint) {n : ℕ} → refused n ≡ input_of c s → does c s e ≡ refused n
+unfolding does and_then
+unread c s e {n} h = rw (refused_read c s n h) refl
+
+-- those that can come to what their message does
+pub reads_as : (m : Message) (c : Call) (s : List ℕ) (e : Endpoint) → ok (meant m (cut_block s)) ≡ input_of c s → does c s e ≡ follows m (cut_block s) e
 unfolding meant follows does reads and_then mapped
 reads_as (message.Request q) c s e h = let r = request_read c s (request_of q (cut_block s)) h in rw (r.0, r.1) refl
 reads_as (message.Frame f) c s e h = let r = frame_read c s (frame_of f (cut_block s)) h in rw (r.0, r.1) refl
-reads_as (message.Refused n) c s e h = rw (refused_read c s n h) refl
 
 -- its block is as its kind asks for, and no number of a DATA is the last
-pub carries_it : (m : Message) (c : Call) (s : List ℕ) → meant m (cut_block s) ≡ input_of c s → Carries m (cut_block s)
+pub carries_it : (m : Message) (c : Call) (s : List ℕ) → ok (meant m (cut_block s)) ≡ input_of c s → Carries m (cut_block s)
 unfolding meant
 carries_it (message.Request q) c s h = read_sized s (request_of q (cut_block s)) (request_read c s (request_of q (cut_block s)) h).1
-carries_it (message.Frame f) c s h = λ k. rw (eq_yes f.kind DATA (cut_block s) [] k) at (data-sized s (frame_read c s (frame_of f (cut_block s)) h).1 k)
-carries_it (message.Refused n) c s h = tt
+carries_it (message.Frame f) c s h = λ k.
+    let d = ap kind_number k in
+    rw (eq_yes (kind_number f.kind) DATA (cut_block s) [] d) at (data-sized s (frame_read c s (frame_of f (cut_block s)) h).1 d)
 
-pub number_fits : (c : Call) (s : List ℕ) (f : Frame) → ok (frame f) ≡ input_of c s → f.kind ≡ DATA → f.number < last_number
-number_fits c s f h = data-limit s (frame_read c s f h).1
+pub number_fits : (c : Call) (s : List ℕ) (f : Header) → ok (frame (frame_of f (cut_block s))) ≡ input_of c s → f.kind ≡ Data → f.number < last_number
+number_fits c s f h k = data-limit s (frame_read c s (frame_of f (cut_block s)) h).1 (ap kind_number k)
 
 -- an accepted call has read its octets, and its block has at most 64
 lands : {A B : Type 0} (f : A → B) (n : ℕ) (x : A) (g : B → Outcome Step) → number_of (and_then (mapped f (outcome n x)) g) ≡ 0 → outcome n x ≡ ok x

@@ -1,9 +1,10 @@
 -- What stores after the page cannot come before its store: a fresh end's connect on a new page is the example.
 use Prim.Native.Nat.{◌≤◌}
-use mathlib.Core.Path.{◌≡◌, refl, ap, ◌∙◌}
+use mathlib.Core.Path.{◌≡◌, refl, sym, ap, ◌∙◌}
 use mathlib.Core.Bool.{true}
 use mathlib.Core.List.{[], ◌∷◌, append-nil}
 use native.Mathlib.Omega.{arith}
+use Rattle.std.specs.Prelude.{Ok, Err}
 use lib.ListN.{length}
 use Rattle.octets.specs.Sizes.{longest_frame, longest_block, page_size}
 use Rattle.octets.specs.Test.{when, if_eq, in_range, all_below, zeros, first, Outcome, ok, outcome, mapped, and_then, number_of}
@@ -26,8 +27,7 @@ use Rattle.endpoint.specs.View.{pack, view}
 use Rattle.endpoint.proofs.Held.{held, pack-sound}
 use Rattle.endpoint_plan.specs.Calls.{outcome_of}
 use Rattle.endpoint_plan.specs.Internal.{NotBeforeTheStore}
-use Rattle.endpoint_plan.proofs.Ready.{ready}
-use Rattle.endpoint_plan.proofs.Carries.{is_left}
+use Rattle.endpoint_plan.proofs.Ready.{some_number, ready}
 
 abbrev connects : Arguments
 connects = given Request (CONNECT ∷ []) (rooms longest_frame longest_block)
@@ -69,12 +69,12 @@ unfolding endpoint_after perform requests.request outcome requests.refusal first
 first-number = refl
 
 pub not_before : NotBeforeTheStore
-unfolding view
-not_before p w h =
-    let z : p.number ≡ 0 = w.comes.number ∙ ap number_of comes ∙ accepted in
+unfolding view number_of
+not_before (Ok p) w = λ h.
     let l : p.numbers.local ≡ 1 =
     ap (λ (a : abstract.Endpoint). a.local) w.comes.endpoint
     ∙ ap (λ (o : Outcome Step). (endpoint_after (view (pack fresh)) o).local) comes
     ∙ ap (λ (a : abstract.Endpoint). (endpoint_after a (perform (ask connect) fresh)).local) (held fresh is_sound)
     ∙ first-number in
-    omega (arith, is_left p z, none-used)
+    omega (arith, l, none-used)
+not_before (Err q) w = some_number q (ap number_of (sym w ∙ comes) ∙ accepted)

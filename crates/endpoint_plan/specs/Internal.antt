@@ -1,10 +1,13 @@
 -- Messages, and plans for a record. No entry point's contract needs this.
-use Rattle.std.specs.Prelude.{ℕ, ◌*◌, ◌≤◌, ◌<◌, ◌≡◌, Bool, true, ◌&&◌, List, [], ◌∷◌, leb, length, get_or}
-use Rattle.octets.specs.Sizes.{longest_frame, longest_block, held_size, last_number, page_size, numbers_each}
-use Rattle.octets.specs.Test.{if_eq, Outcome, refused, mapped}
+use Rattle.std.specs.Prelude.{ℕ, ◌*◌, ◌≤◌, ◌<◌, ◌≡◌, Bool, true, ◌&&◌, List, [], ◌∷◌, leb, length, get_or, Result, Ok, Err, MatchResult}
+use Rattle.octets.specs.Sizes.{longest_frame, longest_block, last_number, page_size, numbers_each}
+use Rattle.octets.specs.Test.{Outcome, refused, mapped}
+use Rattle.octets.specs.declared.refusal.Refusal.{Refusal}
+use Rattle.octets.specs.Refusal.{refusal_number}
 use Rattle.page.specs.Page.{count, goes_with, new_page}
-use Rattle.frame.specs.Frame.{Block, DATA, CONNECT}
+use Rattle.frame.specs.Frame.{Block, CONNECT}
 use Rattle.frame.specs.Read.{cut_block, read_frame, read_request, Input, frame, request}
+use Rattle.frame.specs.declared.Kind.TheVariants.{Data}
 use Rattle.frame.specs.Answer.{frame_of, request_of}
 use Rattle.frame.specs.declared.Message.{Message}
 use Rattle.frame.specs.declared.Message.TheVariants as message
@@ -19,7 +22,7 @@ use Rattle.call_spec.specs.Calls.{Arguments, Rooms, rooms, given, block_room_ok}
 use Rattle.step_rules.specs.declared.Numbers.{Numbers}
 use Rattle.step_plan.specs.declared.Plan.{Plan}
 use Rattle.call_spec.specs.Answers.{notice_of, block_of}
-use Rattle.step_plan.specs.Internal.{block_by, Comes, Planned, refused_plan}
+use Rattle.step_plan.specs.Internal.{block_by, Comes, Planned}
 use Rattle.endpoint.specs.declared.Endpoint.{Endpoint}
 use Rattle.endpoint.specs.View.{place_block, pack, view}
 use Rattle.endpoint.specs.Sound.{sound}
@@ -40,51 +43,50 @@ input_of Receive s = mapped frame (read_frame s)
 unfoldable pub follows : Message → Block → abstract.Endpoint → Outcome Step
 follows (message.Request q) b e = perform (ask (request_of q b)) e
 follows (message.Frame h) b e = perform (deliver (frame_of h b)) e
-follows (message.Refused n) b e = refused n
 
 -- b is such a block as its kind asks for
 abbrev pub Carries : Message → Block → Type 0
 Carries (message.Request q) b = Readable (ask (request_of q b))
-Carries (message.Frame h) b = h.kind ≡ DATA → (1 ≤ length b) × (length b ≤ longest_block)
-Carries (message.Refused n) b = Unit {0}
+Carries (message.Frame h) b = h.kind ≡ Data → (1 ≤ length b) × (length b ≤ longest_block)
 
 -- The message can be planned for, at a record of these numbers, whose held blocks have the lengths z: no number is the last.
 abbrev pub Plannable : Message → Numbers → List ℕ → Type 0
-Plannable (message.Request q) n z = (n.waiting ≤ n.accepted) × ((length z ≡ held_size) × (1 ≤ get_or z 0 0 → n.delivered < last_number))
-Plannable (message.Frame h) n z = (n.waiting ≤ n.accepted) × ((length z ≡ held_size) × (h.kind ≡ DATA → h.number < last_number))
-Plannable (message.Refused k) n z = Unit {0}
+Plannable (message.Request q) n z = (n.waiting ≤ n.accepted) × (1 ≤ get_or z 0 0 → n.delivered < last_number)
+Plannable (message.Frame h) n z = (n.waiting ≤ n.accepted) × (h.kind ≡ Data → h.number < last_number)
 
--- and p is its plan; that of a refusal does nothing, whatever the record
-pub record PlannedBy (m : Message) (n : Numbers) (z : List ℕ) (p : Plan) : Type 0 where
-  pub comes : (b : Block) → Carries m b → Planned n z b (follows m b) p
-  pub refuses : (k : ℕ) → m ≡ message.Refused k → p ≡ refused_plan n k
+-- and r is its plan, or the refusal that it comes to
+abbrev pub PlannedBy : Message → Numbers → List ℕ → Result Plan Refusal → Type 0
+PlannedBy m n z r = (b : Block) → Carries m b → Planned n z b (follows m b) r
 
 -- p is the plan of a call of the record e with these rooms, which comes to o, where b is the block of its message: the block that is handed up comes from the
--- message or from the held ones, and what is accepted has passed 11 and 12, and has a block that fits.
+-- message or from the held ones. 11 and 12 are passed, and the block fits.
 pub record PlansFor (c : Call) (r : Rooms) (e : Endpoint) (b : Block) (o : Outcome Step) (p : Plan) : Type 0 where
   pub comes : Comes (numbers_of e) (view e).queue (view e).held b (place_block e.lengths e.blocks 0) o p
   pub handed : block_by (notice_of o) (block_from c e.held_lengths e.held_blocks b) ≡ block_of o
-  pub roomy : p.number ≡ 0 → rooms_ok c r ≡ true
-  pub is_sound : p.number ≡ 0 → sound e ≡ true
-  pub short : p.number ≡ 0 → length b ≤ longest_block
+  pub roomy : rooms_ok c r ≡ true
+  pub is_sound : sound e ≡ true
+  pub short : length b ≤ longest_block
+
+-- it is the plan of such a call, or the refusal that it comes to
+abbrev pub PlansFrom : Call → Rooms → Endpoint → Block → Outcome Step → Result Plan Refusal → Type 0
+PlansFrom c r e b o (Ok p) = PlansFor c r e b o p
+PlansFrom c r e b o (Err q) = o ≡ refused (refusal_number q)
 
 -- of a call with this page
-abbrev pub Plans : Endpoint → List ℕ → Arguments → Plan → Type 0
-Plans e page c p = PlansFor c.call (rooms c.room c.block_room) e (cut_block c.octets) (outcome_of e page c) p
+abbrev pub Plans : Endpoint → List ℕ → Arguments → Result Plan Refusal → Type 0
+Plans e page c r = PlansFrom c.call (rooms c.room c.block_room) e (cut_block c.octets) (outcome_of e page c) r
 
 -- and of every call of e with these octets, room enough, and a page that goes with it
-abbrev pub PlansAny : Endpoint → Call → List ℕ → Plan → Type 0
-PlansAny e c s p =
-    (page : List ℕ) (room : Rooms) → rooms_ok c room ≡ true → page_size ≤ length page → goes_with e.local page ≡ true → Plans e page (given c s room) p
-
--- the number that p leaves; 0, which no page has to reserve, where p refuses
-unfoldable pub number_left : Plan → ℕ
-number_left p = if_eq p.number 0 p.numbers.local 0
+abbrev pub PlansAny : Endpoint → Call → List ℕ → Result Plan Refusal → Type 0
+PlansAny e c s r =
+    (page : List ℕ) (room : Rooms) → rooms_ok c room ≡ true → page_size ≤ length page → goes_with e.local page ≡ true → Plans e page (given c s room) r
 
 -- The number that p leaves is reserved on this page: asked by all that stores after the page, of the page as it stands then.
 abbrev pub Reserved : Plan → List ℕ → Type 0
-Reserved p page = number_left p ≤ numbers_each * count page
+Reserved p page = p.numbers.local ≤ numbers_each * count page
 
--- It is not so before the page's store: a fresh end's connect is not reserved on a new page. So what asks for it cannot come before that store.
+-- It is not so before the page's store: a fresh end's connect is planned, and not reserved on a new page. So what asks for it cannot come before that store.
 abbrev pub NotBeforeTheStore : Type 0
-NotBeforeTheStore = (p : Plan) → Plans (pack fresh) new_page (given Request (CONNECT ∷ []) (rooms longest_frame longest_block)) p → Reserved p new_page → ⊥
+NotBeforeTheStore =
+    (r : Result Plan Refusal) → Plans (pack fresh) new_page (given Request (CONNECT ∷ []) (rooms longest_frame longest_block)) r
+    → MatchResult r (λ p. Reserved p new_page → ⊥) (λ q. ⊥)
