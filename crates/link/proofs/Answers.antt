@@ -1,15 +1,15 @@
 -- What a call on a lent record answers, from its plan.
 use Prim.Native.Nat.{ℕ, ◌≤◌, ◌<◌}
 use mathlib.Core.Path.{◌≡◌, refl, sym, subst, ap, ap₂, ◌∙◌}
-use mathlib.Core.Logic.{◌≢◌}
+use Rattle.std.specs.Prelude.{Result, Ok, Err}
 use mathlib.Core.List.{List}
 use native.Mathlib.Omega.{arith}
 use borrow.Author.Tests.{le-leb, lt-leb}
 use lib.ListN.{length}
 use Rattle.octets.specs.Sizes.{longest_block}
-use Rattle.octets.specs.Test.{when, if_eq, first, Outcome, refused, ok, refusing, mapped, number_of}
+use Rattle.octets.specs.Test.{when, first, Outcome, refused, ok, refusing, mapped, number_of}
 use Rattle.octets.specs.Octets.{put, left, Octets}
-use Rattle.octets.proofs.Test.{by_eq, eq_yes, eq_no}
+use Rattle.octets.specs.declared.refusal.Refusal.{Refusal}
 use Rattle.page.specs.Page.{reserving}
 use Rattle.octets.proofs.Outcomes.{after-question}
 use Rattle.frame.specs.Frame.{Block}
@@ -21,7 +21,7 @@ use Rattle.call_spec.specs.declared.Call.TheVariants.{Request, Receive}
 use Rattle.call_spec.specs.Calls.{Arguments, Rooms, given, wire, own_questions, asked, performed, record_after, buffer_after, page_after}
 use Rattle.step_plan.specs.declared.Plan.{Plan}
 use Rattle.call_spec.specs.Answers.{notice_of, sent_in, block_of, block_part, block_buffer_after, endpoint_after}
-use Rattle.step_plan.specs.Internal.{block_by, block_out, sent_by, Sends}
+use Rattle.step_plan.specs.Internal.{notice_number, block_by, block_out, sent_by, Sends}
 use Rattle.step_plan.proofs.Up.{Right, source, right, none_right}
 use Rattle.step_plan.proofs.Up as up
 use Rattle.endpoint.specs.declared.Endpoint.{Endpoint}
@@ -35,11 +35,12 @@ use Rattle.endpoint_plan.specs.Internal.{PlansFor, Plans}
 use Rattle.endpoint_plan.proofs.Messages.{accepted_frame}
 use Rattle.endpoint_plan.proofs.Ready.{accepted_by}
 use Rattle.endpoint_plan.proofs.Short.{five, up-short}
-use Rattle.endpoint_plan.proofs.Carries.{same, leaves, hands-up, stands, hands_is, sends, sends_is, is-turned-down, reserves, reserves-none}
+use Rattle.endpoint_plan.proofs.Carries.{same, leaves, hands-up, stands, hands_is, sends, sends_is, reserves}
 use Rattle.lent_record.specs.declared.Answer.{Answer}
 use Rattle.lent_record.specs.Record.{format}
 use Rattle.lent_record.specs.Told.{told_of, status_of, sent_of, answer_of}
 use Rattle.lent_record.proofs.Told.{rewritten, decode_long}
+use Rattle.link.specs.Internal.{PlansLent}
 use Rattle.link.specs.Lent.{Called}
 
 -- the numbers of an endpoint that are told
@@ -102,42 +103,45 @@ module _ (rec : List ℕ) (long : record_size ≤ length rec) where
   stored oc h (ok x) = refl
 
   -- what a plan's store leaves of the page
-  pub reserved : (page : List ℕ) (c : Arguments) {p : Plan} → Plans (decode rec) page c p → {page' : List ℕ} → page' ≡ if_eq p.number 0 (reserving p.numbers.local page) page
+  pub reserved : (page : List ℕ) (c : Arguments) {p : Plan} → Plans (decode rec) page c (Ok p) → {page' : List ℕ} → page' ≡ reserving p.numbers.local page
       → page' ≡ page_after page (performed format rec page c)
-  reserved page c {p} w h =
-      rw (enough page c)
-      (by_eq p.number 0
-      (λ z. reserves (decode rec) (decode_long rec long) page c w z (h ∙ eq_yes _ _ _ _ z))
-      (λ z. h ∙ eq_no _ _ _ _ z ∙ reserves-none (decode rec) (decode_long rec long) page c w z))
+  reserved page c {p} w h = rw (enough page c) (reserves (decode rec) page c w h)
 
-  -- A plan of a call that comes to o, with the block b.
-  module _ (c : Call) (r : Rooms) (b : Block) (o : Outcome Step) {p : Plan} (w : PlansFor c r (decode rec) b o p) where
-    pub refuses : p.number ≢ 0 → (out up : List ℕ) {a : Answer} → a ≡ answer_of rec (refused p.number) → Called c o rec b out up rec out up a
-    refuses z out up h = turned_down (is-turned-down (decode rec) (decode_long rec long) c r b o w z) c rec b out up h
+  -- the plan of a call that comes to o, with the block b, is carried out
+  pub accepts : Octets rec → (c : Call) (r : Rooms) (b : Block) (o : Outcome Step) {p : Plan} → PlansFor c r (decode rec) b o p → {out out' : List ℕ} {n : ℕ}
+      → Sends (sent_by p.reply (block_out p.queue b (place_block (decode rec).lengths (decode rec).blocks 0))) out out' n
+      → {u u' : List ℕ} {m : ℕ} → HandsUp c (block_by (notice_number p.notice) (block_from c (decode rec).held_lengths (decode rec).held_blocks b)) u u' m
+      → {rec' : List ℕ} → rec' ≡ put rec 0 (encode (carried p b (decode rec))) → {i : ℕ} → i ≡ notice_number p.notice
+      → Called c o rec b out u rec' out' u'
+      (record { status = record { number = 0; state = p.numbers.state; notice = i; local = p.numbers.local; remote = p.numbers.remote }; sent = n; block = m })
+  unfolding answer_of status_of view
+  accepts oc c r b o {p} w {out} s {u} h {rec'} er ei =
+      let d = decode rec in
+      let l = decode_long rec long in
+      let k = w.comes.endpoint in
+      let t = sends d l c r b o w s in
+      let g = rw (hands-up d l c r b o w) at h in
+      let st : p.numbers.state ≡ (told_of rec o).state = ap (λ (x : abstract.Endpoint). x.state) k ∙ (told o).state in
+      let lo : p.numbers.local ≡ (told_of rec o).local = ap (λ (x : abstract.Endpoint). x.local) k ∙ (told o).local in
+      let re : p.numbers.remote ≡ (told_of rec o).remote = ap (λ (x : abstract.Endpoint). x.remote) k ∙ (told o).remote in
+      let nu : 0 ≡ number_of o = sym w.comes.accepted in
+      let no = ei ∙ w.comes.notice in
+      let eu = hands_is c u o g in
+      record {
+        answer = λ i. record { status = record { number = nu i; state = st i; notice = no i; local = lo i; remote = re i }; sent = (t.count ∙ sent_is o) i; block = g.count i };
+        end = er ∙ ap (λ (x : Endpoint). put rec 0 (encode x)) (leaves d l c r b o w) ∙ stored oc (same d w.is_sound l) o;
+        buffer = sends_is out o t;
+        block_buffer = eu;
+        block = ap₂ (λ (x : List ℕ) (j : ℕ). block_part c b x j) eu g.count ∙ stands d l c r b o w u;
+      }
 
-    pub accepts : Octets rec → p.number ≡ 0 → {out out' : List ℕ} {n : ℕ}
-        → Sends (sent_by p.reply (block_out p.queue b (place_block (decode rec).lengths (decode rec).blocks 0))) out out' n
-        → {u u' : List ℕ} {m : ℕ} → HandsUp c (block_by p.notice (block_from c (decode rec).held_lengths (decode rec).held_blocks b)) u u' m
-        → {rec' : List ℕ} → rec' ≡ put rec 0 (encode (carried p b (decode rec)))
-        → Called c o rec b out u rec' out' u'
-        (record { status = record { number = 0; state = p.numbers.state; notice = p.notice; local = p.numbers.local; remote = p.numbers.remote }; sent = n; block = m })
-    unfolding answer_of status_of view
-    accepts oc z {out} s {u} h {rec'} er =
-        let k = w.comes.endpoint in
-        let t = sends (decode rec) (decode_long rec long) c r b o w s in
-        let g = rw (hands-up (decode rec) (decode_long rec long) c r b o w) at h in
-        let st : p.numbers.state ≡ (told_of rec o).state = ap (λ (x : abstract.Endpoint). x.state) k ∙ (told o).state in
-        let lo : p.numbers.local ≡ (told_of rec o).local = ap (λ (x : abstract.Endpoint). x.local) k ∙ (told o).local in
-        let re : p.numbers.remote ≡ (told_of rec o).remote = ap (λ (x : abstract.Endpoint). x.remote) k ∙ (told o).remote in
-        let nu : 0 ≡ number_of o = sym z ∙ w.comes.number in
-        let eu = hands_is c u o g in
-        record {
-          answer = λ i. record { status = record { number = nu i; state = st i; notice = w.comes.notice i; local = lo i; remote = re i }; sent = (t.count ∙ sent_is o) i; block = g.count i };
-          end = er ∙ ap (λ (x : Endpoint). put rec 0 (encode x)) (leaves (decode rec) (decode_long rec long) c r b o w z) ∙ stored oc (same (decode rec) (w.is_sound z) (decode_long rec long)) o;
-          buffer = sends_is out o t;
-          block_buffer = eu;
-          block = ap₂ (λ (l : List ℕ) (j : ℕ). block_part c b l j) eu g.count ∙ stands (decode rec) (decode_long rec long) c r b o w u;
-        }
+-- the plan of a lent call is that of the call of its struct
+pub plans_lent : (rec : List ℕ) → record_size ≤ length rec → (page s : List ℕ) (c : Call) (r : Rooms) (q : Result Plan Refusal) → Plans (decode rec) page (given c s r) q → PlansLent c rec page s r q
+plans_lent rec long page s c r (Ok p) w = (long, subst (λ (o : Outcome Step). PlansFor c r (decode rec) (cut_block s) o p) (sym (enough rec long page (given c s r))) w)
+plans_lent rec long page s c r (Err q) w = enough rec long page (given c s r) ∙ w
+
+pub planned : (rec page s : List ℕ) (c : Call) (r : Rooms) {p : Plan} → PlansLent c rec page s r (Ok p) → Plans (decode rec) page (given c s r) (Ok p)
+planned rec page s c r {p} w = subst (λ (o : Outcome Step). PlansFor c r (decode rec) (cut_block s) o p) (enough rec w.0 page (given c s r)) w.1
 
 -- what a call of a record that is long enough comes to is what the call of its struct does
 pub at_record : (rec : List ℕ) → record_size ≤ length rec → (page : List ℕ) (c : Arguments) {b : Block} {out up rec' out' up' : List ℕ} {a : Answer}

@@ -5,65 +5,57 @@
 
 ghost use Rattle.std.specs.Prelude.{◌≡◌, true, [], ◌+◌, ◌*◌, ◌≤◌, length};
 ghost use Rattle.octets.specs.Sizes.{page_size, numbers_each, last_incarnation};
-ghost use Rattle.octets.specs.Test.{if_eq, Outcome};
+ghost use Rattle.octets.specs.Test.{Outcome};
 ghost use Rattle.octets.specs.Octets.{put};
 ghost use Rattle.frame.specs.Read.{cut_block};
 ghost use Rattle.page.specs.Page.{runs, count, reserving};
 ghost use Rattle.protocol.specs.Table.{Step};
 ghost use Rattle.call_spec.specs.declared.Call.TheVariants.{Receive};
-ghost use Rattle.call_spec.specs.Calls.{given, rooms};
+ghost use Rattle.call_spec.specs.Calls.{rooms};
 ghost use Rattle.call_spec.specs.Answers.{block_of};
 ghost use Rattle.endpoint.specs.Record.{record_size, encode, decode};
 ghost use Rattle.endpoint_places.specs.Internal.{PlanFits, carried};
-ghost use Rattle.endpoint_plan.specs.Internal.{PlansFor, Plans, PlansAny, Reserved};
+ghost use Rattle.endpoint_plan.specs.Internal.{PlansFor, PlansAny, Reserved};
 ghost use Rattle.lent_record.specs.Record.{format};
+ghost use Rattle.link.specs.Internal.{PlansLent};
 ghost use Rattle.link.specs.Lent.{Called, lent_outcome, CalledLent, answer_in};
 
 use call_spec::{Call, Status};
-use endpoint::{BLOCKS_AT, Endpoint, HELD_BLOCKS_AT, HELD_LENGTHS_AT, LENGTHS_AT};
+use endpoint::{BLOCKS_AT, Endpoint, HELD_BLOCKS_AT, HELD_LENGTHS_AT, LENGTHS_AT, Parts};
+use endpoint_plan::Rooms;
 use lent_record::{Answer, RECORD_SIZE};
-use octets::refusal;
+use octets::Refusal;
 use step_plan::Plan;
 
+// What an answer tells where no question refuses.
+const SUCCESS: u8 = 0;
+
 // The plan of a call where 11, 12 and 15 are passed.
-pub fn plan_sound(call: Call, rec: &[u8], s: &[u8]) -> Plan
+pub fn plan_sound(call: Call, rec: &[u8], s: &[u8]) -> Result<Plan, Refusal>
     requires { (record_size ≤ length rec.now) × (format.sound rec.now ≡ true) }
     ensures { PlansAny (decode rec.now) call s.now result }
 {
-    let n = endpoint::load_numbers(rec);
-    let m = endpoint_plan::read(call, s);
-    endpoint_plan::plan(m, n, &rec[HELD_LENGTHS_AT..HELD_BLOCKS_AT])
+    let message = endpoint_plan::read(call, s)?;
+    let parts = Parts::load(rec);
+    endpoint_plan::plan(message, parts.numbers, parts.held.lengths)
 }
 
-// The plan of a call of a lent record with its page, from the record's own octets: s has those of a request or of a frame, room and block_room are the
-// lengths of the buffers for a frame out and for a block. Nothing is stored.
-fn plan_call(call: Call, rec: &[u8], page: &[u8], s: &[u8], room: usize, block_room: usize) -> Plan
-    requires { record_size ≤ length rec.now }
-    ensures { Plans (decode rec.now) page.now (given call s.now (rooms room block_room)) result }
+// The plan of a call of a lent record with its page, from the record's own octets: s has those of a request or of a frame, room the lengths of the
+// buffers. Nothing is stored.
+fn plan_call(call: Call, rec: &[u8], page: &[u8], s: &[u8], room: Rooms) -> Result<Plan, Refusal>
+    ensures { PlansLent call rec.now page.now s.now (rooms room.frame room.block) result }
 {
-    let n = endpoint::load_numbers(rec);
-    endpoint_plan::plan_call(
-        call,
-        n,
-        &rec[LENGTHS_AT..BLOCKS_AT],
-        &rec[BLOCKS_AT..HELD_LENGTHS_AT],
-        &rec[HELD_LENGTHS_AT..HELD_BLOCKS_AT],
-        &rec[HELD_BLOCKS_AT..RECORD_SIZE],
-        page,
-        s,
-        room,
-        block_room,
-    )
-}
-
-// The one store of a planned call to its page, before all its others: the number that the plan leaves is reserved. A refusal stores nothing.
-pub fn reserve(p: Plan, page: &mut [u8])
-    requires { p.number ≡ 0 → ((page_size ≤ length page.old) × (runs page.old ≡ true)) × ((p.numbers.local ≤ last_incarnation) × (p.numbers.local ≤ numbers_each * count page.old + numbers_each)) }
-    ensures { (page.new ≡ if_eq p.number 0 (reserving p.numbers.local page.old) page.old) × Reserved p page.new }
-{
-    if p.number != step_plan::ACCEPTED {
-        return;
+    if rec.len() < RECORD_SIZE {
+        return Err(Refusal::ShortBuffer);
     }
+    endpoint_plan::plan_call(call, Parts::load(rec), page, s, room)
+}
+
+// The one store of a planned call to its page, before all its others: the number that the plan leaves is reserved.
+pub fn reserve(p: Plan, page: &mut [u8])
+    requires { ((page_size ≤ length page.old) × (runs page.old ≡ true)) × ((p.numbers.local ≤ last_incarnation) × (p.numbers.local ≤ numbers_each * count page.old + numbers_each)) }
+    ensures { (page.new ≡ reserving p.numbers.local page.old) × Reserved p page.new }
+{
     page::reserve(p.numbers.local, page);
 }
 
@@ -101,8 +93,8 @@ fn store(p: Plan, block: &[u8], rec: &mut [u8])
     );
 }
 
-// The other stores of a planned call, whose message has this block, and its answer: the frame out, the block handed up, then the record. A plan that refuses
-// stores nothing. They come after the page's one store: the number that the plan leaves is reserved on the page that is lent, and nothing can store to it here.
+// The other stores of a planned call, whose message has this block, and its answer: the frame out, the block handed up, then the record. They come after
+// the page's one store: the number that the plan leaves is reserved on the page that is lent, and nothing can store to it here.
 pub fn finish(
     call: Call,
     p: Plan,
@@ -116,31 +108,16 @@ pub fn finish(
     ensures { (o : Outcome Step) → PlansFor call (rooms (length out.old) (length up.old)) (decode rec.old) block.now o p
         → Called call o rec.old block.now out.old up.old rec.new out.new up.new result }
 {
-    if p.number != step_plan::ACCEPTED {
-        return lent_record::refuse(rec, p.number);
-    }
-    let sent = endpoint_places::send(
-        p,
-        block,
-        &rec[LENGTHS_AT..BLOCKS_AT],
-        &rec[BLOCKS_AT..HELD_LENGTHS_AT],
-        out,
-    );
-    let handed = endpoint_places::hand_up(
-        call,
-        p.notice,
-        &rec[HELD_LENGTHS_AT..HELD_BLOCKS_AT],
-        &rec[HELD_BLOCKS_AT..RECORD_SIZE],
-        block,
-        up,
-    );
+    let parts = Parts::load(rec);
+    let sent = endpoint_places::send(p, block, parts.queue, out);
+    let handed = endpoint_places::hand_up(call, p.notice, parts.held, block, up);
     store(p, block, rec);
     let after = p.numbers;
     Answer {
         status: Status {
-            number: step_plan::ACCEPTED,
+            number: SUCCESS,
             state: after.state,
-            notice: p.notice,
+            notice: p.notice.number(),
             local: after.local,
             remote: after.remote,
         },
@@ -160,12 +137,17 @@ pub fn perform(
 ) -> Answer
     ensures { CalledLent call rec.old page.old s.now out.old up.old rec.new page.new out.new up.new result }
 {
-    if rec.len() < RECORD_SIZE {
-        return lent_record::refuse(rec, refusal::SHORT_BUFFER);
+    let room = Rooms {
+        frame: out.len(),
+        block: up.len(),
+    };
+    match plan_call(call, rec, page, s, room) {
+        Err(refusal) => lent_record::refuse(rec, refusal),
+        Ok(p) => {
+            reserve(p, page);
+            finish(call, p, page, rec, frame_read::cut_block(s), out, up)
+        }
     }
-    let p = plan_call(call, rec, page, s, out.len(), up.len());
-    reserve(p, page);
-    finish(call, p, page, rec, frame_read::cut_block(s), out, up)
 }
 
 // A frame received by a call that only looks at the page: no number is begun, so that nothing has to be reserved. block is its block.
@@ -181,11 +163,14 @@ fn hear(
     ensures { (let o : Outcome Step = lent_outcome Receive rec.old page.now s.now out.old up.old in
         Called Receive o rec.old block.now out.old up.old rec.new out.new up.new result) }
 {
-    if rec.len() < RECORD_SIZE {
-        return lent_record::refuse(rec, refusal::SHORT_BUFFER);
+    let room = Rooms {
+        frame: out.len(),
+        block: up.len(),
+    };
+    match plan_call(Call::Receive, rec, page, s, room) {
+        Err(refusal) => lent_record::refuse(rec, refusal),
+        Ok(p) => finish(Call::Receive, p, page, rec, block, out, up),
     }
-    let p = plan_call(Call::Receive, rec, page, s, out.len(), up.len());
-    finish(Call::Receive, p, page, rec, block, out, up)
 }
 
 // Receives the frame s. Gives the block handed up, a part of s, empty where there is none; the number, state, notice, L, D and
@@ -207,9 +192,8 @@ pub fn receive<'a>(
         (answer_in number.new state.new notice.new local.new remote.new sent.new (length result.now))
         × (result.now ≡ block_of o)) }
 {
-    let mut none = [0u8; 0];
     let block = frame_read::cut_block(s);
-    let a = hear(rec, page, s, block, out, &mut none);
+    let a = hear(rec, page, s, block, out, &mut []);
     let told = a.status;
     *number = told.number;
     *state = told.state;
@@ -217,5 +201,5 @@ pub fn receive<'a>(
     *local = told.local;
     *remote = told.remote;
     *sent = a.sent;
-    step_plan::handed_up(told.notice, block)
+    &block[..a.block]
 }
