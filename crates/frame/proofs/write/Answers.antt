@@ -1,11 +1,10 @@
-use mathlib.Core.Path.{sym, ap, ◌∙◌}
+use mathlib.Core.Path.{ap, ◌∙◌}
 use lib.ListN.{length}
 use Rattle.octets.specs.Octets.{put}
 use Rattle.frame.specs.Answer.{kind_number}
 use Rattle.frame.specs.declared.Kind.TheVariants.{Data, Ack}
 use Rattle.frame.proofs.Classes.{same_kind}
 use Rattle.frame.proofs.Writing.{as-data, as-ack, as-control}
-use native.Mathlib.Omega.{arith}
 use Rattle.frame.proofs.write.Goals as goal
 
 pub returns-in-Data : goal.returns-in-Data
