@@ -142,7 +142,7 @@ pub fn read_frame(s: &[u8]) -> Result<Header, Refusal>
     known_frame(Kind::try_from(*first)?, rest)
 }
 
-// Reads any octets as a request.
+// Reads any octets as a request. No generic reader serves both: they share the taking of the first octet alone, and differ in every question after it.
 pub fn read_request(s: &[u8]) -> Result<RequestKind, Refusal>
     ensures { mapped (λ q. request_of q (cut_block s.now)) (told result) ≡ read_request s.now }
 {
