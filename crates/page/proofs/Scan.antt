@@ -200,14 +200,7 @@ module _ (s : List ℕ) (l : page_size ≤ length s) where
   pub runs-is : (c : ℕ) → (runs s ≡ true → c ≡ count s) → (runs s && eqb (count s) c) ≡ runs s
   runs-is c h = alike _ _ (λ r. (both (runs s) (eqb (count s) c) r).0) (λ r. joined r (eq-eqb (count s) c (sym (h r))))
 
-  -- what an octet of a page says of its count
-  pub at_most : (i : ℕ) → get_or s i 0 ≢ used → i < page_size → count s ≤ i
-  unfolding count
-  at_most i n k =
-      by_lt i (count s)
-      (λ h. absurd (n (sym (get_or-take page_size s i 0 k) ∙ leading_below (take page_size s) i h)))
-      (λ h. h)
-
+  -- no page goes with a number above the last
   pub goes_not : (n : ℕ) → last_incarnation < n → false ≡ goes_with n s
   goes_not n h = alike _ _ (λ r. absurd (false≢true r)) (λ r. absurd (omega (arith, goes_last n s l r)))
 
