@@ -3,65 +3,46 @@
 #![tactic(auto)]
 
 ghost use Rattle.std.specs.Prelude.{◌≡◌, length};
-ghost use Rattle.octets.specs.Sizes.{longest_block};
 ghost use Rattle.octets.specs.Test.{Outcome, refused};
+ghost use Rattle.octets.specs.Refusal.{refusal_number};
 ghost use Rattle.protocol.specs.Table.{Step};
 ghost use Rattle.call_spec.specs.Calls.{given, rooms, restarting};
 ghost use Rattle.endpoint_places.specs.Internal.{places_after, PlaceFor, PlanFits, carried};
-ghost use Rattle.endpoint_plan.specs.Internal.{PlansFor, Plans, Reserved};
+ghost use Rattle.endpoint_plan.specs.Internal.{PlansFor, Reserved};
 ghost use Rattle.endpoint_step.specs.Calls.{step_answer_of, Advances};
 ghost use Rattle.endpoint_step.specs.Internal.{Finishes};
 
 use call_spec::Call;
 use endpoint::Endpoint;
-use octets::refusal;
-use step_plan::{Places, Plan};
+use endpoint_plan::Rooms;
+use octets::Refusal;
+use step_plan::{Notice, Places, Plan};
 
-// What a plan makes of the arrays of a record by value, of lengths and of blocks: those of an end that leaves open are new ones.
-fn lengths_after(places: Places, s: &[u8], d: [u8; octets::QUEUE_SIZE]) -> [u8; octets::QUEUE_SIZE]
-    requires { PlaceFor places 1 s.now d }
-    ensures { result ≡ places_after places 1 s.now d }
+// What an answer tells where no question refuses, and where nothing has come about.
+const SUCCESS: u8 = 0;
+
+const NO_NOTICE: u8 = Notice::Nothing as u8;
+
+// What a plan makes of an array of a record by value, of lengths or of blocks: those of an end that leaves open are new ones.
+fn places_after<const N: usize>(places: Places, width: usize, s: &[u8], d: [u8; N]) -> [u8; N]
+    requires { PlaceFor places width s.now d }
+    ensures { result ≡ places_after places width s.now d.entry }
 {
     if let Places::Clear = places {
-        return [0; octets::QUEUE_SIZE];
+        return [0; N];
     }
-    let mut lengths = d;
-    endpoint_places::change_places(places, 1, s, &mut lengths);
-    lengths
-}
-
-fn blocks_after(
-    places: Places,
-    s: &[u8],
-    d: [u8; endpoint::PLACES_SIZE],
-) -> [u8; endpoint::PLACES_SIZE]
-    requires { PlaceFor places longest_block s.now d }
-    ensures { result ≡ places_after places longest_block s.now d }
-{
-    if let Places::Clear = places {
-        return [0; endpoint::PLACES_SIZE];
-    }
-    let mut blocks = d;
-    endpoint_places::change_places(places, Endpoint::LONGEST_BLOCK, s, &mut blocks);
-    blocks
+    let mut after = d;
+    endpoint_places::change_places(places, width, s, &mut after);
+    after
 }
 
 // The record after the plan, whose message has this block.
+#[tactic(auto, unfolding(endpoint_places::specs::Internal::carried))]
 fn carry_out(e: Endpoint, p: Plan, block: &[u8]) -> Endpoint
     requires { PlanFits p block.now }
     ensures { result ≡ carried p block.now e }
 {
     let count = [block.len() as u8];
-    let queue = p.queue;
-    let lengths_before = e.lengths;
-    let lengths = lengths_after(queue, &count, lengths_before);
-    let blocks_before = e.blocks;
-    let blocks = blocks_after(queue, block, blocks_before);
-    let held = p.held;
-    let held_lengths_before = e.held_lengths;
-    let held_lengths = lengths_after(held, &count, held_lengths_before);
-    let held_blocks_before = e.held_blocks;
-    let held_blocks = blocks_after(held, block, held_blocks_before);
     let n = p.numbers;
     Endpoint {
         state: n.state,
@@ -70,10 +51,10 @@ fn carry_out(e: Endpoint, p: Plan, block: &[u8]) -> Endpoint
         accepted: n.accepted,
         delivered: n.delivered,
         waiting: n.waiting,
-        lengths,
-        blocks,
-        held_lengths,
-        held_blocks,
+        lengths: places_after(p.queue, 1, &count, e.lengths),
+        blocks: places_after(p.queue, Endpoint::LONGEST_BLOCK, block, e.blocks),
+        held_lengths: places_after(p.held, 1, &count, e.held_lengths),
+        held_blocks: places_after(p.held, Endpoint::LONGEST_BLOCK, block, e.held_blocks),
     }
 }
 
@@ -89,21 +70,22 @@ pub struct StepAnswer {
     pub block: usize,
 }
 
-// A refusal by this number leaves the record.
-fn unchanged(e: Endpoint, number: u8) -> StepAnswer
-    ensures { result ≡ step_answer_of e (refused number) }
+// A refusal leaves the record.
+#[tactic(auto, unfolding(crate::specs::Calls::step_answer_of))]
+fn unchanged(e: Endpoint, refusal: Refusal) -> StepAnswer
+    ensures { result ≡ step_answer_of e (refused (refusal_number refusal)) }
 {
     StepAnswer {
-        number,
+        number: refusal.number(),
         endpoint: e,
-        notice: step_plan::NONE,
+        notice: NO_NOTICE,
         sent: 0,
         block: 0,
     }
 }
 
-// The other stores of a call whose plan accepts, and its answer: the frame out, the block handed up. They come after the page's one store: the
-// number that the plan leaves is reserved on the page that is lent, and nothing can store to it here.
+// The other stores of a planned call, and its answer: the frame out, the block handed up. They come after the page's one store: the number that the
+// plan leaves is reserved on the page that is lent, and nothing can store to it here.
 fn finish(
     call: Call,
     e: Endpoint,
@@ -113,45 +95,19 @@ fn finish(
     out: &mut [u8],
     up: &mut [u8],
 ) -> StepAnswer
-    requires { (p.number ≡ 0) × (Reserved p page.now × ((o : Outcome Step) × PlansFor call (rooms (length out.old) (length up.old)) e block.now o p)) }
+    requires { Reserved p page.now × ((o : Outcome Step) × PlansFor call (rooms (length out.old) (length up.old)) e block.now o p) }
     ensures { (o : Outcome Step) → PlansFor call (rooms (length out.old) (length up.old)) e block.now o p → Finishes call e block.now o out.old up.old out.new up.new result }
 {
-    let sent = endpoint_places::send(p, block, &e.lengths, &e.blocks, out);
-    let handed = endpoint_places::hand_up(
-        call,
-        p.notice,
-        &e.held_lengths,
-        &e.held_blocks,
-        block,
-        up,
-    );
-    let after = carry_out(e, p, block);
+    let parts = e.parts();
+    let sent = endpoint_places::send(p, block, parts.queue, out);
+    let handed = endpoint_places::hand_up(call, p.notice, parts.held, block, up);
     StepAnswer {
-        number: step_plan::ACCEPTED,
-        endpoint: after,
-        notice: p.notice,
+        number: SUCCESS,
+        endpoint: carry_out(e, p, block),
+        notice: p.notice.number(),
         sent,
         block: handed,
     }
-}
-
-// The plan of a call by value.
-fn plan_call(call: Call, e: Endpoint, page: &[u8], s: &[u8], room: usize, block_room: usize) -> Plan
-    ensures { Plans e page.now (given call s.now (rooms room block_room)) result }
-{
-    let n = endpoint::numbers_of(e);
-    endpoint_plan::plan_call(
-        call,
-        n,
-        &e.lengths,
-        &e.blocks,
-        &e.held_lengths,
-        &e.held_blocks,
-        page,
-        s,
-        room,
-        block_room,
-    )
 }
 
 // A request, the timer call among them, or receiving, by value: page is the end's page, s has the octets of the request or of the frame, out
@@ -166,12 +122,17 @@ pub fn step(
 ) -> StepAnswer
     ensures { Advances e page.old (given call s.now (rooms (length out.old) (length up.old))) out.old up.old page.new out.new up.new result }
 {
-    let p = plan_call(call, e, page, s, out.len(), up.len());
-    if p.number != step_plan::ACCEPTED {
-        return unchanged(e, p.number);
+    let room = Rooms {
+        frame: out.len(),
+        block: up.len(),
+    };
+    match endpoint_plan::plan_call(call, e.parts(), page, s, room) {
+        Err(refusal) => unchanged(e, refusal),
+        Ok(p) => {
+            page::reserve(p.numbers.local, page);
+            finish(call, e, p, page, frame_read::cut_block(s), out, up)
+        }
     }
-    page::reserve(p.numbers.local, page);
-    finish(call, e, p, page, frame_read::cut_block(s), out, up)
 }
 
 // A restart by value: it looks at the page alone. A refusal gives back the record that it was to replace.
@@ -179,15 +140,15 @@ pub fn restart(e: Endpoint, page: &[u8]) -> StepAnswer
     ensures { result ≡ step_answer_of e (restarting page.now) }
 {
     if page.len() < octets::PAGE_SIZE {
-        return unchanged(e, refusal::SHORT_BUFFER);
+        return unchanged(e, Refusal::ShortBuffer);
     }
     if !page::is_run(page) {
-        return unchanged(e, refusal::WRONG_PAGE);
+        return unchanged(e, Refusal::WrongPage);
     }
     StepAnswer {
-        number: step_plan::ACCEPTED,
+        number: SUCCESS,
         endpoint: Endpoint::restarted(page::count_used(page)),
-        notice: step_plan::NONE,
+        notice: NO_NOTICE,
         sent: 0,
         block: 0,
     }
