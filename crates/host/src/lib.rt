@@ -37,7 +37,5 @@ pub fn lend(
     ensures { Advances e page.old (given call s.now (rooms (length out.old) (length up.old))) out.old up.old page.new out.new up.new result }
 {
     let mut held = e;
-    let mut r = advance(call, &mut held, page, s, out, up);
-    r.endpoint = held;
-    r
+    advance(call, &mut held, page, s, out, up)
 }
