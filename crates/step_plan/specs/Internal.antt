@@ -2,7 +2,7 @@
 -- point's contract needs this.
 use Rattle.std.specs.Prelude.{ℕ, ◌≤◌, ◌<◌, ◌+◌, ◌-◌, ◌≡◌, ◌≢◌, Bool, true, false, ◌&&◌, List, [], ◌∷◌, ◌++◌, eqb, length, drop, get_or, replicate, Option, Some, None, Result, Ok, Err}
 use Rattle.octets.specs.Sizes.{longest_block, queue_size, held_size}
-use Rattle.octets.specs.Test.{when, if_eq, zeros, Outcome, refused, number_of}
+use Rattle.octets.specs.Test.{if_eq, zeros, Outcome, refused, number_of}
 use Rattle.octets.specs.Octets.{put}
 use Rattle.octets.specs.declared.refusal.Refusal.{Refusal}
 use Rattle.octets.specs.Refusal.{refusal_number}

@@ -1,5 +1,5 @@
 // Requests and the timer call, planned from the numbers of a record and the lengths of its held blocks.
-#![tactic(auto)]
+#![tactic(auto, unfolding(protocol::specs::Requests::request, protocol::specs::Requests::refusal, protocol::specs::Requests::request_questions, octets::specs::Test::outcome, octets::specs::Test::first, octets::specs::Test::when))]
 
 ghost use Rattle.std.specs.Prelude.{◌≡◌, ℕ, ◌≤◌, ◌<◌, List, [], ◌∷◌, ltb, eqb, length, get_or};
 ghost use Rattle.octets.specs.Sizes.{longest_block, last_number};
@@ -24,7 +24,6 @@ use step_rules::{
 const QUEUE_SIZE: u8 = octets::QUEUE_SIZE as u8;
 
 // Questions 8 and 9 of a request that one state allows and that takes the next of some numbers up to last.
-#[tactic(auto, unfolding(octets::specs::Test::first, octets::specs::Test::when))]
 fn admit(n: Numbers, allowed: u8, number: u32, last: u32) -> Result<(), Refusal>
     ensures { refusal_in result ≡ first ((8, eqb n.state allowed) ∷ (9, ltb number last) ∷ []) }
 {
@@ -37,7 +36,7 @@ fn admit(n: Numbers, allowed: u8, number: u32, last: u32) -> Result<(), Refusal>
     Ok(())
 }
 
-#[tactic(auto, unfolding(protocol::specs::Requests::request, protocol::specs::Requests::refusal, protocol::specs::Requests::request_questions, octets::specs::Test::outcome, octets::specs::Test::first, octets::specs::Test::when))]
+// Connect and listen differ in the state and in what is sent, which is all that each of them says.
 fn connect(n: Numbers, held: &[u8; HELD_SIZE]) -> Result<Plan, Refusal>
     ensures { (b : Block) → Planned n held.now b (request connect) result }
 {
@@ -46,7 +45,6 @@ fn connect(n: Numbers, held: &[u8; HELD_SIZE]) -> Result<Plan, Refusal>
     Ok(Plan::begin(n, held, ACTIVE_OPENING, call))
 }
 
-#[tactic(auto, unfolding(protocol::specs::Requests::request, protocol::specs::Requests::refusal, protocol::specs::Requests::request_questions, octets::specs::Test::outcome, octets::specs::Test::first, octets::specs::Test::when))]
 fn listen(n: Numbers, held: &[u8; HELD_SIZE]) -> Result<Plan, Refusal>
     ensures { (b : Block) → Planned n held.now b (request listen) result }
 {
@@ -54,7 +52,6 @@ fn listen(n: Numbers, held: &[u8; HELD_SIZE]) -> Result<Plan, Refusal>
     Ok(Plan::begin(n, held, LISTENING, None))
 }
 
-#[tactic(auto, unfolding(protocol::specs::Requests::request, protocol::specs::Requests::refusal, protocol::specs::Requests::request_questions, octets::specs::Test::outcome, octets::specs::Test::first, octets::specs::Test::when))]
 fn end_listening(n: Numbers, held: &[u8; HELD_SIZE]) -> Result<Plan, Refusal>
     ensures { (b : Block) → Planned n held.now b (request end_listening) result }
 {
@@ -65,7 +62,6 @@ fn end_listening(n: Numbers, held: &[u8; HELD_SIZE]) -> Result<Plan, Refusal>
 }
 
 // Close tells the partner, and waits until it has heard. Where no partner is known, there is nobody to tell.
-#[tactic(auto, unfolding(protocol::specs::Requests::request, protocol::specs::Requests::refusal, protocol::specs::Requests::request_questions, octets::specs::Test::outcome, octets::specs::Test::first, octets::specs::Test::when))]
 fn close(n: Numbers, held: &[u8; HELD_SIZE]) -> Result<Plan, Refusal>
     ensures { (b : Block) → Planned n held.now b (request close) result }
 {
@@ -80,7 +76,6 @@ fn close(n: Numbers, held: &[u8; HELD_SIZE]) -> Result<Plan, Refusal>
 }
 
 // The block joins the waiting ones as number t; then t + 1.
-#[tactic(auto, unfolding(protocol::specs::Requests::request, protocol::specs::Requests::refusal, protocol::specs::Requests::request_questions, octets::specs::Test::outcome, octets::specs::Test::first, octets::specs::Test::when))]
 fn send(n: Numbers) -> Result<Plan, Refusal>
     ensures { (z : List ℕ) (b : Block) → 1 ≤ length b → length b ≤ longest_block → Planned n z b (request (send b)) result }
 {
@@ -115,7 +110,6 @@ fn timer(n: Numbers) -> Plan
 }
 
 // Collect: block e is handed up if it is held; otherwise nothing is done.
-#[tactic(auto, unfolding(protocol::specs::Requests::request, protocol::specs::Requests::refusal, protocol::specs::Requests::request_questions, octets::specs::Test::outcome, octets::specs::Test::first, octets::specs::Test::when))]
 fn collect(n: Numbers, held: &[u8; HELD_SIZE]) -> Result<Plan, Refusal>
     requires { 1 ≤ get_or held.now 0 0 → n.delivered < last_number }
     ensures { (b : Block) → Planned n held.now b (request collect) result }

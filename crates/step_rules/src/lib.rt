@@ -1,5 +1,5 @@
 // Which row of the step table applies to a frame: the rules in code, one method for a state.
-#![tactic(auto, using(octets::proofs::Test::eq_yes, octets::proofs::Test::eq_no, octets::proofs::Test::lt_yes, octets::proofs::Test::lt_no))]
+#![tactic(auto, unfolding(protocol::specs::Table::when_closed, protocol::specs::Table::when_listening, protocol::specs::Table::when_active, protocol::specs::Table::when_passive, protocol::specs::Table::when_closing, protocol::specs::Table::data_row, protocol::specs::Table::ack_row, octets::specs::Test::if_eq, octets::specs::Test::if_lt, octets::specs::Test::when))]
 
 ghost use Rattle.std.specs.Prelude.{◌≡◌, ◌≤◌, ◌-◌};
 ghost use Rattle.protocol.specs.Table.{when_closed, when_listening, when_active, when_passive, data_row, ack_row, open_rows, when_established, when_closing, rule};
@@ -9,7 +9,7 @@ use frame::{Header, Kind};
 use protocol::Rule;
 
 // The states; document 01 calls 2 calling, 3 answering and 4 open. They stay numbers: a record of any octets is loaded before question 12 is asked
-// of it, and what it is told of a state (sound, status_of) speaks of all 256.
+// of it, and sound and status_of speak of all 256 octets of a state.
 pub const CLOSED: u8 = 0;
 
 pub const LISTENING: u8 = 1;
@@ -25,7 +25,8 @@ pub const CLOSING: u8 = 5;
 // The places for held blocks.
 const HELD_SIZE: u32 = octets::HELD_SIZE as u32;
 
-// The numbers of an endpoint: its record without the waiting blocks and the held ones.
+// The numbers of an endpoint: its record without the waiting blocks and the held ones. Equality compares all six without a branch between them. That w is
+// at most t is asked where it is needed, and is no invariant: a record of any octets is loaded before question 12 is asked of it (endpoint::load_numbers).
 #[derive(Clone, Copy, Debug, PartialEq, Eq)]
 pub struct Numbers {
     pub state: u8,
@@ -46,9 +47,8 @@ impl Numbers {
     }
 }
 
-// The rows of each state. quoted is that r = L.
+// The rows of each state, as the step table has them: quoted is that r = L, later that s > D.
 impl Numbers {
-    #[tactic(auto, unfolding(protocol::specs::Table::when_closed, octets::specs::Test::if_eq, octets::specs::Test::if_lt, octets::specs::Test::when))]
     fn when_closed(self, f: Header) -> Rule
         ensures { Chosen when_closed self f result }
     {
@@ -59,7 +59,6 @@ impl Numbers {
         }
     }
 
-    #[tactic(auto, unfolding(protocol::specs::Table::when_listening, octets::specs::Test::if_eq, octets::specs::Test::if_lt, octets::specs::Test::when))]
     fn when_listening(self, f: Header) -> Rule
         ensures { Chosen when_listening self f result }
     {
@@ -72,7 +71,6 @@ impl Numbers {
     }
 
     // Document 01: calling.
-    #[tactic(auto, unfolding(protocol::specs::Table::when_active, octets::specs::Test::if_eq, octets::specs::Test::if_lt, octets::specs::Test::when))]
     fn when_active(self, f: Header) -> Rule
         ensures { Chosen when_active self f result }
     {
@@ -89,7 +87,6 @@ impl Numbers {
     }
 
     // Document 01: answering.
-    #[tactic(auto, unfolding(protocol::specs::Table::when_passive, octets::specs::Test::if_eq, octets::specs::Test::if_lt, octets::specs::Test::when))]
     fn when_passive(self, f: Header) -> Rule
         ensures { Chosen when_passive self f result }
     {
@@ -106,7 +103,6 @@ impl Numbers {
     }
 
     // Open, a DATA, by how far its number is above e.
-    #[tactic(auto, unfolding(protocol::specs::Table::data_row, octets::specs::Test::if_eq, octets::specs::Test::if_lt, octets::specs::Test::when))]
     fn data_row(self, f: Header) -> Rule
         ensures { Chosen data_row self f result }
     {
@@ -118,7 +114,6 @@ impl Numbers {
     }
 
     // Open, an ACK.
-    #[tactic(auto, unfolding(protocol::specs::Table::ack_row, octets::specs::Test::if_eq, octets::specs::Test::if_lt, octets::specs::Test::when))]
     fn ack_row(self, f: Header) -> Rule
         requires { self.waiting ≤ self.accepted }
         ensures { Chosen ack_row self f result }
@@ -159,7 +154,6 @@ impl Numbers {
         }
     }
 
-    #[tactic(auto, unfolding(protocol::specs::Table::when_closing, octets::specs::Test::if_eq, octets::specs::Test::if_lt, octets::specs::Test::when))]
     fn when_closing(self, f: Header) -> Rule
         ensures { Chosen when_closing self f result }
     {

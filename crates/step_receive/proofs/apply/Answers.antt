@@ -1,4 +1,4 @@
-use Rattle.std.proofs.Common.{ℕ, ◌≡◌, ◌+◌, ◌-◌, ◌≤◌, ◌<◌, List, [], length, get_or, refl, sym, ap, ◌∙◌, arith, Some, None}
+use Rattle.std.proofs.Common.{ℕ, ◌≡◌, ◌+◌, ◌-◌, ◌≤◌, ◌<◌, List, [], get_or, refl, sym, ap, ◌∙◌, arith, Some, None}
 use lib.ListN.{replicate, length-replicate}
 use Rattle.octets.specs.Sizes.{held_size, last_number}
 use Rattle.octets.specs.Test.{when, if_eq, ok}

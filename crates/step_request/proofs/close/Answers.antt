@@ -1,4 +1,4 @@
-use Rattle.std.proofs.Common.{ℕ, ◌≡◌, refl, ap, ◌∙◌, Some, None}
+use Rattle.std.proofs.Common.{◌≡◌, refl, ap, ◌∙◌, Some, None}
 use mathlib.Core.Logic.{◌≢◌, ◌⊎◌, inl, inr}
 use Rattle.octets.specs.Test.{first, if_eq, when, ok}
 use Rattle.octets.proofs.Test.{eq_yes, eq_no}

@@ -8,7 +8,6 @@ use Rattle.frame.specs.Frame.{send}
 use Rattle.protocol.specs.Endpoint.{established}
 use Rattle.protocol.specs.Requests.{refusal, request_questions, accept}
 use Rattle.step_rules.specs.Internal.{holding}
-use Rattle.step_plan.specs.Internal.{sent_by}
 use Rattle.step_plan.proofs.Comes.{joins}
 use Rattle.step_request.proofs.Requests.{allowed}
 use Rattle.step_request.proofs.send.Goals as goal
