@@ -99,6 +99,9 @@ told_room t b d h l w =
 pub line_short : (t : Status) (b : Block) → length b ≤ longest_block → length (answer_line t b) ≤ 2 * longest_answer + 1
 line_short t b h = omega (arith, length_line (answer_octets t b), told_short t b h)
 
+pub line_room : (t : Status) (b : Block) (d : List ℕ) {x : List ℕ} {m : ℕ} → length b ≤ longest_block → StartsWith (answer_line t b) d x m → m ≤ 2 * longest_answer + 1
+line_room t b d h w = omega (arith, w.count, line_short t b h)
+
 -- without a block it has 23 characters
 pub length_told : (t : Status) → length (answer_line t []) ≡ 23
 length_told t = length_line (answer_octets t []) ∙ ap (λ (n : ℕ). 2 * n + 1) (length-numbers t)

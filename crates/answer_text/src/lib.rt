@@ -35,13 +35,12 @@ fn tell(t: Status, block: &[u8], out: &mut [u8]) -> usize
     requires { (longest_answer ≤ length out.old) × (length block.now ≤ longest_block) }
     ensures { StartsWith (answer_octets t block.now) out.old out.new result }
 {
-    let first = (128 + octets::wide32(t.number)) % 256;
-    octets::store8(out, 0, first as u8);
+    octets::store8(out, 0, t.number.wrapping_add(128));
     octets::store8(out, 1, t.state);
     octets::store8(out, 2, t.notice);
     octets::store32(out, 3, t.local);
     octets::store32(out, 7, t.remote);
-    if block.len() == 0 {
+    if block.is_empty() {
         return NUMBERS_SIZE;
     }
     octets::store8(out, NUMBERS_SIZE, block.len() as u8);
@@ -65,7 +64,7 @@ pub fn write_text(t: Status, block: &[u8], sent: &[u8], out: &mut [u8]) -> usize
     ensures { StartsWith (text_of t block.now sent.now) out.old out.new result }
 {
     let m = write_answer(t, block, out);
-    if sent.len() == 0 {
+    if sent.is_empty() {
         return m;
     }
     let k = write_line(sent, &mut out[m..]);
