@@ -60,7 +60,8 @@ fn carry_out(e: Endpoint, p: Plan, block: &[u8]) -> Endpoint
 
 // What a call by value answers. number is document 01's number of the refusal, 0 for success; sent the length of the frame sent, which
 // stands at the start of the caller's buffer (0: none); block the length of the block handed up (0: none), which stands in the caller's
-// own received frame, from octet 14 on, or, of a request, at the start of the buffer lent for it.
+// own received frame, from octet 14 on, or, of a request, at the start of the buffer lent for it. number and notice stay numbers: step_answer_of gives
+// hosts those of document 01.
 #[derive(Clone, Copy)]
 pub struct StepAnswer {
     pub number: u8,

@@ -150,7 +150,8 @@ pub fn perform(
     }
 }
 
-// A frame received by a call that only looks at the page: no number is begun, so that nothing has to be reserved. block is its block.
+// A frame received by a call that only looks at the page: no number is begun, so that nothing has to be reserved. block is its block. It does not call
+// perform, which would have to be lent the page to store in it.
 fn hear(
     rec: &mut [u8],
     page: &[u8],
@@ -174,7 +175,7 @@ fn hear(
 }
 
 // Receives the frame s. Gives the block handed up, a part of s, empty where there is none; the number, state, notice, L, D and
-// the length of the frame sent go to the last six.
+// the length of the frame sent go to the last six: dock_receive of c_end, which C calls, hands on the places that it is told to write them to.
 pub fn receive<'a>(
     rec: &mut [u8],
     page: &[u8],

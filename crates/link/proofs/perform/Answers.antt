@@ -1,4 +1,4 @@
-use Rattle.std.proofs.Common.{length}
+use Rattle.std.proofs.Common.{arith, length}
 use Rattle.frame.specs.Read.{cut_block}
 use Rattle.call_spec.specs.Calls.{rooms}
 use Rattle.endpoint.specs.Record.{decode}
@@ -15,7 +15,7 @@ reserve-requires c =
 
 -- what the other stores ask of the page is there once its own store is made
 pub finish-requires : goal.finish-requires
-finish-requires c = (c.in-Ok.ensures.0, (c.reserve.ensures.1, (_, by_block c.cut_block.ensures c.in-Ok.ensures.1)))
+finish-requires c = (c.in-Ok.ensures.0, (omega arith, (_, by_block c.cut_block.ensures c.in-Ok.ensures.1)))
 
 pub returns-in-Err : goal.returns-in-Err
 returns-in-Err c =
