@@ -3,3 +3,4 @@ pub mod Lines
 pub mod Runs
 pub mod Standing
 pub mod Demand
+pub mod Plans

@@ -8,10 +8,9 @@ use native.Mathlib.Omega.{arith}
 use borrow.Author.Tests.{leb-true}
 use lib.ListN.{length}
 use Rattle.octets.specs.Sizes.{page_size, longest_frame}
-use Rattle.octets.specs.Test.{first, Outcome, refused, ok, refusing}
+use Rattle.octets.specs.Test.{first, Outcome, refused, ok, refusing, mapped}
 use Rattle.octets.proofs.Test.{all_yes, refusing_of}
-use Rattle.hexadecimal.specs.Line.{unhex, line_questions, read_into, line_of}
-use Rattle.hexadecimal.specs.declared.Line.TheVariants.{Refused}
+use Rattle.hexadecimal.specs.Line.{unhex, line_questions, read_into}
 use Rattle.hexadecimal.proofs.Asked.{none_refused, turned_away}
 use Rattle.page.proofs.Laws.{goes_so, stays}
 use Rattle.protocol.specs.Table.{Step}
@@ -60,7 +59,7 @@ module _ (rec page line : List ℕ) where
     unfolding refusing
     line-asks h = next ∙ makes_call rec page line (has_some line h) ∙ ap (λ (m : ℕ). refusing m comes) h
 
-    pub declined : length line ≢ 0 → (d : List ℕ) → length d ≡ longest_frame → {n : ℕ} → line_of (read_into line d) ≡ Refused n → line_outcome rec page line ≡ refused n
+    pub declined : length line ≢ 0 → (d : List ℕ) → length d ≡ longest_frame → {n : ℕ} → mapped length (read_into line d) ≡ refused n → line_outcome rec page line ≡ refused n
     unfolding refusing
     declined z d l {n} h =
         let q = turned_away line d l n h in

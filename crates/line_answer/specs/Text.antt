@@ -1,6 +1,8 @@
 -- The text of an answer at one end.
-use Rattle.std.specs.Prelude.{ℕ, ◌≡◌, List, [], ◌∷◌}
-use Rattle.octets.specs.Test.{first, Outcome, ok}
+use Rattle.std.specs.Prelude.{ℕ, ◌≡◌, List, [], ◌∷◌, Result, Ok, Err}
+use Rattle.octets.specs.Test.{first, Outcome, refused, ok}
+use Rattle.octets.specs.Refusal.{refusal_number}
+use Rattle.octets.specs.declared.refusal.Refusal.{Refusal}
 use Rattle.octets.specs.Octets.{put, lay, Octets}
 use Rattle.protocol.specs.Table.{Step}
 use Rattle.call_spec.specs.Calls.{wire, record_after, page_after}
@@ -25,6 +27,11 @@ pub record LineAnswered (o : Outcome Step) (rec page out rec' page' out' : List 
   pub begins : StartsWith (text rec o) out out' n
   pub end : rec' ≡ record_after format rec o
   pub paged : page' ≡ page_after page o
+
+-- what a line that comes to o answers and leaves, or the refusal that it comes to, where all that is lent is as it was
+abbrev pub LineAsked : Outcome Step → List ℕ → List ℕ → List ℕ → List ℕ → List ℕ → List ℕ → Result ℕ Refusal → Type 0
+LineAsked o rec page out rec' page' out' (Ok n) = LineAnswered o rec page out rec' page' out' n
+LineAsked o rec page out rec' page' out' (Err r) = (o ≡ refused (refusal_number r)) × ((rec' ≡ rec) × ((page' ≡ page) × (out' ≡ out)))
 
 -- What an empty line leaves of all that is lent, where 11, 12 and 15 are passed (document 02, N5): 23 characters, and nothing else moves.
 pub record Stood (rec page out rec' page' out' : List ℕ) (n : ℕ) : Type 0 where
