@@ -34,7 +34,7 @@ pub finish-a-requires : goal.finish-a-requires
 finish-a-requires c =
     let a = c.args in
     let w = planned a.rec.now a.page.now a.s.now c.requires.0 c.call_in-call.result (Ok c.in_ok-plan.plan) c.in_ok-plan.ensures in
-    ((asked_of a.rec.now a.page.now c.requires.0).long, (c.reserve.ensures.1, (_, by_block c.cut_block-block.ensures w)))
+    ((asked_of a.rec.now a.page.now c.requires.0).long, (omega arith, (_, by_block c.cut_block-block.ensures w)))
 
 pub block_part-handed-requires : goal.block_part-handed-requires
 block_part-handed-requires c =
