@@ -77,6 +77,7 @@ pub struct Plan {
 }
 
 // In these plans n are the numbers of the record, and held has the lengths of the held places.
+// They stay two parameters: keep, join and release plan from the numbers alone.
 impl Plan {
     // The blocks stay, with these numbers.
     pub fn keep(n: Numbers, notice: Notice, reply: Option<Header>) -> Plan
