@@ -1,6 +1,8 @@
-use Rattle.std.proofs.Common.{refl, sym, ap, length, replicate, length-take-le, arith, rules}
+use Rattle.std.proofs.Common.{◌≡◌, refl, sym, ap, length, replicate, length-take-le, arith, rules}
 use Rattle.std.proofs.lemmas.Result.{err_from_is_err_and}
 use Rattle.octets.specs.Octets.{Octets}
+use Rattle.octets.specs.Test.{first}
+use Rattle.lent_record.specs.Record.{record_questions}
 use Rattle.octets.specs.Sizes.{longest_frame}
 use Rattle.frame.proofs.Reading.{refusal_some}
 use Rattle.hexadecimal.proofs.Asked.{passed, fits, reads}
@@ -17,13 +19,14 @@ returns-in_err-ready c =
 -- the empty line
 pub stand-requires : goal.stand-requires
 stand-requires c =
-    ((asked_of c.args.rec.now c.args.page.now (sym c.in_ok-ready.ensures)).long, omega (arith, standing-long c.args.rec.now, c.requires))
+    let y : first (record_questions c.args.rec.now c.args.page.now) ≡ 0 = search rules in
+    ((asked_of c.args.rec.now c.args.page.now y).long, omega (arith, standing-long c.args.rec.now, c.requires))
 
 pub returns-then-is_empty : goal.returns-then-is_empty
 unfolding Octets
 returns-then-is_empty c =
     let a = c.args in
-    let y = sym c.in_ok-ready.ensures in
+    let y : first (record_questions a.rec.now a.page.now) ≡ 0 = search rules in
     rw (asks-standing a.rec.now a.page.now a.line.now y (search rules)) (stands-there a.rec.now a.page.now a.out.now (search rules) y c.stand.ensures)
 
 -- 1 or 2 of the line is not passed
@@ -31,8 +34,9 @@ pub returns-in_err-n : goal.returns-in_err-n
 returns-in_err-n c =
     let a = c.args in
     let p = err_from_is_err_and c.from_residual-in_err-n.result c.from_residual-in_err-n.ensures.1 in
+    let y : first (record_questions a.rec.now a.page.now) ≡ 0 = search rules in
     rw (p.1, p.2)
-    (declined a.rec.now a.page.now a.line.now (sym c.in_ok-ready.ensures) (search rules) (replicate longest_frame 0) refl (sym c.in_err-n.ensures.0), (refl, (refl, refl)))
+    (declined a.rec.now a.page.now a.line.now y (search rules) (replicate longest_frame 0) refl (sym c.in_err-n.ensures.0), (refl, (refl, refl)))
 
 -- the octets of the line
 pub slice_bounds-s-end : goal.slice_bounds-s-end
@@ -48,7 +52,7 @@ slice_bounds-ask-end c =
 pub ask-requires : goal.ask-requires
 ask-requires c =
     let r = passed c.args.line.now (replicate longest_frame 0) refl _ _ (sym c.in_ok-n.ensures.0) c.in_ok-n.ensures.1 in (
-      sym c.in_ok-ready.ensures,
+      search rules,
       (
         omega (arith, fits c.args.line.now (replicate longest_frame 0) refl r (search rules), r.count, ap length (reads c.args.line.now (replicate longest_frame 0) refl r)),
         c.requires,
@@ -59,4 +63,5 @@ pub returns : goal.returns
 returns c =
     let a = c.args in
     let r = passed a.line.now (replicate longest_frame 0) refl _ _ (sym c.in_ok-n.ensures.0) c.in_ok-n.ensures.1 in
-    rw (line-asks a.rec.now a.page.now a.line.now (sym c.in_ok-ready.ensures) r.all_yes) (rw (reads a.line.now (replicate longest_frame 0) refl r) at c.ask.ensures)
+    let y : first (record_questions a.rec.now a.page.now) ≡ 0 = search rules in
+    rw (line-asks a.rec.now a.page.now a.line.now y r.all_yes) (rw (reads a.line.now (replicate longest_frame 0) refl r) at c.ask.ensures)
