@@ -1,25 +1,29 @@
 -- The tests of each question, for the code. No entry point's contract needs this.
-use Rattle.std.specs.Prelude.{ℕ, Bool, List, [], ◌∷◌, leb, length}
+use Rattle.std.specs.Prelude.{ℕ, Bool, List, [], ◌∷◌, ◌≤◌, leb, length}
 use Rattle.octets.specs.Sizes.{longest_frame, longest_block, page_size}
 use Rattle.call_spec.specs.Calls.{Rooms}
-use Rattle.call_spec.specs.Claim.{Lent, lent}
+use Rattle.call_spec.specs.Claim.{Lent}
 use Rattle.endpoint.specs.Record.{record_size}
 use Rattle.bench_log.specs.Log.{log_size, places}
-use Rattle.bench_spec.specs.Bench.{sound_at, paged_at}
+use Rattle.bench_spec.specs.Bench.{Bench, sound_at, paged_at}
 
-abbrev pub room_tests : Lent → Lent → List ℕ → Rooms → List Bool
-room_tests a b log room =
-    leb record_size (length a.rec)
-    ∷ leb record_size (length b.rec)
-    ∷ leb page_size (length a.page)
-    ∷ leb page_size (length b.page)
-    ∷ leb log_size (length log)
+abbrev pub room_tests : Bench → Rooms → List Bool
+room_tests w room =
+    leb record_size (length w.a.rec)
+    ∷ leb record_size (length w.b.rec)
+    ∷ leb page_size (length w.a.page)
+    ∷ leb page_size (length w.b.page)
+    ∷ leb log_size (length w.log)
     ∷ leb longest_frame room.frame
     ∷ leb longest_block room.block
     ∷ []
 
-abbrev pub sound_tests : ℕ → List ℕ → List ℕ → ℕ → List Bool
-sound_tests k a b count = sound_at k 0 (lent a []) ∷ sound_at k 1 (lent b []) ∷ leb count places ∷ []
+abbrev pub sound_tests : ℕ → Bench → List Bool
+sound_tests k w = sound_at k 0 w.a ∷ sound_at k 1 w.b ∷ leb w.count places ∷ []
 
-abbrev pub page_tests : ℕ → Lent → Lent → List Bool
-page_tests k a b = paged_at k 0 a ∷ paged_at k 1 b ∷ []
+abbrev pub page_tests : ℕ → Bench → List Bool
+page_tests k w = paged_at k 0 w.a ∷ paged_at k 1 w.b ∷ []
+
+-- where there is room, the records and the pages are long enough
+abbrev pub Long : Lent → Type 0
+Long l = (record_size ≤ length l.rec) × (page_size ≤ length l.page)

@@ -6,7 +6,7 @@ use mathlib.Core.List.{List}
 use native.Mathlib.Omega.{arith}
 use borrow.Author.Tests.{leb-true}
 use lib.ListN.{length, drop}
-use Rattle.octets.specs.Test.{Outcome, refused, ok}
+use Rattle.octets.specs.Test.{Outcome, refused, ok, and_then}
 use Rattle.octets.proofs.Test.{if-eq, accepted, all_yes, passing}
 use Rattle.hexadecimal.specs.Line.{unhex}
 use Rattle.protocol.specs.World.{DueAt}
@@ -21,7 +21,7 @@ use Rattle.bench_spec.specs.declared.Order.TheVariants as order
 use Rattle.bench_spec.specs.Bench.{Bench, lent_at, At, delivery, order_of, order_asks, octets_ask, line_asks}
 use Rattle.bench_spec.specs.Run.{RunEnds, RunEntry, entry}
 use Rattle.bench_spec.proofs.Logged.{SentBy, Logged}
-use Rattle.bench_spec.proofs.Orders.{AtEnd, at_end}
+use Rattle.bench_spec.proofs.Ends.{at_most_one}
 
 -- a line restarts an end with the record that it finds
 abbrev pub FromLine : Lent → LentAct → Type 0
@@ -68,19 +68,19 @@ module _ (w : Bench) (e : RunEnds) (h : Logged e w.count w.log) where
       let t = held w.count n w.log (all_yes 13 _ _ a.0 tt).0 in
       subst Good a.1 (gives_fair e _ _ room (h n t.below) (omega arith) (λ j. omega (arith, t.sender)) (λ j. omega (arith, t.sender)), tt)
 
-  order-so : (s : List ℕ) (room : Rooms) (o : Order) → AtEnd o → IfOk (order_asks w s room o)
+  order-so : (s : List ℕ) (room : Rooms) (o : Order) → IfOk (order_asks w s room o)
   unfolding order_asks
-  order-so s room (order.Request i) h = is_ok _ (asks_fair e i (drop 1 s) room h, tt)
-  order-so s room (order.Deliver n) h = delivery-fair n room
-  order-so s room (order.Restart i) h = is_ok _ (restart_fair e i _ h, refl)
-  order-so s room (order.Refused n) h = not_ok n
+  order-so s room (order.Request i) = is_ok _ (asks_fair e _ (drop 1 s) room (at_most_one i), tt)
+  order-so s room (order.Deliver n) = delivery-fair n room
+  order-so s room (order.Restart i) = is_ok _ (restart_fair e _ _ (at_most_one i), refl)
 
-  asks-so : (s : List ℕ) (room : Rooms) → IfOk (octets_ask w s room)
-  unfolding octets_ask
-  asks-so s room = order-so s room (order_of s) (at_end s)
+  asks-so : (s : List ℕ) (room : Rooms) (o : Outcome Order) → IfOk (and_then o (order_asks w s room))
+  unfolding and_then
+  asks-so s room (refused n) = not_ok n
+  asks-so s room (ok o) = order-so s room o
 
   pub asked-fair : (line : List ℕ) (room : Rooms) (x : At) → line_asks w line room ≡ ok x → Good x × (log_size ≤ length w.log)
-  unfolding line_asks
+  unfolding line_asks octets_ask
   asked-fair line room x k =
       let p = passing _ k in
       let a = all_yes 11 _ _ p.0 tt in
@@ -88,4 +88,4 @@ module _ (w : Bench) (e : RunEnds) (h : Logged e w.count w.log) where
       let c = all_yes 11 _ _ b.1 tt in
       let d = all_yes 11 _ _ c.1 tt in
       let l = all_yes 11 _ _ d.1 tt in
-      (asks-so (unhex line) room x p.1, leb-true log_size (length w.log) l.0)
+      (asks-so (unhex line) room (order_of (unhex line)) x p.1, leb-true log_size (length w.log) l.0)

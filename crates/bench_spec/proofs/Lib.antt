@@ -1,6 +1,6 @@
 pub mod Sends
 pub mod Logged
-pub mod Orders
+pub mod Ends
 pub mod Fair
 pub mod Delivery
 pub mod Run

@@ -1,5 +1,5 @@
 -- The bench: two ends, every frame ever sent, and what a line comes to (document 01, "Bench").
-use Rattle.std.specs.Prelude.{ℕ, ◌+◌, ◌-◌, ◌*◌, Bool, true, false, List, [], ◌∷◌, ltb, leb, eqb, length, drop, get_or}
+use Rattle.std.specs.Prelude.{ℕ, zero, suc, ◌+◌, ◌-◌, ◌*◌, Bool, true, false, Option, None, Some, List, [], ◌∷◌, ltb, leb, eqb, length, drop, get_or}
 use Rattle.octets.specs.Sizes.{longest_frame, longest_block, page_size}
 use Rattle.octets.specs.Test.{when, if_eq, if_lt, in_range, Question, first, Outcome, refused, ok, outcome, refusing, and_then}
 use Rattle.octets.specs.Octets.{put, field}
@@ -13,6 +13,8 @@ use Rattle.page.specs.Page.{runs}
 use Rattle.lent_record.specs.Record.{format, paged_for}
 use Rattle.lent_record.specs.Told.{lent_after}
 use Rattle.bench_log.specs.Log.{place_size, places, log_size, sender_at, frame_logged, holds, place}
+use Rattle.bench_spec.specs.declared.End.{End}
+use Rattle.bench_spec.specs.declared.End.TheVariants.{A, B}
 use Rattle.bench_spec.specs.declared.Order.{Order}
 use Rattle.bench_spec.specs.declared.Order.TheVariants as order
 
@@ -26,7 +28,16 @@ pub record Bench : Type 0 where
 abbrev pub bench_of : Lent → Lent → List ℕ → ℕ → Bench
 bench_of a b log count = record { a = a; b = b; log = log; count = count }
 
--- an end: A is 0, B is 1
+-- the number of an end, and the end of a number: A is 0, B is 1
+abbrev pub end_number : End → ℕ
+end_number A = 0
+end_number B = 1
+
+abbrev pub end_at : ℕ → End
+end_at zero = A
+end_at (suc n) = B
+
+-- an end by its number
 unfoldable pub lent_at : ℕ → Bench → Lent
 lent_at i w = if_eq i 0 w.a w.b
 
@@ -48,6 +59,11 @@ room_questions room rest = (11, leb longest_frame room.frame) ∷ (11, leb longe
 -- nor does its L count for 15; k is neither end where none is restarted.
 abbrev pub neither : ℕ
 neither = 2
+
+-- the number k of the end that is restarted, if one is
+abbrev pub restarted_number : Option End → ℕ
+restarted_number None = neither
+restarted_number (Some e) = end_number e
 
 abbrev pub sound_at : ℕ → ℕ → Lent → Bool
 sound_at k i r = when (eqb k i) true (format.sound r.rec)
@@ -90,37 +106,36 @@ abbrev pub end_named : List ℕ → ℕ
 end_named s = get_or s 1 0
 
 -- Line 53 and such an octet: a restart of that end (N6). None at all: 4; another one: 3, also where more follows; more after a right one: 4.
-unfoldable pub restart_order : List ℕ → Order
+unfoldable pub restart_order : List ℕ → Outcome Order
 restart_order s =
-    if_lt (length s) 2 (order.Refused 4)
-    (when (in_range request_of_a request_of_b (end_named s)) (if_eq (length s) 2 (order.Restart (end_named s - request_of_a)) (order.Refused 4))
-    (order.Refused 3))
+    if_lt (length s) 2 (refused 4)
+    (when (in_range request_of_a request_of_b (end_named s)) (if_eq (length s) 2 (ok (order.Restart (end_at (end_named s - request_of_a)))) (refused 4))
+    (refused 3))
 
 -- Line 50 or 51 and a request: end A or B. Line 52 and a number of 2 octets: deliver that frame. Line 53 and an end: restart it.
-unfoldable pub order_of : List ℕ → Order
+unfoldable pub order_of : List ℕ → Outcome Order
 order_of s =
-    if_eq (kind_of s) request_of_a (order.Request 0)
-    (if_eq (kind_of s) request_of_b (order.Request 1)
-    (if_eq (kind_of s) deliver (if_eq (length s) 3 (order.Deliver (field 2 1 s)) (order.Refused 4))
+    if_eq (kind_of s) request_of_a (ok (order.Request A))
+    (if_eq (kind_of s) request_of_b (ok (order.Request B))
+    (if_eq (kind_of s) deliver (if_eq (length s) 3 (ok (order.Deliver (field 2 1 s))) (refused 4))
     (if_eq (kind_of s) restart_kind (restart_order s)
-    (order.Refused 3))))
+    (refused 3))))
 
 -- what an order asks of the bench, with the octets s of its line
 unfoldable pub order_asks : Bench → List ℕ → Rooms → Order → Outcome At
-order_asks w s room (order.Request i) = ok (i, call (given Request (drop 1 s) room))
+order_asks w s room (order.Request e) = ok (end_number e, call (given Request (drop 1 s) room))
 order_asks w s room (order.Deliver n) = delivery w n room
-order_asks w s room (order.Restart i) = ok (i, restart (lent_at i w).rec)
-order_asks w s room (order.Refused n) = refused n
+order_asks w s room (order.Restart e) = ok (end_number e, restart (lent_at (end_number e) w).rec)
 
 unfoldable pub octets_ask : Bench → List ℕ → Rooms → Outcome At
-octets_ask w s room = order_asks w s room (order_of s)
+octets_ask w s room = and_then (order_of s) (order_asks w s room)
 
 -- the end that an order restarts
-unfoldable pub end_restarted : Order → ℕ
-end_restarted (order.Request i) = neither
-end_restarted (order.Deliver n) = neither
-end_restarted (order.Restart i) = i
-end_restarted (order.Refused n) = neither
+unfoldable pub end_restarted : Outcome Order → ℕ
+end_restarted (refused n) = neither
+end_restarted (ok (order.Request e)) = neither
+end_restarted (ok (order.Deliver n)) = neither
+end_restarted (ok (order.Restart e)) = end_number e
 
 -- and the octets of a line, past 3 and 4
 unfoldable pub restarted_by : List ℕ → ℕ
