@@ -23,7 +23,9 @@ use Rattle.lent_record.specs.Told.{sent_of, answer_of}
 use Rattle.link.specs.Lent.{Called}
 use Rattle.lent_record.proofs.Told.{sent_fits, sent_taken}
 use Rattle.bench_log.specs.Log.{places, log_size}
-use Rattle.bench_spec.specs.Bench.{sends, logged, call_outcome, log_after, count_after}
+use Rattle.bench_spec.specs.declared.End.{End}
+use Rattle.bench_spec.proofs.Ends.{same_end}
+use Rattle.bench_spec.specs.Bench.{end_number, sends, logged, call_outcome, log_after, count_after}
 use Rattle.bench_call.specs.declared.BenchAnswer.{BenchAnswer}
 use Rattle.bench_call.specs.Answer.{bench_block_at, bench_answer_of}
 use Rattle.bench_call.specs.Internal.{noted, noted_count, block_place, answer_from, Does}
@@ -54,10 +56,10 @@ enters i log count (refused n) = refl
 enters i log count (ok x) = enters_sent i log count x x.sent refl
 
 -- part by part
-pub answers : (i : ℕ) (m : Answer) (start count : ℕ) {at counted : ℕ} → at ≡ block_place start m.block → counted ≡ noted_count count m.sent
-    → record { end = i; status = m.status; sent = m.sent; at = at; block = m.block; count = counted } ≡ answer_from i m start count
+pub answers : (e : End) (m : Answer) (start count : ℕ) {at counted n : ℕ} → at ≡ block_place start m.block → counted ≡ noted_count count n → n ≡ m.sent
+    → record { end = e; status = m.status; sent = m.sent; at = at; block = m.block; count = counted } ≡ answer_from (end_number e) m start count
 unfolding answer_from
-answers i m start count e k = rw (e, k) refl
+answers e m start count h k l = rw (h, k, l, same_end e) refl
 
 tells : (i : ℕ) (rec : List ℕ) (count start : ℕ) (o : Outcome Step) → answer_from i (answer_of rec o) start count ≡ bench_answer_of i rec count start o
 unfolding answer_from answer_of bench_answer_of block_place
