@@ -6,14 +6,13 @@ use native.Mathlib.Omega.{arith}
 use lib.ListN.{length}
 use borrow.Author.Tests.{eqb-true}
 use Rattle.octets.specs.Sizes.{longest_frame}
-use Rattle.octets.specs.Test.{first, Outcome, refused, refusing}
+use Rattle.octets.specs.Test.{first, Outcome, refused, refusing, and_then}
 use Rattle.octets.proofs.Test.{by_eq, both, within, all_yes, all_before, refusing_of, refuses_before, eq_yes, eq_no}
 use Rattle.hexadecimal.specs.Line.{unhex, length_ok, line_questions}
 use Rattle.hexadecimal.proofs.Asked as reading
 use Rattle.hexadecimal.proofs.Digits.{length-unhex}
 use Rattle.call_spec.specs.Calls.{Rooms}
-use Rattle.bench_spec.specs.declared.Order.TheVariants as order
-use Rattle.bench_spec.specs.Bench.{Bench, At, buffer_questions, room_questions, sound_questions, order_of, order_asks, octets_ask, end_restarted, restarted_by, restarted_end, line_asks}
+use Rattle.bench_spec.specs.Bench.{Bench, At, buffer_questions, room_questions, sound_questions, order_of, octets_ask, end_restarted, restarted_by, restarted_end, line_asks}
 use Rattle.bench_checks.specs.Ready.{ready_questions}
 use Rattle.bench_line.specs.Performed.{EmptyLineRefused}
 use Rattle.bench_order.specs.Internal.{asks_ready}
@@ -46,8 +45,8 @@ module _ (w : Bench) (line : List ℕ) (room : Rooms) where
       ∙ ap (λ (k : ℕ). refusing (first (ready_questions k w room)) asked) (eq_yes _ _ _ _ h)
 
   -- one that they refuse orders nothing, and restarts neither end
-  pub turned_away : (s : List ℕ) (k : ℕ) → first (line_questions line) ≡ suc k → line_asks w line room ≡ asks_ready w s room (order.Refused (suc k))
-  unfolding line_asks restarted_end refusing asks_ready end_restarted order_asks
+  pub turned_away : (s : List ℕ) (k : ℕ) → first (line_questions line) ≡ suc k → line_asks w line room ≡ asks_ready w s room (refused (suc k))
+  unfolding line_asks restarted_end refusing asks_ready and_then end_restarted
   turned_away s k h =
       then-line (restarted_end line)
       ∙ ap (λ (m : ℕ). refusing (first (ready_questions (restarted_end line) w room)) (refusing m asked)) h
@@ -60,12 +59,12 @@ module _ (w : Bench) (line : List ℕ) (room : Rooms) where
 
   -- it is refused, by that number or one before
   pub declined : (k : ℕ) → first (line_questions line) ≡ suc k → (m : ℕ) × (line_asks w line room ≡ refused m)
-  unfolding asks_ready order_asks
+  unfolding asks_ready and_then
   declined k h = let r = refuses _ (suc k) in (r.0, turned_away [] k h ∙ r.1)
 
 -- an empty line keeps 1: it asks how an end stands where there is one end (document 02, N5)
 pub none_refused : EmptyLineRefused
-unfolding asks_ready end_restarted order_asks
+unfolding asks_ready and_then end_restarted
 none_refused w room y = turned_away w [] room [] 0 reading.none_refused ∙ passes_on (refused 1) y
 
 -- a line has at least one octet

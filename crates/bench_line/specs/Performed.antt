@@ -5,7 +5,7 @@ use Rattle.hexadecimal.specs.Line.{unhex}
 use Rattle.call_spec.specs.Calls.{Rooms, rooms}
 use Rattle.call_spec.specs.Claim.{Lent}
 use Rattle.lent_record.specs.Told.{status_of}
-use Rattle.bench_spec.specs.Bench.{Bench, At, lent_at, neither, line_asks, comes, end_of}
+use Rattle.bench_spec.specs.Bench.{Bench, At, end_at, lent_at, neither, line_asks, comes, end_of}
 use Rattle.bench_checks.specs.Ready.{ready_questions}
 use Rattle.bench_call.specs.declared.BenchAnswer.{BenchAnswer}
 use Rattle.bench_order.specs.Performed.{line_start, Performed}
@@ -25,7 +25,7 @@ pub record LeftAlone (w : Bench) (i k : ℕ) (out up : List ℕ) (a b : Lent) (l
   pub frames : log ≡ w.log
   pub buffer : out' ≡ out
   pub block_buffer : up' ≡ up
-  pub answer : r ≡ record { end = i; status = status_of (lent_at i w).rec (refused k); sent = 0; at = 0; block = 0; count = w.count }
+  pub answer : r ≡ record { end = end_at i; status = status_of (lent_at i w).rec (refused k); sent = 0; at = 0; block = 0; count = w.count }
 
 -- The claim, of every bench and every line.
 abbrev pub RefusedLeavesAll : Type 0

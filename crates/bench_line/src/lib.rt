@@ -2,34 +2,24 @@
 #![tactic(auto)]
 
 ghost use Rattle.std.specs.Prelude.{◌≡◌};
+ghost use Rattle.octets.specs.Refusal.{told};
 ghost use Rattle.call_spec.specs.Claim.{lent};
 ghost use Rattle.bench_spec.specs.Bench.{Bench, bench_of};
 ghost use Rattle.bench_line.specs.Performed.{LinePerformed};
-ghost use Rattle.bench_line.specs.Internal.{length_in, order_in, Ordered};
+ghost use Rattle.bench_line.specs.Internal.{order_in};
 
 use bench_call::BenchAnswer;
-use bench_spec::Order;
-use hexadecimal::Line;
-
-// How many octets were read of a line; none of one that is refused.
-fn length_in(read: Line) -> usize
-    ensures { result ≡ length_in read }
-{
-    match read {
-        Line::Decoded(n) => n,
-        Line::Refused(_) => 0,
-    }
-}
+use bench_checks::LentBench;
+use bench_spec::{End, Order};
+use octets::Refusal;
 
 // What a line orders, whose octets are s. One that 1 or 2 refuses orders nothing, by their number.
-fn order_in(read: Line, s: &[u8]) -> Order
-    requires { Ordered read s.now }
-    ensures { result ≡ order_in read s.now }
+#[tactic(auto, unfolding(crate::specs::Internal::order_in, octets::specs::Test::and_then))]
+fn order_in(read: Result<usize, Refusal>, s: &[u8]) -> Result<Order, Refusal>
+    ensures { told result ≡ order_in (told read) s.now }
 {
-    match read {
-        Line::Decoded(_) => bench_order::order_of(s),
-        Line::Refused(number) => Order::Refused(number),
-    }
+    read?;
+    bench_order::order_of(s)
 }
 
 // Plays a line, which is given without its line feed, on the bench with the records a and b and their pages, the log and so many places of it in
@@ -51,24 +41,19 @@ pub fn perform(
 {
     let mut s = [0u8; octets::LONGEST_FRAME];
     let read = hexadecimal::read(line, &mut s);
-    let n = length_in(read);
-    let octets = &s[..n];
+    let octets = &s[..read.unwrap_or(0)];
     let order = order_in(read, octets);
-    let number = bench_checks::ready(
+    let bench = LentBench::new(a, b, a_page, b_page, log, count);
+    let ready = bench_checks::ready(
         bench_order::end_restarted(order),
-        a,
-        b,
-        a_page,
-        b_page,
-        log,
-        count,
+        bench,
         out.len(),
         up.len(),
     );
-    let decided = bench_order::decide(number, order, log, count);
+    let decided = bench_order::decide(ready, order, log, count);
     let end = bench_order::end_for(decided, log);
-    if end == 0 {
-        return bench_call::carry_out(end, decided, a, a_page, octets, log, count, out, up);
+    match end {
+        End::A => bench_call::carry_out(end, decided, a, a_page, octets, log, count, out, up),
+        End::B => bench_call::carry_out(end, decided, b, b_page, octets, log, count, out, up),
     }
-    bench_call::carry_out(end, decided, b, b_page, octets, log, count, out, up)
 }

@@ -18,7 +18,7 @@ use Rattle.bench_log.specs.Log.{holds}
 use Rattle.bench_log.proofs.Log.{held}
 use Rattle.bench_spec.specs.declared.Order.{Order}
 use Rattle.bench_spec.specs.declared.Order.TheVariants as order
-use Rattle.bench_spec.specs.Bench.{Bench, bench_of, lent_at, At, order_asks, end_restarted, call_outcome, comes, end_of, log_after, count_after, bench_after}
+use Rattle.bench_spec.specs.Bench.{Bench, bench_of, end_number, lent_at, At, order_asks, end_restarted, call_outcome, comes, end_of, log_after, count_after, bench_after}
 use Rattle.bench_spec.proofs.Delivery.{no_frame, goes}
 use Rattle.bench_checks.specs.Ready.{ready_questions}
 use Rattle.bench_checks.proofs.Passed.{Fit, Passed, passed}
@@ -27,25 +27,25 @@ use Rattle.bench_call.specs.Answer.{block_start, start_of, bench_answer_of}
 use Rattle.bench_call.specs.Internal.{task_of, task_outcome, octets_in, order_outcome, CallReady, OrderReady, Does}
 use Rattle.bench_call.specs.Internal as carried
 use Rattle.bench_order.specs.Performed.{call_by, call_of, Performed}
-use Rattle.bench_order.specs.Internal.{asks_ready, Asked, found, Findable, unless, decided, end_for, EndKnown}
+use Rattle.bench_order.specs.Internal.{asks_ready, Asked, found, FindableIn, decided, end_for, EndKnown}
 
-passed_finds : (w : Bench) (room : Rooms) (x : Order) → first (ready_questions (end_restarted x) w room) ≡ 0 → Findable x w.log w.count
+passed_finds : (w : Bench) (room : Rooms) (x : Outcome Order) → first (ready_questions (end_restarted x) w room) ≡ 0 → FindableIn x w.log w.count
 unfolding end_restarted
-passed_finds w room (order.Request i) e = tt
-passed_finds w room (order.Deliver n) e = let p = passed w room e in (p.long_log, p.few)
-passed_finds w room (order.Restart i) e = tt
-passed_finds w room (order.Refused n) e = tt
+passed_finds w room (ok (order.Request i)) e = tt
+passed_finds w room (ok (order.Deliver n)) e = let p = passed w room e in (p.long_log, p.few)
+passed_finds w room (ok (order.Restart i)) e = tt
+passed_finds w room (refused n) e = tt
 
 -- the number of 11, 12 and 15, which leave out the end that the order restarts
-module _ (w : Bench) (room : Rooms) (x : Order) {k n : ℕ} (e : k ≡ end_restarted x) (h : n ≡ first (ready_questions k w room)) where
+module _ (w : Bench) (room : Rooms) (x : Outcome Order) {k n : ℕ} (e : k ≡ end_restarted x) (h : n ≡ first (ready_questions k w room)) where
   asked : n ≡ first (ready_questions (end_restarted x) w room)
   asked = rw e at h
 
   -- where they are passed, 13 can be asked
-  pub findable : n ≡ 0 → Findable x w.log w.count
+  pub findable : n ≡ 0 → FindableIn x w.log w.count
   findable z = passed_finds w room x (sym asked ∙ z)
 
-  pub decides : {d : Order} → d ≡ unless n (found w.log w.count x) → d ≡ decided w room x
+  pub decides : {d : Outcome Order} → d ≡ refusing n (and_then x (found w.log w.count)) → d ≡ decided w room x
   unfolding decided
   decides f = rw (sym asked) f
 
@@ -65,77 +65,80 @@ module _ (a b : Lent) (log : List ℕ) (count : ℕ) (s out up : List ℕ) where
   room = rooms (length out) (length up)
 
   -- what holds of an order once it is decided
-  abbrev pub Fine : Order → Type 0
-  Fine (order.Request i) = Passed w room × (1 ≤ length s)
-  Fine (order.Deliver n) = Passed w room × (holds count n log ≡ true)
-  Fine (order.Restart i) = Unit {0}
-  Fine (order.Refused n) = Unit {0}
+  abbrev pub Fine : Outcome Order → Type 0
+  Fine (ok (order.Request i)) = Passed w room × (1 ≤ length s)
+  Fine (ok (order.Deliver n)) = Passed w room × (holds count n log ≡ true)
+  Fine (ok (order.Restart i)) = Unit {0}
+  Fine (refused n) = Unit {0}
 
-  fine-found : (n : ℕ) (t : Bool) → holds count n log ≡ t → Passed w room → Fine (when t (order.Deliver n) (order.Refused 13))
+  fine-found : (n : ℕ) (t : Bool) → holds count n log ≡ t → Passed w room → Fine (when t (ok (order.Deliver n)) (refused 13))
   unfolding when
   fine-found n true h p = (p, h)
   fine-found n false h p = tt
 
-  fine-unless : (m : ℕ) (x : Order) → first (ready_questions (end_restarted x) w room) ≡ m → Asked x s → Fine (unless m (found log count x))
-  unfolding unless found end_restarted
-  fine-unless zero (order.Request i) e h = (passed w room e, h)
-  fine-unless zero (order.Deliver n) e h = fine-found n (holds count n log) refl (passed w room e)
-  fine-unless zero (order.Restart i) e h = tt
-  fine-unless zero (order.Refused n) e h = tt
+  fine-unless : (m : ℕ) (x : Outcome Order) → first (ready_questions (end_restarted x) w room) ≡ m → Asked x s → Fine (refusing m (and_then x (found log count)))
+  unfolding refusing and_then found end_restarted
+  fine-unless zero (ok (order.Request i)) e h = (passed w room e, h)
+  fine-unless zero (ok (order.Deliver n)) e h = fine-found n (holds count n log) refl (passed w room e)
+  fine-unless zero (ok (order.Restart i)) e h = tt
+  fine-unless zero (refused n) e h = tt
   fine-unless (suc m) x e h = tt
 
-  pub end_known : (d : Order) → Fine d → EndKnown d log
-  end_known (order.Request i) h = tt
-  end_known (order.Deliver n) h = let k = held count n log h.1 in ((h.0.long_log, omega (arith, k.below, h.0.few)), k.sender)
-  end_known (order.Restart i) h = tt
-  end_known (order.Refused n) h = tt
+  pub end_known : (d : Outcome Order) → Fine d → EndKnown d log
+  end_known (ok (order.Request i)) h = tt
+  end_known (ok (order.Deliver n)) h = let k = held count n log h.1 in ((h.0.long_log, omega (arith, k.below, h.0.few)), k.sender)
+  end_known (ok (order.Restart i)) h = tt
+  end_known (refused n) h = tt
 
   -- 11, 12 and 15 of the line are those of a call at either end
   at_end : {l : Lent} → (Passed w room → Fit l) → Passed w room → CallReady l out up
   at_end fit p = let f = fit p in (((f.long, f.is_sound), (f.page_long, f.goes)), (p.enough, p.enough_block))
 
-  pub is_ready : (d : Order) → Fine d → {l : Lent} → (Passed w room → Fit l) → OrderReady d l s log count out up
-  is_ready (order.Request i) h fit = (at_end fit h.0, (h.0.long_log, h.1))
-  is_ready (order.Deliver n) h fit = let k = held count n log h.1 in (at_end fit h.0, (h.0.long_log, ((k.below, h.0.few), k.short)))
-  is_ready (order.Restart i) h fit = tt
-  is_ready (order.Refused n) h fit = tt
+  pub is_ready : (d : Outcome Order) → Fine d → {l : Lent} → (Passed w room → Fit l) → OrderReady d l s log count out up
+  is_ready (ok (order.Request i)) h fit = (at_end fit h.0, (h.0.long_log, h.1))
+  is_ready (ok (order.Deliver n)) h fit = let k = held count n log h.1 in (at_end fit h.0, (h.0.long_log, ((k.below, h.0.few), k.short)))
+  is_ready (ok (order.Restart i)) h fit = tt
+  is_ready (refused n) h fit = tt
 
-  pub fine : (x : Order) {d : Order} → d ≡ decided w room x → Asked x s → Fine d
+  pub fine : (x : Outcome Order) {d : Outcome Order} → d ≡ decided w room x → Asked x s → Fine d
   unfolding decided
   fine x e h = rw e (fine-unless (first (ready_questions (end_restarted x) w room)) x refl h)
 
   -- what a decided order asks is what the order asked
-  asks-found : (n : ℕ) (t : Bool) → holds count n log ≡ t → order_asks w s room (when t (order.Deliver n) (order.Refused 13)) ≡ order_asks w s room (order.Deliver n)
-  unfolding order_asks when
+  abbrev asks : Outcome Order → Outcome At
+  asks o = and_then o (order_asks w s room)
+
+  asks-found : (n : ℕ) (t : Bool) → holds count n log ≡ t → asks (when t (ok (order.Deliver n)) (refused 13)) ≡ asks (ok (order.Deliver n))
+  unfolding and_then order_asks when
   asks-found n true h = refl
   asks-found n false h = sym (no_frame w n room h)
 
-  asks-unless : (m : ℕ) (x : Order) → order_asks w s room (unless m (found log count x)) ≡ refusing m (order_asks w s room x)
-  unfolding unless found refusing order_asks
-  asks-unless zero (order.Request i) = refl
-  asks-unless zero (order.Deliver n) = asks-found n (holds count n log) refl
-  asks-unless zero (order.Restart i) = refl
-  asks-unless zero (order.Refused n) = refl
+  asks-unless : (m : ℕ) (x : Outcome Order) → asks (refusing m (and_then x (found log count))) ≡ refusing m (asks x)
+  unfolding refusing and_then found order_asks
+  asks-unless zero (ok (order.Request i)) = refl
+  asks-unless zero (ok (order.Deliver n)) = asks-found n (holds count n log) refl
+  asks-unless zero (ok (order.Restart i)) = refl
+  asks-unless zero (refused n) = refl
   asks-unless (suc m) x = refl
 
   -- and where a block of it stands, if it is not refused
-  abbrev Starts : Order → ℕ → Type 0
-  Starts (order.Request i) start = start ≡ 0
-  Starts (order.Deliver n) start = start ≡ block_start n
-  Starts (order.Restart i) start = start ≡ 0
-  Starts (order.Refused n) start = Unit {0}
+  abbrev Starts : Outcome Order → ℕ → Type 0
+  Starts (ok (order.Request i)) start = start ≡ 0
+  Starts (ok (order.Deliver n)) start = start ≡ block_start n
+  Starts (ok (order.Restart i)) start = start ≡ 0
+  Starts (refused n) start = Unit {0}
 
-  starts-found : (n : ℕ) (t : Bool) → Starts (when t (order.Deliver n) (order.Refused 13)) (block_start n)
+  starts-found : (n : ℕ) (t : Bool) → Starts (when t (ok (order.Deliver n)) (refused 13)) (block_start n)
   unfolding when
   starts-found n true = refl
   starts-found n false = tt
 
-  starts : (m : ℕ) (x : Order) → Starts (unless m (found log count x)) (start_of x)
-  unfolding unless found start_of
-  starts zero (order.Request i) = refl
-  starts zero (order.Deliver n) = starts-found n (holds count n log)
-  starts zero (order.Restart i) = refl
-  starts zero (order.Refused n) = tt
+  starts : (m : ℕ) (x : Outcome Order) → Starts (refusing m (and_then x (found log count))) (start_of x)
+  unfolding refusing and_then found start_of
+  starts zero (ok (order.Request i)) = refl
+  starts zero (ok (order.Deliver n)) = starts-found n (holds count n log)
+  starts zero (ok (order.Restart i)) = refl
+  starts zero (refused n) = tt
   starts (suc m) x = tt
 
   -- The end i has the record and page l, and an outcome there leaves the other as it is: new-a and new-b say what both are then.
@@ -176,16 +179,16 @@ module _ (a b : Lent) (log : List ℕ) (count : ℕ) (s out up : List ℕ) where
           handed = d.handed;
         }
 
-    by_order : (d : Order) → Fine d → Place (end_for d log) l new-a new-b → (start : ℕ) → Starts d start
+    by_order : (d : Outcome Order) → Fine d → Place (end_for d log) l new-a new-b → (start : ℕ) → Starts d start
         → Does (end_for d log) l log count (start_of d) (carried.call_by (task_of d)) (order_outcome d l log count s room) out up l' log' out' up' r
-        → Performed w (order_asks w s room d) start out up (new-a l') (new-b l') log' out' up' r
-    unfolding end_for start_of task_of carried.call_by call_by task_outcome octets_in order_asks
-    by_order (order.Request i) h p start e y = rw e (at p _ y)
-    by_order (order.Deliver n) h p start e y = rw (e, goes w n room h.1) (at p _ y)
-    by_order (order.Restart i) h p start e y = rw e (at p (restart (lent_at i w).rec) (rw p.here y))
-    by_order (order.Refused n) h p start e y = refuses p start y
+        → Performed w (asks d) start out up (new-a l') (new-b l') log' out' up' r
+    unfolding and_then end_for start_of task_of carried.call_by call_by task_outcome octets_in order_asks
+    by_order (ok (order.Request i)) h p start e y = rw e (at p _ y)
+    by_order (ok (order.Deliver n)) h p start e y = rw (e, goes w n room h.1) (at p _ y)
+    by_order (ok (order.Restart i)) h p start e y = rw e (at p (restart (lent_at (end_number i) w).rec) (rw p.here y))
+    by_order (refused n) h p start e y = refuses p start y
 
-    pub plays : (x : Order) {d : Order} → d ≡ decided w room x → Asked x s → {i : ℕ} → i ≡ end_for d log → Place i l new-a new-b
+    pub plays : (x : Outcome Order) {d : Outcome Order} → d ≡ decided w room x → Asked x s → {i : ℕ} → i ≡ end_for d log → Place i l new-a new-b
         → Does i l log count (start_of d) (carried.call_by (task_of d)) (order_outcome d l log count s room) out up l' log' out' up' r
         → Performed w (asks_ready w s room x) (start_of x) out up (new-a l') (new-b l') log' out' up' r
     unfolding decided asks_ready

@@ -1,13 +1,14 @@
 // What a bench line orders, and all questions up to 13 of it, decided with values: nothing is stored.
 #![tactic(auto)]
 
-ghost use Rattle.std.specs.Prelude.{◌≡◌, ◌≤◌, length};
-ghost use Rattle.bench_spec.specs.Bench.{restart_order, order_of, end_restarted};
-ghost use Rattle.bench_order.specs.Internal.{found, Findable, unless, end_for, EndKnown};
+ghost use Rattle.std.specs.Prelude.{◌≡◌};
+ghost use Rattle.octets.specs.Refusal.{told, refusal_in};
+ghost use Rattle.octets.specs.Test.{refusing, and_then};
+ghost use Rattle.bench_spec.specs.Bench.{end_number, restarted_number, restart_order, order_of, end_restarted};
+ghost use Rattle.bench_order.specs.Internal.{found, Findable, FindableIn, end_for, EndKnown};
 
-use bench_checks::NEITHER;
-use bench_spec::Order;
-use octets::refusal;
+use bench_spec::{End, Order};
+use octets::Refusal;
 
 const REQUEST_A: u8 = 0x50;
 
@@ -18,97 +19,102 @@ const DELIVER: u8 = 0x52;
 const RESTART: u8 = 0x53;
 
 // What a line 53 orders: its second octet names the end.
-fn restart_order(s: &[u8]) -> Order
-    ensures { result ≡ restart_order s.now }
+#[tactic(auto, using(octets::proofs::Test::picks), unfolding(bench_spec::specs::Bench::restart_order, octets::specs::Test::when, octets::specs::Test::in_range))]
+fn restart_order(s: &[u8]) -> Result<Order, Refusal>
+    ensures { told result ≡ restart_order s.now }
 {
     if s.len() < 2 {
-        return Order::Refused(refusal::BAD_SIZE);
+        return Err(Refusal::BadSize);
     }
-    let end = s[1];
-    let known = (REQUEST_A <= end) & (end <= REQUEST_B);
-    if !known {
-        return Order::Refused(refusal::UNKNOWN_KIND);
-    }
+    let end = match s[1] {
+        REQUEST_A => End::A,
+        REQUEST_B => End::B,
+        _ => return Err(Refusal::UnknownKind),
+    };
     if s.len() != 2 {
-        return Order::Refused(refusal::BAD_SIZE);
+        return Err(Refusal::BadSize);
     }
-    Order::Restart(end - REQUEST_A)
+    Ok(Order::Restart(end))
 }
 
 // What the octets of a line order.
-pub fn order_of(s: &[u8]) -> Order
-    requires { 1 ≤ length s.now }
-    ensures { result ≡ order_of s.now }
+#[tactic(auto, using(octets::proofs::Test::picks, crate::proofs::Orders::number_of), unfolding(bench_spec::specs::Bench::order_of, frame::specs::Read::kind_of))]
+pub fn order_of(s: &[u8]) -> Result<Order, Refusal>
+    ensures { told result ≡ order_of s.now }
 {
-    let kind = s[0];
-    if kind == REQUEST_A {
-        return Order::Request(0);
+    let [kind, rest @ ..] = s else {
+        return Err(Refusal::UnknownKind);
+    };
+    match *kind {
+        REQUEST_A => Ok(Order::Request(End::A)),
+        REQUEST_B => Ok(Order::Request(End::B)),
+        DELIVER => match rest {
+            [high, low] => Ok(Order::Deliver(usize::from(*high) * 256 + usize::from(*low))),
+            _ => Err(Refusal::BadSize),
+        },
+        RESTART => restart_order(s),
+        _ => Err(Refusal::UnknownKind),
     }
-    if kind == REQUEST_B {
-        return Order::Request(1);
-    }
-    if kind == RESTART {
-        return restart_order(s);
-    }
-    if kind != DELIVER {
-        return Order::Refused(refusal::UNKNOWN_KIND);
-    }
-    if s.len() != 3 {
-        return Order::Refused(refusal::BAD_SIZE);
-    }
-    Order::Deliver(octets::wide(s[1]) * 256 + octets::wide(s[2]))
 }
 
 // The end that an order restarts, whose record 12 and 15 do not look at.
-pub fn end_restarted(order: Order) -> u8
-    ensures { result ≡ end_restarted order }
+#[tactic(auto, unfolding(bench_spec::specs::Bench::end_restarted))]
+pub fn end_restarted(order: Result<Order, Refusal>) -> Option<End>
+    ensures { restarted_number result ≡ end_restarted (told order) }
 {
     match order {
-        Order::Request(_) => NEITHER,
-        Order::Deliver(_) => NEITHER,
-        Order::Restart(restarted) => restarted,
-        Order::Refused(_) => NEITHER,
+        Ok(Order::Restart(restarted)) => Some(restarted),
+        Ok(Order::Request(_) | Order::Deliver(_)) | Err(_) => None,
     }
 }
 
 // Question 13: a delivery is of a frame that the log holds.
-fn find(order: Order, log: &[u8], count: usize) -> Order
+#[tactic(auto, unfolding(crate::specs::Internal::found, octets::specs::Test::when))]
+fn find(order: Order, log: &[u8], count: usize) -> Result<Order, Refusal>
     requires { Findable order log.now count }
-    ensures { result ≡ found log.now count order }
+    ensures { told result ≡ found log.now count order }
 {
     match order {
-        Order::Request(_) => order,
         Order::Deliver(n) => {
-            if bench_log::holds(log, count, n) {
-                return order;
+            if !bench_log::holds(log, count, n) {
+                return Err(Refusal::NoSuchFrame);
             }
-            Order::Refused(refusal::NO_SUCH_FRAME)
+            Ok(order)
         }
-        Order::Restart(_) => order,
-        Order::Refused(_) => order,
+        Order::Request(_) | Order::Restart(_) => Ok(order),
     }
 }
 
-// All questions up to 13, of which 11, 12 and 15 come before the order's own refusal: number is that of the first of them which refuses, or 0.
-pub fn decide(number: u8, order: Order, log: &[u8], count: usize) -> Order
-    requires { number ≡ 0 → Findable order log.now count }
-    ensures { result ≡ unless number (found log.now count order) }
+// All questions up to 13, of which 11, 12 and 15, which ready has asked, come before the order's own refusal.
+#[tactic(auto, unfolding(octets::specs::Test::refusing, octets::specs::Test::and_then))]
+pub fn decide(
+    ready: Result<(), Refusal>,
+    order: Result<Order, Refusal>,
+    log: &[u8],
+    count: usize,
+) -> Result<Order, Refusal>
+    requires { refusal_in ready ≡ 0 → FindableIn (told order) log.now count }
+    ensures { told result ≡ refusing (refusal_in ready) (and_then (told order) (found log.now count)) }
 {
-    if number != 0 {
-        return Order::Refused(number);
-    }
-    find(order, log, count)
+    ready?;
+    find(order?, log, count)
 }
 
 // The end that a decided order is for. A frame goes to the end that did not send it; a refusal tells of A.
-pub fn end_for(order: Order, log: &[u8]) -> u8
-    requires { EndKnown order log.now }
-    ensures { result ≡ end_for order log.now }
+#[tactic(auto, unfolding(crate::specs::Internal::end_for))]
+pub fn end_for(order: Result<Order, Refusal>, log: &[u8]) -> End
+    requires { EndKnown (told order) log.now }
+    ensures { end_number result ≡ end_for (told order) log.now }
 {
     match order {
-        Order::Request(end) => end,
-        Order::Deliver(n) => 1 - bench_log::sender_of(log, n),
-        Order::Restart(end) => end,
-        Order::Refused(_) => 0,
+        Ok(Order::Request(end) | Order::Restart(end)) => end,
+        Ok(Order::Deliver(n)) => {
+            if bench_log::sender_of(log, n) == 0 {
+                End::B
+            } else {
+                End::A
+            }
+        }
+        Err(_) => End::A,
     }
 }
