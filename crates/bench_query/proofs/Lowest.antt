@@ -7,13 +7,36 @@ use mathlib.Core.List.{List, [], ◌∷◌}
 use native.Mathlib.Omega.{arith}
 use borrow.Author.Tests.{eqb-true, eq-eqb}
 use lib.Dec.{eqb}
-use Rattle.octets.specs.Test.{when, first}
-use Rattle.octets.proofs.Test.{both, joined, split, by_eq, by_lt}
-use Rattle.bench_spec.specs.Bench.{Bench}
-use Rattle.bench_query.specs.declared.Found.{Found}
-use Rattle.bench_query.specs.declared.Found.TheVariants.{Frame, Nothing, Refused}
-use Rattle.bench_query.specs.Found.{equal, would_change, lowest, query_questions, found_unless, first_frame, Means}
+use Rattle.std.specs.Prelude.{Option, None, Some}
+use Rattle.octets.specs.Test.{when, first, refused, ok, outcome}
+use Rattle.octets.proofs.Test.{both, joined, split, by_eq, by_lt, refused_of}
+use Rattle.octets.specs.declared.refusal.Refusal.{Refusal}
+use Rattle.octets.specs.declared.refusal.Refusal.TheVariants.{BadLength, BadDigit, UnknownKind, BadSize, BadCount, BadBlock, BadNumber, WrongState, NoNumberLeft, QueueFull, ShortBuffer, Unsound, NoSuchFrame, LogFull, WrongPage}
+use Rattle.octets.specs.Refusal.{refusal_number}
+use Rattle.octets.specs.Sizes.{longest_frame, longest_block}
+use Rattle.call_spec.specs.Calls.{rooms}
+use Rattle.bench_spec.specs.Bench.{Bench, neither}
+use Rattle.bench_checks.specs.Ready.{ready_questions}
+use Rattle.bench_query.specs.Found.{equal, would_change, lowest, query_questions, first_frame, Means}
 use Rattle.bench_query.proofs.Delivery.{beyond}
+
+-- no refusal has the number of success
+numbered : (r : Refusal) → refusal_number r ≢ 0
+numbered BadLength z = omega arith
+numbered BadDigit z = omega arith
+numbered UnknownKind z = omega arith
+numbered BadSize z = omega arith
+numbered BadCount z = omega arith
+numbered BadBlock z = omega arith
+numbered BadNumber z = omega arith
+numbered WrongState z = omega arith
+numbered NoNumberLeft z = omega arith
+numbered QueueFull z = omega arith
+numbered ShortBuffer z = omega arith
+numbered Unsound z = omega arith
+numbered NoSuchFrame z = omega arith
+numbered LogFull z = omega arith
+numbered WrongPage z = omega arith
 
 -- the test of two lists
 pub equal_so : (s t : List ℕ) → equal s t ≡ true → s ≡ t
@@ -34,19 +57,19 @@ so_equal (x ∷ s) = joined (eq-eqb x x refl) (so_equal s)
 
 -- one number of n - i is looked at
 module _ (p : ℕ → Bool) where
-  abbrev left : ℕ → ℕ → Found
+  abbrev left : ℕ → ℕ → Option ℕ
   left i n = lowest p i (n - i)
 
   pub all_left : (n : ℕ) → left 0 n ≡ lowest p 0 n
   all_left n = let e : n - 0 ≡ n = omega arith in ap (lowest p 0) e
 
-  one_left : (i n : ℕ) → i < n → left i n ≡ when (p i) (Frame i) (left (i + 1) n)
+  one_left : (i n : ℕ) → i < n → left i n ≡ when (p i) (Some i) (left (i + 1) n)
   unfolding lowest
   one_left i n h =
       let e : n - i ≡ suc (n - (i + 1)) = omega arith in
       ap (lowest p i) e
 
-  pub here : (i n : ℕ) → i < n → p i ≡ true → left i n ≡ Frame i
+  pub here : (i n : ℕ) → i < n → p i ≡ true → left i n ≡ Some i
   unfolding when
   here i n h t = one_left i n h ∙ rw t refl
 
@@ -54,23 +77,21 @@ module _ (p : ℕ → Bool) where
   unfolding when
   further i n h t = one_left i n h ∙ rw t refl
 
-  pub none_left : (i n : ℕ) → n ≤ i → left i n ≡ Nothing
+  pub none_left : (i n : ℕ) → n ≤ i → left i n ≡ None
   unfolding lowest
   none_left i n h =
       let e : n - i ≡ 0 = omega arith in
       ap (lowest p i) e
 
   -- what is found among n numbers from i on
-  abbrev Finds : ℕ → ℕ → Found → Type 0
-  Finds i n (Frame m) = (i ≤ m) × (m < i + n) × (p m ≡ true) × ((k : ℕ) → i ≤ k → k < m → p k ≡ false)
-  Finds i n Nothing = (k : ℕ) → i ≤ k → k < i + n → p k ≡ false
-  Finds i n (Refused k) = ⊥
+  abbrev Finds : ℕ → ℕ → Option ℕ → Type 0
+  Finds i n (Some m) = (i ≤ m) × (m < i + n) × (p m ≡ true) × ((k : ℕ) → i ≤ k → k < m → p k ≡ false)
+  Finds i n None = (k : ℕ) → i ≤ k → k < i + n → p k ≡ false
 
   -- one number more before them, at which the test fails
-  more : (i n : ℕ) (f : Found) → p i ≡ false → Finds (i + 1) n f → Finds i (suc n) f
-  more i n (Frame m) t (a, b, c, d) = (omega arith, omega arith, c, λ k x y. by_eq k i (λ e. ap p e ∙ t) (λ e. d k (omega arith) y))
-  more i n Nothing t d = λ k x y. by_eq k i (λ e. ap p e ∙ t) (λ e. d k (omega arith) (omega arith))
-  more i n (Refused k) t d = d
+  more : (i n : ℕ) (f : Option ℕ) → p i ≡ false → Finds (i + 1) n f → Finds i (suc n) f
+  more i n (Some m) t (a, b, c, d) = (omega arith, omega arith, c, λ k x y. by_eq k i (λ e. ap p e ∙ t) (λ e. d k (omega arith) y))
+  more i n None t d = λ k x y. by_eq k i (λ e. ap p e ∙ t) (λ e. d k (omega arith) (omega arith))
 
   finds : (i n : ℕ) → Finds i n (lowest p i n)
   unfolding lowest
@@ -82,13 +103,12 @@ module _ (p : ℕ → Bool) where
 
 module _ (w : Bench) where
   -- past 11, 12 and 15
-  passed : (f : Found) → Finds (would_change w) 0 w.count f → first (query_questions w) ≡ 0 → Means w f
-  passed (Frame n) (a, b, c, d) h = (h, omega arith, c, λ k l. d k (omega arith) l)
-  passed Nothing d h = (h, λ k. by_lt k w.count (λ l. d k (omega arith) (omega arith)) (λ l. beyond w k l))
-  passed (Refused k) d h = absurd d
+  passed : (f : Option ℕ) → Finds (would_change w) 0 w.count f → first (query_questions w) ≡ 0 → Means w (ok f)
+  passed (Some n) (a, b, c, d) h = (h, omega arith, c, λ k l. d k (omega arith) l)
+  passed None d h = (h, λ k. by_lt k w.count (λ l. d k (omega arith) (omega arith)) (λ l. beyond w k l))
 
-  by_number : (n : ℕ) → first (query_questions w) ≡ n → Means w (found_unless n (lowest (would_change w) 0 w.count))
-  unfolding found_unless
+  by_number : (n : ℕ) → first (query_questions w) ≡ n → Means w (outcome n (lowest (would_change w) 0 w.count))
+  unfolding outcome
   by_number zero h = passed (lowest (would_change w) 0 w.count) (finds (would_change w) 0 w.count) h
   by_number (suc k) h = (h, omega arith)
 
@@ -97,18 +117,18 @@ module _ (w : Bench) where
   means = by_number (first (query_questions w)) refl
 
   -- the answer where 11, 12 or 15 refuses
-  refused-by : (f : Found) (n : ℕ) → n ≢ 0 → found_unless n f ≡ Refused n
-  unfolding found_unless
-  refused-by f zero h = absurd (h refl)
-  refused-by f (suc k) h = refl
-
-  pub refuses : {n : ℕ} → n ≡ first (query_questions w) → n ≢ 0 → Refused n ≡ first_frame w
+  pub refuses : {n : ℕ} → n ≡ first (query_questions w) → n ≢ 0 → refused n ≡ first_frame w
   unfolding first_frame
-  refuses {n} e h =
-      let f = lowest (would_change w) 0 w.count in
-      sym (refused-by f n h) ∙ ap (λ (k : ℕ). found_unless k f) e
+  refuses {n} e h = sym (refused_of _ n h) ∙ ap (λ (k : ℕ). outcome k (lowest (would_change w) 0 w.count)) e
+
+  pub asked : {n : ℕ} → n ≡ first (ready_questions neither w (rooms longest_frame longest_block)) → n ≡ first (query_questions w)
+  unfolding first when
+  asked e = e
+
+  pub declined : (r : Refusal) → refusal_number r ≡ first (ready_questions neither w (rooms longest_frame longest_block)) → refused (refusal_number r) ≡ first_frame w
+  declined r e = refuses (asked e) (numbered r)
 
   -- and where they do not
-  pub names : first (query_questions w) ≡ 0 → {f : Found} → lowest (would_change w) 0 w.count ≡ f → f ≡ first_frame w
-  unfolding first_frame found_unless
-  names h e = rw h (sym e)
+  pub names : first (query_questions w) ≡ 0 → {f : Option ℕ} → lowest (would_change w) 0 w.count ≡ f → ok f ≡ first_frame w
+  unfolding first_frame outcome
+  names h e = rw h (ap ok (sym e))

@@ -7,10 +7,12 @@ use mathlib.Core.List.{List, [], ◌∷◌}
 use native.Mathlib.Omega.{arith}
 use borrow.Author.Tests.{eqb-true, eq-eqb, le-leb}
 use lib.Dec.{eqb}
+use Rattle.std.specs.Prelude.{Ok, Err}
+use Rattle.octets.specs.declared.refusal.Refusal.{Refusal}
 use lib.ListN.{length, get_or, set, drop, length-append, length-drop, drop_of_length-le}
 use lib.Seq.{get_or-set_same}
 use Rattle.octets.specs.Sizes.{longest_frame, longest_block, held_size, page_size}
-use Rattle.octets.specs.Test.{when, Outcome, refused, ok, mapped, and_then, number_of}
+use Rattle.octets.specs.Test.{when, Outcome, refused, ok, mapped, number_of}
 use Rattle.octets.specs.Octets.{put, left, Octets}
 use Rattle.octets.proofs.Test.{both, joined}
 use Rattle.octets.proofs.Each.{alike}
@@ -46,9 +48,8 @@ use Rattle.lent_record.proofs.Told.{rewritten, decode_long}
 use Rattle.link.proofs.Answers.{enough}
 use Rattle.lent_record.proofs.Lawful.{lawful}
 use Rattle.lent_record.proofs.Holds.{bounded}
-use Rattle.bench_spec.specs.Bench.{logged, call_outcome}
 use Rattle.bench_call.specs.Internal.{outcome_at, has_place}
-use Rattle.bench_call.proofs.Moves.{by-plan}
+use Rattle.bench_call.proofs.Moves.{by-plan, no-plan}
 use Rattle.bench_query.specs.Found.{equal, changes}
 use Rattle.bench_query.proofs.Lowest.{equal_so, so_equal}
 
@@ -90,12 +91,6 @@ differs : (rec : List ℕ) (o : Outcome Step) → not (equal (record_after forma
 unfolding changes record_after mapped left
 differs rec (refused n) = ap not (so_equal rec)
 differs rec (ok x) = refl
-
--- a call with 14 is accepted only where the call is
-passes : (o : Outcome Step) (count : ℕ) → number_of (and_then o (logged count)) ≡ 0 → number_of o ≡ 0
-unfolding and_then number_of
-passes (refused n) count h = h
-passes (ok x) count h = refl
 
 -- the waiting blocks change only with their count
 stays : (k : Places) (b : Block) (q : List Block) → Room k b (length q) → length (queue_after k b q) ≡ length q → queue_after k b q ≡ q
@@ -162,11 +157,18 @@ module _ (rec : List ℕ) (long : record_size ≤ length rec) (fine : sound (dec
     abbrev made : Outcome Step
     made = outcome_at (lent rec page) count-used call
 
-    module _ {p : Plan} (h : PlansAny end Receive s p) where
+    -- refused by 3 to 7
+    pub refuses : (q : Refusal) → PlansAny end Receive s (Err q) → false ≡ changes rec made
+    unfolding view changes
+    refuses q h =
+        rw (no-plan (lent rec page) long count-used call q (h page (rooms longest_frame longest_block) (joined (le-leb longest_frame longest_frame (omega arith)) (has_room Receive longest_block (omega arith))) page_long goes))
+        refl
+
+    module _ {p : Plan} (h : PlansAny end Receive s (Ok p)) where
       abbrev b : Block
       b = cut_block s
 
-      plans : Plans end page call p
+      plans : Plans end page call (Ok p)
       unfolding view
       plans = h page (rooms longest_frame longest_block) (joined (le-leb longest_frame longest_frame (omega arith)) (has_room Receive longest_block (omega arith))) page_long goes
 
@@ -175,11 +177,6 @@ module _ (rec : List ℕ) (long : record_size ≤ length rec) (fine : sound (dec
 
       by-14 : outcome_at (lent rec page) count-used call ≡ when (has_place p.reply count-used) (performed format rec page call) (refused 14)
       by-14 = by-plan (lent rec page) long count-used call {p = p} plans
-
-      -- refused by 3 to 7
-      pub refuses : p.number ≢ 0 → false ≡ changes rec made
-      unfolding call_outcome
-      refuses z = refused_none rec made (λ k. z (planned.number ∙ ap number_of (sym comes-to) ∙ passes (performed format rec page call) count-used k))
 
       -- refused by 14, and not
       pub too-full : has_place p.reply count-used ≡ false → false ≡ changes rec made

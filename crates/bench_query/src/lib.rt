@@ -3,25 +3,20 @@
 
 ghost use Rattle.std.specs.Prelude.{◌≡◌, true, List, ℕ, ◌≤◌, length};
 ghost use Rattle.endpoint.specs.Record.{record_size};
+ghost use Rattle.octets.specs.Refusal.{told};
 ghost use Rattle.octets.specs.Sizes.{longest_frame, longest_block, page_size};
 ghost use Rattle.call_spec.specs.declared.Call.TheVariants.{Receive};
 ghost use Rattle.call_spec.specs.Calls.{given, rooms};
 ghost use Rattle.call_spec.specs.Claim.{lent};
 ghost use Rattle.lent_record.specs.Record.{format, paged_for};
-ghost use Rattle.bench_spec.specs.Bench.{bench_of};
+ghost use Rattle.bench_checks.specs.Ready.{bench_in};
 ghost use Rattle.bench_call.specs.Internal.{outcome_at};
 ghost use Rattle.bench_query.specs.Found.{changes, would_change, first_frame};
 ghost use Rattle.bench_query.specs.Internal.{BenchReady};
 
+use bench_checks::LentBench;
 use call_spec::Call;
-
-// What the question answers: a frame's number, none, or the number of a refusal.
-#[derive(Clone, Copy)]
-pub enum Found {
-    Frame(usize),
-    Nothing,
-    Refused(u8),
-}
+use octets::Refusal;
 
 // Whether receiving s would be accepted, by 14 too, and change the record. The plan for it tells, and nothing is copied. It is the same for every page
 // that goes with the record.
@@ -30,65 +25,38 @@ fn changes(rec: &[u8], s: &[u8], count: usize) -> bool
     ensures { (page : List ℕ) → page_size ≤ length page → paged_for rec.now page ≡ true → result ≡ changes rec.now (outcome_at (lent rec.now page) count (given Receive s.now (rooms longest_frame longest_block))) }
 {
     let n = endpoint::load_numbers(rec);
-    let p = link::plan_sound(Call::Receive, rec, s);
-    if p.number != step_plan::ACCEPTED {
-        return false;
+    match link::plan_sound(Call::Receive, rec, s) {
+        Ok(p) => bench_call::has_place(p.reply, count) && !p.leaves_alone(n),
+        Err(_) => false,
     }
-    let reply = p.reply;
-    if !bench_call::has_place(reply, count) {
-        return false;
-    }
-    !step_plan::leaves_alone(p, n)
 }
 
-// Whether the delivery of frame n would, with any pages by which 15 is passed. It goes to the end that did not send it.
-fn would_change(a: &[u8], b: &[u8], log: &[u8], count: usize, n: usize) -> bool
-    requires { (pa : List ℕ) × ((pb : List ℕ) × BenchReady (bench_of (lent a.now pa) (lent b.now pb) log.now count)) }
-    ensures { (pa pb : List ℕ) → BenchReady (bench_of (lent a.now pa) (lent b.now pb) log.now count) → result ≡ would_change (bench_of (lent a.now pa) (lent b.now pb) log.now count) n }
+// Whether the delivery of frame n would. It goes to the end that did not send it.
+fn would_change(bench: LentBench, n: usize) -> bool
+    requires { BenchReady (bench_in bench) }
+    ensures { result ≡ would_change (bench_in bench.entry) n }
 {
-    if !bench_log::holds(log, count, n) {
+    if !bench_log::holds(bench.log, bench.count, n) {
         return false;
     }
-    let s = bench_log::frame_of(log, n);
-    if bench_log::sender_of(log, n) == 0 {
-        return changes(b, s, count);
+    let s = bench_log::frame_of(bench.log, n);
+    if bench_log::sender_of(bench.log, n) == 0 {
+        return changes(bench.b.rec, s, bench.count);
     }
-    changes(a, s, count)
+    changes(bench.a.rec, s, bench.count)
 }
 
-// Asks 11, 12 and 15 of the records, the pages, the log and the count, then frame by frame from the front.
-pub fn first_frame(
-    a: &[u8],
-    b: &[u8],
-    a_page: &[u8],
-    b_page: &[u8],
-    log: &[u8],
-    count: usize,
-) -> Found
-    ensures { result ≡ first_frame (bench_of (lent a.now a_page.now) (lent b.now b_page.now) log.now count) }
+// Asks 11, 12 and 15 of the records, the pages, the log and the count, then frame by frame from the front: the number of the first that would, if
+// one would.
+pub fn first_frame(bench: LentBench) -> Result<Option<usize>, Refusal>
+    ensures { told result ≡ first_frame (bench_in bench.entry) }
 {
-    let refusal = bench_checks::ready(
-        bench_checks::NEITHER,
-        a,
-        b,
-        a_page,
-        b_page,
-        log,
-        count,
-        octets::LONGEST_FRAME,
-        octets::LONGEST_BLOCK,
-    );
-    if refusal != 0 {
-        return Found::Refused(refusal);
-    }
-    let mut i: usize = 0;
-    loop {
-        if i >= count {
-            break Found::Nothing;
+    bench_checks::ready(None, bench, octets::LONGEST_FRAME, octets::LONGEST_BLOCK)?;
+    // A `for` and not `find`: of a closure that requires something of what it captures, the proof would show that at each turn of the iterator.
+    for n in 0..bench.count {
+        if would_change(bench, n) {
+            return Ok(Some(n));
         }
-        if would_change(a, b, log, count, i) {
-            break Found::Frame(i);
-        }
-        i += 1;
     }
+    Ok(None)
 }

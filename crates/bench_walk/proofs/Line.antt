@@ -4,7 +4,7 @@ use mathlib.Core.Path.{◌≡◌, refl, sym, ap, ◌∙◌}
 use mathlib.Core.List.{List, ◌∷◌}
 use native.Mathlib.Omega.{arith}
 use lib.ListN.{length}
-use Rattle.octets.specs.Test.{when, first}
+use Rattle.octets.specs.Test.{when, first, and_then}
 use Rattle.octets.specs.Octets.{octets_of, field}
 use Rattle.octets.proofs.Octets.{octets_cons, octets_number, width}
 use Rattle.octets.proofs.Test.{accepted}
@@ -39,7 +39,7 @@ module _ (n : ℕ) where
   module _ (w : Bench) (h : first (query_questions w) ≡ 0) (few : n < 65536) where
     -- it restarts neither end, so 11, 12 and 15 are those of the question
     ordered : asks_ready w octets full (order_of octets) ≡ delivers w n
-    unfolding asks_ready end_restarted order_asks kind_of first when
+    unfolding asks_ready and_then end_restarted order_asks kind_of first when
     ordered = rw (orders-frame octets refl three (numbered few)) (passes_on (delivers w n) h)
 
     pub asks : line_asks w (delivery_line n).0 (delivery_line n).1 ≡ delivers w n

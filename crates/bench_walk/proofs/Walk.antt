@@ -25,9 +25,8 @@ use Rattle.bench_log.specs.Log.{place_head, place_size, places, log_size, sender
 use Rattle.bench_spec.specs.Bench.{Bench, At, lent_at, line_asks, call_outcome, comes, end_of, bench_after}
 use Rattle.bench_spec.specs.Run.{line_after}
 use Rattle.bench_spec.proofs.Delivery as delivery
-use Rattle.bench_query.specs.declared.Found.{Found}
-use Rattle.bench_query.specs.declared.Found.TheVariants.{Frame, Nothing, Refused}
-use Rattle.bench_query.specs.Found.{changes, equal, delivers, query_questions, first_frame, Means}
+use Rattle.std.specs.Prelude.{None, Some}
+use Rattle.bench_query.specs.Found.{Found, changes, equal, delivers, query_questions, first_frame, Means}
 use Rattle.bench_query.proofs.Delivery.{full, ready, not-held, to_a, to_b}
 use Rattle.bench_query.proofs.Lowest.{so_equal, means}
 use Rattle.bench_walk.specs.Walk.{delivery_line, delivered, walked, deliveries_left, Lendable, walk_end, EveryWalkEnds}
@@ -60,8 +59,8 @@ changes_so rec (refused n) h = absurd (false≢true h)
 changes_so rec (ok x) h = (x, refl, λ e. false≢true (sym (ap (λ (s : List ℕ). not (equal s rec)) e ∙ ap not (so_equal rec)) ∙ h))
 
 -- The frame that the question names is delivered.
-module _ (w : Bench) (k : Kept w) (n : ℕ) (f : first_frame w ≡ Frame n) where
-  named : Means w (Frame n)
+module _ (w : Bench) (k : Kept w) (n : ℕ) (f : first_frame w ≡ ok (Some n)) where
+  named : Means w (ok (Some n))
   named = subst (Means w) f (means w)
 
   asked : line_asks w (delivery_line n).0 (delivery_line n).1 ≡ delivers w n
@@ -83,7 +82,7 @@ module _ (w : Bench) (k : Kept w) (n : ℕ) (f : first_frame w ≡ Frame n) wher
 
   -- what the line leaves, and its number
   pub record Done : Type 0 where
-    pub goes_on : Goes w (delivered (Frame n) w)
+    pub goes_on : Goes w (delivered (ok (Some n)) w)
     pub accepted : number_of (comes w (line_asks w (delivery_line n).0 (delivery_line n).1)) ≡ 0
 
   by : (j : ℕ) {y : Step} → delivers w n ≡ ok (j, act) → call_outcome (lent_at j w) w.count act ≡ ok y → Goes w (bench_after j w (ok y)) → Done
@@ -116,24 +115,24 @@ stays : (n : ℕ) (w : Bench) {f : Found} → first_frame w ≡ f → delivered 
 stays n w e d = ap first_frame (rests n w (ap (λ (f : Found). delivered f w) e ∙ d)) ∙ e
 
 -- where a frame is named the walk goes on, and where none is it has ended; nothing is refused on the way
-by_answer : (n : ℕ) (w : Bench) → Kept w → ((m : ℕ) → first_frame w ≡ Frame m → first_frame (walked n w) ≡ Nothing) → (f : Found) → first_frame w ≡ f
-    → first_frame (walked n w) ≡ Nothing
+by_answer : (n : ℕ) (w : Bench) → Kept w → ((m : ℕ) → first_frame w ≡ ok (Some m) → first_frame (walked n w) ≡ ok None) → (f : Found) → first_frame w ≡ f
+    → first_frame (walked n w) ≡ ok None
 unfolding delivered
-by_answer n w k g (Frame m) e = g m e
-by_answer n w k g Nothing e = stays n w e refl
-by_answer n w k g (Refused j) e =
+by_answer n w k g (ok (Some m)) e = g m e
+by_answer n w k g (ok None) e = stays n w e refl
+by_answer n w k g (refused j) e =
     let r = subst (Means w) e (means w) in
     absurd (r.1 (sym r.0 ∙ passes w k))
 
 -- all that are left are made
-rounds : (n : ℕ) (w : Bench) → Kept w → deliveries_left w ≤ n → first_frame (walked n w) ≡ Nothing
+rounds : (n : ℕ) (w : Bench) → Kept w → deliveries_left w ≤ n → first_frame (walked n w) ≡ ok None
 unfolding walked
 rounds zero w k h = by_answer zero w k (λ m e. absurd (omega (arith, (round w k m e).goes_on.less))) (first_frame w) refl
 rounds (suc n) w k h =
     by_answer (suc n) w k
     (λ m e.
     let g = (round w k m e).goes_on in
-    ap (λ (f : Found). first_frame (walked n (delivered f w))) e ∙ rounds n (delivered (Frame m) w) g.kept (omega (arith, g.less)))
+    ap (λ (f : Found). first_frame (walked n (delivered f w))) e ∙ rounds n (delivered (ok (Some m)) w) g.kept (omega (arith, g.less)))
     (first_frame w) refl
 
 pub walk_ends : EveryWalkEnds
@@ -147,10 +146,10 @@ walk_ends w l = record {
       omega (arith, at_most (held_in w.a) k.end_a.is_sound, at_most (held_in w.b) k.end_b.is_sound);
 }
   where
-    kept : {n : ℕ} → first_frame w ≡ Frame n → Kept w
+    kept : {n : ℕ} → first_frame w ≡ ok (Some n) → Kept w
     kept e = kept_so w (subst (Means w) e (means w)).0 l
 
     by-found : (n : ℕ) → deliveries_left w ≤ n → (f : Found) → first_frame w ≡ f → first_frame (walked n w) ≡ walk_end (first_frame w)
-    by-found n h (Frame m) e = rounds n w (kept e) h ∙ ap walk_end (sym e)
-    by-found n h Nothing e = stays n w e refl ∙ ap walk_end (sym e)
-    by-found n h (Refused k) e = stays n w e refl ∙ ap walk_end (sym e)
+    by-found n h (ok (Some m)) e = rounds n w (kept e) h ∙ ap walk_end (sym e)
+    by-found n h (ok None) e = stays n w e refl ∙ ap walk_end (sym e)
+    by-found n h (refused k) e = stays n w e refl ∙ ap walk_end (sym e)
