@@ -23,8 +23,8 @@ use Rattle.bench_log.specs.Log.{place_size, sender_at, length_at, frame_logged, 
 use Rattle.answer_text.specs.Text.{text_of, StartsWith}
 use Rattle.bench_spec.specs.declared.Order.{Order}
 use Rattle.bench_spec.specs.declared.Order.TheVariants as order
-use Rattle.bench_spec.specs.Bench.{Bench, bench_of, lent_at, At, delivery, order_of, order_asks, octets_ask, line_asks, comes, end_of}
-use Rattle.bench_spec.proofs.Orders.{AtEnd, at_end}
+use Rattle.bench_spec.specs.Bench.{Bench, bench_of, lent_at, At, delivery, end_number, order_of, order_asks, octets_ask, line_asks, comes, end_of}
+use Rattle.bench_spec.proofs.Ends.{same_number, known}
 use Rattle.bench_call.specs.declared.BenchAnswer.{BenchAnswer}
 use Rattle.bench_call.specs.Answer.{bench_block_at, bench_answer_of}
 use Rattle.bench_call.proofs.Does.{with_14}
@@ -41,31 +41,26 @@ unfolding block_of block_in
 quiet_short rec page (refused n) h = omega arith
 quiet_short rec page (ok x) h = subst (λ (y : Step). Short (ok y)) (restart_step rec page h) (omega arith)
 
--- what fits the text: an answer is about end 0 or 1, and a block has at most 64 octets
+-- what fits the text: a block has at most 64 octets
 module _ (w : Bench) where
-  pub record Fine (q : Outcome At) : Type 0 where
-    pub end : end_of q ≤ 1
-    pub block : length (block_of (comes w q)) ≤ longest_block
+  abbrev pub Fine : Outcome At → Type 0
+  Fine q = Short (comes w q)
 
   fine-refused : (n : ℕ) → Fine (refused n)
-  unfolding end_of comes and_then block_of
-  fine-refused n = record { end = omega arith; block = omega arith }
+  unfolding comes and_then block_of
+  fine-refused n = omega arith
 
   -- an act whose block is short, with 14 too
-  fine-act : (i : ℕ) (c : LentAct) → i ≤ 1 → Short (comes_by format (lent_at i w) c) → Fine (ok (i, c))
-  unfolding end_of comes and_then block_of
-  fine-act i c h k = record { end = h; block = with_14 Short (λ n. omega arith) (lent_at i w) w.count c k }
+  fine-act : (i : ℕ) (c : LentAct) → Short (comes_by format (lent_at i w) c) → Fine (ok (i, c))
+  unfolding comes and_then
+  fine-act i c k = with_14 Short (λ n. fine-refused n) (lent_at i w) w.count c k
 
-  fine-request : (i : ℕ) (s : List ℕ) (room : Rooms) → i ≤ 1 → Fine (ok (i, call (given Request s room)))
-  fine-request i s room h = fine-act i (call (given Request s room)) h (block_short (lent_at i w).rec (lent_at i w).page (given Request s room))
+  fine-request : (i : ℕ) (s : List ℕ) (room : Rooms) → Fine (ok (i, call (given Request s room)))
+  fine-request i s room = fine-act i (call (given Request s room)) (block_short (lent_at i w).rec (lent_at i w).page (given Request s room))
 
   -- a restart hands no block up
-  fine-restart : (i : ℕ) (rec : List ℕ) → i ≤ 1 → Fine (ok (i, restart rec))
-  fine-restart i rec h = fine-act i (restart rec) h (quiet_short rec (lent_at i w).page (restarted_in format rec (lent_at i w).page) refl)
-
-  frame-short : (n : ℕ) → length_at n w.log ≤ longest_frame → length (frame_logged n w.log) ≤ longest_frame
-  unfolding frame_logged
-  frame-short n h = omega (arith, length-take (length_at n w.log) (drop (n * place_size + 2) w.log))
+  fine-restart : (i : ℕ) (rec : List ℕ) → Fine (ok (i, restart rec))
+  fine-restart i rec = fine-act i (restart rec) (quiet_short rec (lent_at i w).page (restarted_in format rec (lent_at i w).page) refl)
 
   fine-outcome : (b : Bool) (x : At) → (b ≡ true → Fine (ok x)) → Fine (outcome (first ((13, b) ∷ [])) x)
   unfolding first when outcome
@@ -77,23 +72,23 @@ module _ (w : Bench) where
   fine-delivery n room =
       fine-outcome (holds w.count n w.log) _ (λ z.
       let i = 1 - sender_at n w.log in
-      fine-act i (call (given Receive (frame_logged n w.log) room)) (omega arith)
+      fine-act i (call (given Receive (frame_logged n w.log) room))
       (block_short (lent_at i w).rec (lent_at i w).page (given Receive (frame_logged n w.log) room)))
 
-  fine-order : (s : List ℕ) (room : Rooms) (o : Order) → AtEnd o → Fine (order_asks w s room o)
+  fine-order : (s : List ℕ) (room : Rooms) (o : Order) → Fine (order_asks w s room o)
   unfolding order_asks
-  fine-order s room (order.Request i) h = fine-request i (drop 1 s) room h
-  fine-order s room (order.Deliver n) h = fine-delivery n room
-  fine-order s room (order.Restart i) h = fine-restart i (lent_at i w).rec h
-  fine-order s room (order.Refused n) h = fine-refused n
+  fine-order s room (order.Request e) = fine-request (end_number e) (drop 1 s) room
+  fine-order s room (order.Deliver n) = fine-delivery n room
+  fine-order s room (order.Restart e) = fine-restart (end_number e) (lent_at (end_number e) w).rec
 
-  fine-octets : (s : List ℕ) (room : Rooms) → Fine (octets_ask w s room)
-  unfolding octets_ask
-  fine-octets s room = fine-order s room (order_of s) (at_end s)
+  fine-octets : (s : List ℕ) (room : Rooms) (o : Outcome Order) → Fine (and_then o (order_asks w s room))
+  unfolding and_then
+  fine-octets s room (refused n) = fine-refused n
+  fine-octets s room (ok o) = fine-order s room o
 
   pub fine : (line : List ℕ) (room : Rooms) → Fine (line_asks w line room)
-  unfolding line_asks
-  fine line room = after-question Fine fine-refused _ _ (fine-octets (unhex line) room)
+  unfolding line_asks octets_ask
+  fine line room = after-question Fine fine-refused _ _ (fine-octets (unhex line) room (order_of (unhex line)))
 
 -- the buffers for a frame and for a block
 abbrev frames : List ℕ
@@ -104,9 +99,9 @@ blocks = replicate longest_block 0
 
 -- what a line's answer says of its text
 module _ {w : Bench} {q : Outcome At} {start : ℕ} {a b : Lent} {log frame up : List ℕ} {r : BenchAnswer} (p : Performed w q start frames blocks a b log frame up r) where
-  end_is : r.end ≡ end_of q
+  end_is : end_of q ≤ 1 → end_number r.end ≡ end_of q
   unfolding bench_answer_of
-  end_is = ap (λ (x : BenchAnswer). x.end) p.answer
+  end_is h = ap (λ (x : BenchAnswer). end_number x.end) p.answer ∙ same_number (end_of q) h
 
   block_is : r.block ≡ length (block_of (comes w q))
   unfolding bench_answer_of
@@ -121,16 +116,16 @@ module _ {w : Bench} {q : Outcome At} {start : ℕ} {a b : Lent} {log frame up :
   block-there = ap length p.handed ∙ sym block_is
 
   pub tellable : Fine w q → length frame ≡ longest_frame → {block : Block} → block ≡ bench_block_at r.at r.block log up
-      → (r.end ≤ 1) × ((length block ≤ longest_block) × ((r.sent ≤ longest_frame) × (r.sent ≤ length frame)))
+      → (length block ≤ longest_block) × ((r.sent ≤ longest_frame) × (r.sent ≤ length frame))
   tellable f l e =
       let s = sent_fits frames (comes w q) p.buffer l sent_is in
-      (omega (arith, end_is, f.end), (omega (arith, ap length e, block-there, block_is, f.block), (s, omega (arith, s, l))))
+      (omega (arith, ap length e, block-there, block_is, f), (s, omega (arith, s, l)))
 
   told_is : r.status ≡ status_of (lent_at (end_of q) w).rec (comes w q)
   unfolding bench_answer_of
   told_is = ap (λ (x : BenchAnswer). x.status) p.answer
 
-  pub gives : {block : Block} → block ≡ bench_block_at r.at r.block log up → {out out' : List ℕ} {k : ℕ} → StartsWith (lead r.end ++ text_of r.status block (take r.sent frame)) out out' k
+  pub gives : end_of q ≤ 1 → {block : Block} → block ≡ bench_block_at r.at r.block log up → {out out' : List ℕ} {k : ℕ} → StartsWith (lead (end_number r.end) ++ text_of r.status block (take r.sent frame)) out out' k
       → BenchAnswered w q out (bench_of a b log r.count) out' k
   unfolding bench_text
-  gives e g = record { begins = rw (end_is, told_is, e, p.handed, sent_taken frames (comes w q) p.buffer sent_is) at g; bench = p.bench }
+  gives h e g = record { begins = rw (end_is h, told_is, e, p.handed, sent_taken frames (comes w q) p.buffer sent_is) at g; bench = p.bench }

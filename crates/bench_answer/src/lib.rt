@@ -5,7 +5,7 @@ ghost use Rattle.std.specs.Prelude.{◌≡◌, ◌++◌, ◌≤◌, length, take
 ghost use Rattle.octets.specs.Sizes.{longest_frame, longest_block};
 ghost use Rattle.answer_text.specs.Text.{text_of, StartsWith};
 ghost use Rattle.call_spec.specs.Claim.{lent};
-ghost use Rattle.bench_spec.specs.Bench.{Bench, bench_of};
+ghost use Rattle.bench_spec.specs.Bench.{Bench, bench_of, end_number};
 ghost use Rattle.bench_call.specs.Answer.{bench_block_at};
 ghost use Rattle.bench_answer.specs.Text.{lead, answer_room, bench_asks, BenchAnswered};
 
@@ -35,11 +35,11 @@ fn block_of<'a>(at: usize, n: usize, log: &'a [u8], up: &'a [u8]) -> &'a [u8]
 
 // Writes the text of an answer to the start of out: 50 or 51, then the text as at one end.
 fn tell(r: BenchAnswer, block: &[u8], frame: &[u8], out: &mut [u8]) -> usize
-    requires { (answer_room ≤ length out.old) × ((r.end ≤ 1) × ((length block.now ≤ longest_block) × ((r.sent ≤ longest_frame) × (r.sent ≤ length frame.now)))) }
-    ensures { StartsWith (lead r.end ++ text_of r.status block.now (take r.sent frame.now)) out.old out.new result }
+    requires { (answer_room ≤ length out.old) × ((length block.now ≤ longest_block) × ((r.sent ≤ longest_frame) × (r.sent ≤ length frame.now))) }
+    ensures { StartsWith (lead (end_number r.end) ++ text_of r.status block.now (take r.sent frame.now)) out.old out.new result }
 {
-    octets::store8(out, 0, DIGIT_FIVE);
-    octets::store8(out, 1, DIGIT_ZERO + r.end);
+    out[0] = DIGIT_FIVE;
+    out[1] = DIGIT_ZERO + r.end as u8;
     let told = r.status;
     let sent = r.sent;
     let n = answer_text::write_text(told, block, &frame[..sent], &mut out[2..]);

@@ -1,9 +1,10 @@
 // The bench line for C, on numbers and byte buffers alone; include/dock.h declares it.
 #![tactic(auto)]
 
+ghost use Rattle.std.specs.Prelude.{◌≡◌};
 ghost use Rattle.call_spec.specs.Claim.{lent};
-ghost use Rattle.bench_spec.specs.Bench.{Bench, bench_of};
-ghost use Rattle.bench_line.specs.Performed.{LinePerformed};
+ghost use Rattle.bench_spec.specs.Bench.{Bench, bench_of, end_of};
+ghost use Rattle.bench_line.specs.Performed.{LinePerformed, asks_lent};
 ghost use Rattle.c_bench.specs.Answers.{bench_answer_in};
 
 // Plays a bench line, which is given without its line feed. Answers the number; the count, the end that the answer is about, its state,
@@ -29,14 +30,15 @@ pub extern "C" fn dock_bench(
     at: &mut usize,
     block: &mut usize,
 ) -> u8
-    ensures { (let w : Bench = bench_of (lent a.old a_page.old) (lent b.old b_page.old) log.old count.old in
+    ensures answers { (let w : Bench = bench_of (lent a.old a_page.old) (lent b.old b_page.old) log.old count.old in
         LinePerformed w line.now out.old up.old
         (lent a.new a_page.new) (lent b.new b_page.new) log.new out.new up.new
         (bench_answer_in result end.new state.new notice.new local.new remote.new sent.new at.new block.new count.new)) }
+    ensures end { end.new ≡ end_of (asks_lent (bench_of (lent a.old a_page.old) (lent b.old b_page.old) log.old count.old) line.now out.old up.old) }
 {
     let r = bench_line::perform(a, b, a_page, b_page, log, *count, line, out, up);
     *count = r.count;
-    *end = r.end;
+    *end = r.end as u8;
     let told = r.status;
     *state = told.state;
     *notice = told.notice;

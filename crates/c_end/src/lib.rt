@@ -14,6 +14,7 @@ ghost use Rattle.link.specs.Lent.{Called, lent_outcome, CalledLent, answer_in};
 use call_spec::Call;
 
 // Restarts an end: its record becomes the one that the page says, and the page stays. Answers 0, 11 or 15. A new page makes a fresh end.
+#[tactic(auto, unfolding(lent_record::specs::Told::answer_of, lent_record::specs::Told::status_of))]
 #[unsafe(no_mangle)]
 pub extern "C" fn dock_restart(rec: &mut [u8], page: &[u8]) -> u8
     ensures { (result ≡ number_of (restarted_in format rec.old page.now)) × (rec.new ≡ record_after format rec.old (restarted_in format rec.old page.now)) }

@@ -5,7 +5,7 @@ ghost use Rattle.bench_spec.specs.Bench.{bench_of};
 ghost use Rattle.call_spec.specs.Claim.{lent};
 ghost use Rattle.c_query.specs.Answers.{FrameNamed};
 
-use bench_query::Found;
+use bench_checks::LentBench;
 
 // Answers the number; the frame's goes to the last, 512 where there is none.
 #[unsafe(no_mangle)]
@@ -20,19 +20,19 @@ pub extern "C" fn dock_first_frame(
 ) -> u8
     ensures { FrameNamed (bench_of (lent a.now a_page.now) (lent b.now b_page.now) log.now count) result frame.new }
 {
-    let found = bench_query::first_frame(a, b, a_page, b_page, log, count);
+    let found = bench_query::first_frame(LentBench::new(a, b, a_page, b_page, log, count));
     match found {
-        Found::Frame(n) => {
+        Ok(Some(n)) => {
             *frame = n;
             0
         }
-        Found::Nothing => {
+        Ok(None) => {
             *frame = bench_log::PLACES;
             0
         }
-        Found::Refused(number) => {
+        Err(refusal) => {
             *frame = bench_log::PLACES;
-            number
+            refusal.number()
         }
     }
 }
