@@ -63,7 +63,7 @@ fn block_refusal(size: usize, rest: &[u8]) -> Result<(), Refusal>
     if rest.len() < size {
         return Err(Refusal::BadSize);
     }
-    let count = octets::wide(rest[size - 1]);
+    let count = usize::from(rest[size - 1]);
     if !count_ok(count) {
         return Err(Refusal::BadCount);
     }

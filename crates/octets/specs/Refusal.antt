@@ -27,7 +27,7 @@ abbrev pub told : {A : Type 0} → Result A Refusal → Outcome A
 told (Ok x) = ok x
 told (Err r) = refused (refusal_number r)
 
--- the number that is told: 0 is success
+-- the number that is told, 0 for success: number_of (told r), case by case
 abbrev pub refusal_in : {A : Type 0} → Result A Refusal → ℕ
 refusal_in (Ok x) = 0
 refusal_in (Err r) = refusal_number r
