@@ -13,7 +13,8 @@ use Rattle.frame.specs.declared.Kind.{Kind}
 use Rattle.frame.specs.declared.Kind.TheVariants.{Data, Ack}
 use Rattle.frame.proofs.Classes.{kind_is_frame}
 use Rattle.frame.proofs.Shape.{Numbered, numbered, control_of}
-use Rattle.frame.proofs.Reading.{frame_refused, frame-numbers, numbers_there, refusal_some}
+use Rattle.octets.proofs.Outcomes.{refusal_some}
+use Rattle.frame.proofs.Reading.{frame_refused, frame-numbers, numbers_there}
 use native.Mathlib.Omega.{arith}
 use Rattle.frame_read.proofs.known_frame.Goals as goal
 

@@ -10,7 +10,8 @@ use Rattle.frame.specs.Answer.{request_of, request_number}
 use Rattle.frame.specs.declared.RequestKind.{RequestKind}
 use Rattle.frame.specs.declared.RequestKind.TheVariants.{Connect, Listen, EndListening, Close, Send, Timer, Collect}
 use Rattle.frame.proofs.Classes.{no_request, none_kind, rest_is, kind_is_request, request_no_frame}
-use Rattle.frame.proofs.Reading.{unknown_request, request-refused, request_read, refusal_some}
+use Rattle.octets.proofs.Outcomes.{refusal_some}
+use Rattle.frame.proofs.Reading.{unknown_request, request-refused, request_read}
 use native.Mathlib.Omega.{arith}
 use Rattle.frame_read.proofs.read_request.Goals as goal
 
