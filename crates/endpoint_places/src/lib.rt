@@ -6,7 +6,7 @@ ghost use Rattle.octets.specs.Sizes.{longest_frame, longest_block, queue_size, h
 ghost use Rattle.octets.specs.Octets.{put};
 ghost use Rattle.call_spec.specs.declared.Call.TheVariants.{Request};
 ghost use Rattle.step_plan.specs.declared.Places.TheVariants.{Keep, Clear};
-ghost use Rattle.step_plan.specs.Internal.{notice_number, block_by, block_out, sent_by, Sends};
+ghost use Rattle.step_plan.specs.Internal.{told_notice, block_by, block_out, sent_by, Sends};
 ghost use Rattle.endpoint.specs.View.{place_block};
 ghost use Rattle.endpoint_places.specs.Internal.{places_after, PlaceFor, block_from, Handy, HandsUp};
 
@@ -75,8 +75,8 @@ pub fn change_places(places: Places, width: usize, s: &[u8], d: &mut [u8])
 
 // Copies the block that a request hands up to the start of up, and answers its length: the first of the held ones, with notice 5.
 fn collect<'a>(notice: Notice, held: Slots<'a>, up: &mut [u8]) -> usize
-    requires { notice_number notice ≡ 5 → (get_or held.lengths.now 0 0 ≤ longest_block) × (longest_block ≤ length up.old) }
-    ensures { HandsUp Request (block_by (notice_number notice) (place_block held.entry.lengths.now held.entry.blocks.now 0)) up.old up.new result }
+    requires { told_notice notice ≡ 5 → (get_or held.lengths.now 0 0 ≤ longest_block) × (longest_block ≤ length up.old) }
+    ensures { HandsUp Request (block_by (told_notice notice) (place_block held.entry.lengths.now held.entry.blocks.now 0)) up.old up.new result }
 {
     match notice {
         Notice::HandedUp => {
@@ -97,8 +97,8 @@ pub fn hand_up<'a>(
     block: &[u8],
     up: &mut [u8],
 ) -> usize
-    requires { notice_number notice ≡ 5 → Handy call held.lengths.now (length up.old) }
-    ensures { HandsUp call (block_by (notice_number notice) (block_from call held.entry.lengths.now held.entry.blocks.now block.now)) up.old up.new result }
+    requires { told_notice notice ≡ 5 → Handy call held.lengths.now (length up.old) }
+    ensures { HandsUp call (block_by (told_notice notice) (block_from call held.entry.lengths.now held.entry.blocks.now block.now)) up.old up.new result }
 {
     match call {
         Call::Request => collect(notice, held, up),

@@ -38,7 +38,7 @@ use Rattle.step_rules.specs.Internal.{holding}
 use Rattle.step_plan.specs.declared.Plan.{Plan}
 use Rattle.step_plan.specs.declared.Places.{Places}
 use Rattle.step_plan.specs.declared.Places.TheVariants.{Keep, Join, Release, Clear}
-use Rattle.step_plan.specs.Internal.{block_by, queue_after, held_after, Room, HeldRoom, block_out, sent_by, Oldest, Comes, ComesOf, notice_number, Sends}
+use Rattle.step_plan.specs.Internal.{block_by, queue_after, held_after, Room, HeldRoom, block_out, sent_by, Oldest, Comes, ComesOf, told_notice, Sends}
 use Rattle.step_plan.proofs.Up.{right, told}
 use Rattle.step_plan.proofs.Up as up
 use Rattle.endpoint.specs.declared.Endpoint.{Endpoint}
@@ -301,7 +301,7 @@ module _ (e : Endpoint) (long : Long e) (c : Call) (r : Rooms) (b : Block) (o : 
   pub handy : Handy c e.held_lengths r.block
   handy = handy-at c rooms-are.1
 
-  pub hands-up : block_by (notice_number p.notice) (block_from c e.held_lengths e.held_blocks b) ≡ block_of o
+  pub hands-up : block_by (told_notice p.notice) (block_from c e.held_lengths e.held_blocks b) ≡ block_of o
   hands-up = ap (λ (n : ℕ). block_by n (block_from c e.held_lengths e.held_blocks b)) w.comes.notice ∙ w.handed
 
   -- it stands where it was handed up to

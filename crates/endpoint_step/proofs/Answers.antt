@@ -13,7 +13,7 @@ use Rattle.call_spec.specs.declared.Call.TheVariants as call
 use Rattle.call_spec.specs.Calls.{Arguments, Rooms, wire, buffer_after, page_after}
 use Rattle.call_spec.specs.Answers.{notice_of, sent_in, block_of, block_part, block_buffer_after, endpoint_after}
 use Rattle.step_plan.specs.declared.Plan.{Plan}
-use Rattle.step_plan.specs.Internal.{notice_number, block_by, block_out, sent_by, Sends}
+use Rattle.step_plan.specs.Internal.{told_notice, block_by, block_out, sent_by, Sends}
 use Rattle.endpoint.specs.declared.Endpoint.{Endpoint}
 use Rattle.endpoint.specs.View.{pack, place_block, view}
 use Rattle.endpoint.proofs.Packs.{Long}
@@ -50,8 +50,8 @@ module _ (e : Endpoint) (long : Long e) (c : Call) (r : Rooms) (b : Block) (o : 
       }
 
   pub accepts : {out out' : List ℕ} {n : ℕ} → Sends (sent_by p.reply (block_out p.queue b (place_block e.lengths e.blocks 0))) out out' n
-      → {u u' : List ℕ} {m : ℕ} → HandsUp c (block_by (notice_number p.notice) (block_from c e.held_lengths e.held_blocks b)) u u' m
-      → {a : Endpoint} → a ≡ carried p b e → {i : ℕ} → i ≡ notice_number p.notice
+      → {u u' : List ℕ} {m : ℕ} → HandsUp c (block_by (told_notice p.notice) (block_from c e.held_lengths e.held_blocks b)) u u' m
+      → {a : Endpoint} → a ≡ carried p b e → {i : ℕ} → i ≡ told_notice p.notice
       → Finishes c e b o out u out' u' (record { number = 0; endpoint = a; notice = i; sent = n; block = m })
   accepts {out} s {u} h a i =
       let t = sends e long c r b o w s in

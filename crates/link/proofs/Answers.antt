@@ -21,7 +21,7 @@ use Rattle.call_spec.specs.declared.Call.TheVariants.{Request, Receive}
 use Rattle.call_spec.specs.Calls.{Arguments, Rooms, given, wire, own_questions, asked, performed, record_after, buffer_after, page_after}
 use Rattle.step_plan.specs.declared.Plan.{Plan}
 use Rattle.call_spec.specs.Answers.{notice_of, sent_in, block_of, block_part, block_buffer_after, endpoint_after}
-use Rattle.step_plan.specs.Internal.{notice_number, block_by, block_out, sent_by, Sends}
+use Rattle.step_plan.specs.Internal.{told_notice, block_by, block_out, sent_by, Sends}
 use Rattle.step_plan.proofs.Up.{Right, source, right, none_right}
 use Rattle.step_plan.proofs.Up as up
 use Rattle.endpoint.specs.declared.Endpoint.{Endpoint}
@@ -110,8 +110,8 @@ module _ (rec : List ℕ) (long : record_size ≤ length rec) where
   -- the plan of a call that comes to o, with the block b, is carried out
   pub accepts : Octets rec → (c : Call) (r : Rooms) (b : Block) (o : Outcome Step) {p : Plan} → PlansFor c r (decode rec) b o p → {out out' : List ℕ} {n : ℕ}
       → Sends (sent_by p.reply (block_out p.queue b (place_block (decode rec).lengths (decode rec).blocks 0))) out out' n
-      → {u u' : List ℕ} {m : ℕ} → HandsUp c (block_by (notice_number p.notice) (block_from c (decode rec).held_lengths (decode rec).held_blocks b)) u u' m
-      → {rec' : List ℕ} → rec' ≡ put rec 0 (encode (carried p b (decode rec))) → {i : ℕ} → i ≡ notice_number p.notice
+      → {u u' : List ℕ} {m : ℕ} → HandsUp c (block_by (told_notice p.notice) (block_from c (decode rec).held_lengths (decode rec).held_blocks b)) u u' m
+      → {rec' : List ℕ} → rec' ≡ put rec 0 (encode (carried p b (decode rec))) → {i : ℕ} → i ≡ told_notice p.notice
       → Called c o rec b out u rec' out' u'
       (record { status = record { number = 0; state = p.numbers.state; notice = i; local = p.numbers.local; remote = p.numbers.remote }; sent = n; block = m })
   unfolding answer_of status_of view

@@ -2,7 +2,7 @@
 use Prim.Native.Nat.{ℕ, zero, suc, ◌+◌, ◌-◌, ◌≤◌, ◌<◌}
 use mathlib.Core.Path.{◌≡◌, refl, sym, ap, ◌∙◌}
 use mathlib.Core.Logic.{◌≢◌}
-use mathlib.Core.Bool.{Bool, true, false, false≢true}
+use mathlib.Core.Bool.{true, false, false≢true}
 use mathlib.Core.List.{List, [], ◌∷◌, ◌++◌}
 use native.Mathlib.Omega.{arith}
 use borrow.Author.Tests.{eqb-true}
@@ -10,7 +10,7 @@ use lib.Dec.{eqb}
 use lib.ListN.{length, drop, get_or, replicate, length-append, length-drop, drop_of_length-le, get_or-eq_default}
 use Rattle.octets.specs.Test.{when, if_eq, zeros, Outcome, ok, number_of}
 use Rattle.octets.specs.Sizes.{longest_block, queue_size, held_size}
-use Rattle.octets.proofs.Test.{both}
+use Rattle.octets.proofs.Test.{both, split, if-eq}
 use Rattle.octets.proofs.Each.{zeros_of}
 use Rattle.std.specs.Prelude.{Option, Some}
 use Rattle.frame.specs.Frame.{Block, data_frame}
@@ -29,10 +29,10 @@ use Rattle.step_plan.specs.declared.Notice.{Notice}
 use Rattle.step_plan.specs.declared.Notice.TheVariants.{Nothing, Connected, Rejected, ClosedByPartner, CloseFinished, HandedUp}
 use Rattle.step_plan.specs.declared.Plan.{Plan}
 use Rattle.step_plan.specs.declared.Places.{Places}
-use Rattle.step_plan.specs.declared.Places.TheVariants.{Keep, Join, Release, Clear}
+use Rattle.step_plan.specs.declared.Places.TheVariants.{Join}
 use Rattle.call_spec.specs.Answers.{notice_of, sent_in, endpoint_after}
-use Rattle.step_plan.specs.Internal.{notice_number, queue_after, held_after, Room, HeldRoom, block_out, sent_by, Comes}
-use Rattle.step_plan.specs.Internal.{keeping, unless_empty, leaving, clearing, emptying, delivering_numbers, handing, turning, beginning, joining, holding_plan, releasing_plan}
+use Rattle.step_plan.specs.Internal.{told_notice, queue_after, held_after, Room, HeldRoom, block_out, sent_by, Comes}
+use Rattle.step_plan.specs.Internal.{keeping, leaving, clearing, emptying, delivering_numbers, handing, turning, beginning, joining, holding_plan, releasing_plan}
 
 -- the notice of a plan, by that of the protocol
 abbrev pub noticed : table.Notice → Notice
@@ -43,7 +43,7 @@ noticed closed_by_partner = ClosedByPartner
 noticed close_finished = CloseFinished
 noticed (handed_up b) = HandedUp
 
-numbered : (i : table.Notice) → notice_number (noticed i) ≡ table.notice_number i
+numbered : (i : table.Notice) → told_notice (noticed i) ≡ table.notice_number i
 unfolding table.notice_number
 numbered none = refl
 numbered connected = refl
@@ -51,11 +51,6 @@ numbered rejected = refl
 numbered closed_by_partner = refl
 numbered close_finished = refl
 numbered (handed_up b) = refl
-
--- what holds of places that stay and of those that change, each under its test, holds of what becomes of them
-unless : (P : Places → Type 0) (empty : Bool) (change : Places) → (empty ≡ true → P Keep) → (empty ≡ false → P change) → P (unless_empty empty change)
-unless P true change h g = h refl
-unless P false change h g = g refl
 
 -- an accepted call
 abbrev pub answers : Endpoint → table.Notice → Option Header → Block → Outcome Step
@@ -82,9 +77,9 @@ module _ (z : List ℕ) (h : List Block) (lz : lengths_of h ≡ z) (l8 : length 
 
   -- k of them leave, as far as any is held
   left_by : (k : ℕ) (x : Block) → drop k none_held ++ replicate k [] ≡ none_held → held_after (leaving z k) x h ≡ drop k h ++ replicate k []
-  unfolding held_after
+  unfolding leaving held_after
   left_by k x e =
-      unless (λ (p : Places). held_after p x h ≡ drop k h ++ replicate k []) (zeros z) (Release k)
+      split (λ (p : Places). held_after p x h ≡ drop k h ++ replicate k []) (zeros z)
       (λ t. let n : h ≡ none_held = none_in h (ap zeros lz ∙ t) ∙ ap (λ (m : ℕ). replicate m []) eight in rw n (sym e))
       (λ _. refl)
 
@@ -94,9 +89,9 @@ module _ (z : List ℕ) (h : List Block) (lz : lengths_of h ≡ z) (l8 : length 
 
   -- all are written afresh, as far as any is held
   pub cleared_by : (x : Block) → held_after (clearing z) x h ≡ none_held
-  unfolding held_after
+  unfolding clearing held_after
   cleared_by x =
-      unless (λ (p : Places). held_after p x h ≡ none_held) (zeros z) Clear (λ t. none_in h (ap zeros lz ∙ t) ∙ ap (λ (m : ℕ). replicate m []) eight) (λ _. refl)
+      split (λ (p : Places). held_after p x h ≡ none_held) (zeros z) (λ t. none_in h (ap zeros lz ∙ t) ∙ ap (λ (m : ℕ). replicate m []) eight) (λ _. refl)
 
   -- what moves down and stays as it was, or leaves and was not there, is nothing
   none-moved : drop 1 h ++ replicate 1 [] ≡ h → (i j : ℕ) → held_size ≤ i + j → get_or h i [] ≡ []
@@ -114,27 +109,30 @@ module _ (z : List ℕ) (h : List Block) (lz : lengths_of h ≡ z) (l8 : length 
   cleared-held n e = false≢true (sym n ∙ none_held_lem (λ i. ap (λ (l : List Block). get_or l i []) (sym e) ∙ none-at i))
 
   room_by : (k : ℕ) (x : Block) → k ≤ held_size → (zeros z ≡ false → drop k h ++ replicate k [] ≢ h) → HeldRoom (leaving z k) x h
-  room_by k x e g = unless (λ (p : Places). HeldRoom p x h) (zeros z) (Release k) (λ _. tt) (λ n. (e, g n))
+  unfolding leaving
+  room_by k x e g = split (λ (p : Places). HeldRoom p x h) (zeros z) (λ _. tt) (λ n. (e, g n))
 
   pub room_moved : (x : Block) → HeldRoom (leaving z 1) x h
   room_moved x = room_by 1 x (omega arith) still-held
 
   pub room-cleared : (x : Block) → HeldRoom (clearing z) x h
-  room-cleared x = unless (λ (p : Places). HeldRoom p x h) (zeros z) Clear (λ _. tt) cleared-held
+  unfolding clearing
+  room-cleared x = split (λ (p : Places). HeldRoom p x h) (zeros z) (λ _. tt) cleared-held
 
 -- so are the places of the waiting blocks
 module _ (n : Numbers) (q : List Block) (b old : Block) (w : length q ≡ n.waiting) where
   emptied : queue_after (emptying n.waiting) b q ≡ []
-  unfolding queue_after
+  unfolding emptying queue_after
   emptied =
-      unless (λ (p : Places). queue_after p b q ≡ []) (eqb n.waiting 0) Clear
-      (λ t. ap (λ (k : ℕ). drop k q) (sym (eqb-true n.waiting 0 t)) ∙ none_left n q w) (λ _. refl)
+      if-eq (λ (p : Places). queue_after p b q ≡ []) n.waiting 0 (λ e. ap (λ (k : ℕ). drop k q) (sym e) ∙ none_left n q w) (λ _. refl)
 
   room-emptied : Room (emptying n.waiting) b (length q)
-  room-emptied = unless (λ (p : Places). Room p b (length q)) (eqb n.waiting 0) Clear (λ _. tt) (λ _. tt)
+  unfolding emptying
+  room-emptied = if-eq (λ (p : Places). Room p b (length q)) n.waiting 0 (λ _. tt) (λ _. tt)
 
   out-emptied : block_out (emptying n.waiting) b old ≡ old
-  out-emptied = unless (λ (p : Places). block_out p b old ≡ old) (eqb n.waiting 0) Clear (λ _. refl) (λ _. refl)
+  unfolding emptying
+  out-emptied = if-eq (λ (p : Places). block_out p b old ≡ old) n.waiting 0 (λ _. refl) (λ _. refl)
 
 module _ (n : Numbers) (q h : List Block) (b old : Block) (w : length q ≡ n.waiting) {o : Outcome Step} {p : Plan} where
   pub keeps : (i : table.Notice) (r : Option Header) → o ≡ answers (holding n q h) i r old → p ≡ keeping n (noticed i) r → Comes n q h b old o p

@@ -2,7 +2,7 @@
 -- point's contract needs this.
 use Rattle.std.specs.Prelude.{ℕ, ◌≤◌, ◌<◌, ◌+◌, ◌-◌, ◌≡◌, ◌≢◌, Bool, true, false, ◌&&◌, List, [], ◌∷◌, ◌++◌, eqb, length, drop, get_or, replicate, Option, Some, None, Result, Ok, Err}
 use Rattle.octets.specs.Sizes.{longest_block, queue_size, held_size}
-use Rattle.octets.specs.Test.{if_eq, zeros, Outcome, refused, number_of}
+use Rattle.octets.specs.Test.{when, if_eq, zeros, Outcome, refused, number_of}
 use Rattle.octets.specs.Octets.{put}
 use Rattle.octets.specs.declared.refusal.Refusal.{Refusal}
 use Rattle.octets.specs.Refusal.{refusal_number}
@@ -22,14 +22,14 @@ use Rattle.step_plan.specs.declared.Notice.{Notice}
 use Rattle.step_plan.specs.declared.Notice.TheVariants.{Nothing, Connected, Rejected, ClosedByPartner, CloseFinished, HandedUp}
 use Rattle.step_plan.specs.declared.Plan.{Plan}
 
--- document 01's number of a notice
-abbrev pub notice_number : Notice → ℕ
-notice_number Nothing = 0
-notice_number Connected = 1
-notice_number Rejected = 2
-notice_number ClosedByPartner = 3
-notice_number CloseFinished = 4
-notice_number HandedUp = 5
+-- document 01's number of the code's notice
+abbrev pub told_notice : Notice → ℕ
+told_notice Nothing = 0
+told_notice Connected = 1
+told_notice Rejected = 2
+told_notice ClosedByPartner = 3
+told_notice CloseFinished = 4
+told_notice HandedUp = 5
 
 -- the block that a notice tells of: with notice 5 that of the DATA received or, of a request, the first of the held ones; else none
 unfoldable pub block_by : ℕ → Block → Block
@@ -83,7 +83,7 @@ Oldest (b ∷ q) old = b ≡ old
 -- message, which joins those that wait or those held, old the oldest that waits.
 pub record Comes (n : Numbers) (q h : List Block) (b old : Block) (o : Outcome Step) (p : Plan) : Type 0 where
   pub accepted : number_of o ≡ 0
-  pub notice : notice_number p.notice ≡ notice_of o
+  pub notice : told_notice p.notice ≡ notice_of o
   pub endpoint : holding p.numbers (queue_after p.queue b q) (held_after p.held b h) ≡ endpoint_after (holding n q h) o
   pub counted : p.numbers.waiting ≡ length (queue_after p.queue b q)
   pub room : Room p.queue b (length q)
@@ -129,21 +129,16 @@ pub record Sends (x : Sent) (out out' : List ℕ) (n : ℕ) : Type 0 where
 abbrev pub keeping : Numbers → Notice → Option Header → Plan
 keeping n notice reply = record { numbers = n; queue = Keep; held = Keep; notice = notice; reply = reply }
 
--- what becomes of places: where no block is in any, they stay
-abbrev pub unless_empty : Bool → Places → Places
-unless_empty true change = Keep
-unless_empty false change = change
-
 -- the first k held places, of these lengths, leave; where nothing is held, they stay
-abbrev pub leaving : List ℕ → ℕ → Places
-leaving z k = unless_empty (zeros z) (Release k)
+unfoldable pub leaving : List ℕ → ℕ → Places
+leaving z k = when (zeros z) Keep (Release k)
 
 -- every held place, of these lengths, is written afresh, and every place of w waiting blocks; where there is none, they stay
-abbrev pub clearing : List ℕ → Places
-clearing z = unless_empty (zeros z) Clear
+unfoldable pub clearing : List ℕ → Places
+clearing z = when (zeros z) Keep Clear
 
-abbrev pub emptying : ℕ → Places
-emptying w = unless_empty (eqb w 0) Clear
+unfoldable pub emptying : ℕ → Places
+emptying w = if_eq w 0 Keep Clear
 
 -- one block more is handed up, and the held places move down
 abbrev pub delivering_numbers : Numbers → Numbers

@@ -3,10 +3,10 @@
 
 ghost use Rattle.std.specs.Prelude.{◌≡◌, ◌-◌, ◌≤◌, ◌<◌, length, get_or};
 ghost use Rattle.octets.specs.Sizes.{longest_frame, longest_block, queue_size, held_size, last_number, last_incarnation};
-ghost use Rattle.octets.specs.Test.{if_eq};
+ghost use Rattle.octets.specs.Test.{when, if_eq};
 ghost use Rattle.frame.specs.Answer.{header_of};
 ghost use Rattle.call_spec.specs.Answers.{block_part};
-ghost use Rattle.step_plan.specs.Internal.{notice_number, block_by, block_out, sent_by, leaves_alone, Sends, unless_empty};
+ghost use Rattle.step_plan.specs.Internal.{told_notice, block_by, block_out, sent_by, leaves_alone, Sends};
 ghost use Rattle.step_plan.specs.Internal.{keeping, handing, turning, beginning, joining, holding_plan, releasing_plan};
 
 use call_spec::Call;
@@ -27,7 +27,7 @@ pub enum Notice {
 impl Notice {
     // Its number in document 01.
     pub fn number(self) -> u8
-        ensures { result ≡ notice_number self }
+        ensures { result ≡ told_notice self }
     {
         self as u8
     }
@@ -45,8 +45,9 @@ pub enum Places {
 
 impl Places {
     // Where no block is in any place, nothing need change.
+    #[tactic(auto, unfolding(octets::specs::Test::when))]
     fn unless_empty(empty: bool, change: Places) -> Places
-        ensures { result ≡ unless_empty empty change }
+        ensures { result ≡ when empty Places.Keep change }
     {
         if empty { Places::Keep } else { change }
     }
@@ -76,8 +77,9 @@ pub struct Plan {
     pub reply: Option<Header>,
 }
 
-// In these plans n are the numbers of the record, and held has the lengths of the held places.
-// They stay two parameters: keep, join and release plan from the numbers alone.
+// In these plans n are the numbers of the record, and held has the lengths of the held places. They stay two parameters: keep, join and release plan from
+// the numbers alone. hold looks at one place below eight, and takes all eight; the others take a slice, since what they promise holds of any number of
+// places.
 impl Plan {
     // The blocks stay, with these numbers.
     pub fn keep(n: Numbers, notice: Notice, reply: Option<Header>) -> Plan
@@ -93,6 +95,7 @@ impl Plan {
     }
 
     // One block more is handed up, the frame's or the held one: e + 1, and the held places move down.
+    #[tactic(auto, unfolding(crate::specs::Internal::leaving))]
     pub fn hand_up(n: Numbers, held: &[u8]) -> Plan
         requires { n.delivered < last_number }
         ensures { result ≡ handing n held.now }
@@ -108,6 +111,7 @@ impl Plan {
     }
 
     // The same incarnation in another state, with this partner. Only an open end has blocks, and it begins with none: all leave.
+    #[tactic(auto, unfolding(crate::specs::Internal::clearing, crate::specs::Internal::emptying, octets::specs::Test::if_eq))]
     pub fn turn(
         n: Numbers,
         held: &[u8],
@@ -157,7 +161,7 @@ impl Plan {
                 waiting: n.waiting + 1,
                 ..n
             },
-            queue: Places::Join(n.waiting as usize),
+            queue: Places::Join(usize::from(n.waiting)),
             held: Places::Keep,
             notice: Notice::Nothing,
             reply: say(Kind::Data, n.local, n.remote, n.accepted),
@@ -172,6 +176,7 @@ impl Plan {
         let gone = number - n.oldest();
         Plan {
             numbers: Numbers {
+                // No more leave than wait, so that the count fits in an octet.
                 waiting: n.waiting - (gone as u8),
                 ..n
             },
@@ -237,7 +242,7 @@ fn block_out<'a>(queue: Places, joined: &'a [u8], oldest: &'a [u8]) -> &'a [u8]
 // The block that a notice tells of, that of the frame received; empty where none is handed up.
 #[tactic(auto, using(octets::proofs::Test::eq_yes, octets::proofs::Test::eq_no), unfolding(crate::specs::Internal::block_by))]
 pub fn handed_up(notice: Notice, block: &[u8]) -> &[u8]
-    ensures { result.now ≡ block_by (notice_number notice) block.now }
+    ensures { result.now ≡ block_by (told_notice notice) block.now }
 {
     match notice {
         Notice::HandedUp => block,

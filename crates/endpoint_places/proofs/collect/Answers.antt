@@ -5,12 +5,12 @@ use Rattle.octets.proofs.Octets.{put-none}
 use Rattle.octets.proofs.Test.{eq_yes, eq_no}
 use Rattle.step_plan.specs.declared.Notice.{Notice}
 use Rattle.step_plan.specs.declared.Notice.TheVariants.{Nothing, Connected, Rejected, ClosedByPartner, CloseFinished, HandedUp}
-use Rattle.step_plan.specs.Internal.{notice_number, block_by}
+use Rattle.step_plan.specs.Internal.{told_notice, block_by}
 use Rattle.endpoint_places.specs.Internal.{handed_to}
 use Rattle.endpoint_places.proofs.collect.Goals as goal
 
 -- no other notice has the number 5
-other : (n : Notice) → n ≢ HandedUp → notice_number n ≢ 5
+other : (n : Notice) → n ≢ HandedUp → told_notice n ≢ 5
 other Nothing h e = omega arith
 other Connected h e = omega arith
 other Rejected h e = omega arith
