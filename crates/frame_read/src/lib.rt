@@ -1,22 +1,31 @@
 // Reading octets as a frame or a request, questions 3 to 7, and cutting off its block.
 #![tactic(auto)]
 
-ghost use Rattle.std.specs.Prelude.{◌≡◌, List, [], ◌∷◌, ℕ, ◌+◌, ◌-◌, ◌≤◌, leb, eqb, length, drop, get_or};
+ghost use Rattle.std.specs.Prelude.{◌≡◌, [], ◌∷◌, ℕ, ◌+◌, ◌-◌, ◌≤◌, leb, eqb, length, drop, get_or};
 ghost use Rattle.octets.specs.Test.{when, first, refused, ok, mapped};
 ghost use Rattle.octets.specs.Refusal.{told, refusal_in};
-ghost use Rattle.frame.specs.Frame.{Block, Frame};
-ghost use Rattle.frame.specs.Read.{kind_of, number_at, block_at, cut_block, frame_at, count_ok, numbers_ok, readable, size_questions, read_frame_as, read_frame, read_request_as, read_request};
+ghost use Rattle.frame.specs.Frame.{Frame};
+ghost use Rattle.frame.specs.Read.{kind_of, number_at, block_at, cut_block, frame_at, count_ok, numbers_ok, readable, size_questions, read_frame_as, read_frame, read_request};
 ghost use Rattle.frame.specs.Layout.{numbers_size, data_numbers};
 ghost use Rattle.frame.specs.Answer.{class_of, kind_number, frame_of, request_of, request_number};
 
 use frame::{
-    ACK_NUMBERS, CONTROL_NUMBERS, Class, DATA_NUMBERS, HEAD_SIZE, Header, Kind, NUMBER, QUOTED,
+    ACK_NUMBERS, CONTROL_NUMBERS, Class, DATA_NUMBERS, Header, Kind, NUMBER, QUOTED,
     RequestKind, SEND_NUMBERS, SENDER,
 };
 use octets::Refusal;
 
 // The largest number of a DATA.
 const LAST_DATA: u32 = octets::LAST_NUMBER - 1;
+
+// The first and the last octet of a frame, and of a request.
+const CRAO: u8 = Kind::Crao as u8;
+
+const ACK: u8 = Kind::Ack as u8;
+
+const CONNECT: u8 = RequestKind::Connect as u8;
+
+const COLLECT: u8 = RequestKind::Collect as u8;
 
 // The octets that select a block: those of a DATA and of a send.
 const DATA: u8 = Kind::Data as u8;
@@ -29,8 +38,8 @@ pub fn class_of(s: &[u8]) -> Option<Class>
     ensures { result ≡ class_of (kind_of s.now) }
 {
     match *s.first()? {
-        0x01..=0x09 => Some(Class::Frame),
-        0x40..=0x46 => Some(Class::Request),
+        CRAO..=ACK => Some(Class::Frame),
+        CONNECT..=COLLECT => Some(Class::Request),
         _ => None,
     }
 }
@@ -58,7 +67,7 @@ fn plain_refusal(size: usize, rest: &[u8]) -> Result<(), Refusal>
 #[tactic(auto, using(octets::proofs::Test::ladder))]
 fn block_refusal(size: usize, rest: &[u8]) -> Result<(), Refusal>
     requires { (1 ≤ size) × (size ≤ data_numbers) }
-    ensures { refusal_in result ≡ first ((4, leb size (length rest.now)) ∷ (5, count_ok (get_or rest.now (size - 1) 0)) ∷ (6, eqb (length rest.now) (size + get_or rest.now (size - 1) 0)) ∷ []) }
+    ensures { (let count : ℕ = get_or rest.now (size - 1) 0 in refusal_in result ≡ first ((4, leb size (length rest.now)) ∷ (5, count_ok count) ∷ (6, eqb (length rest.now) (size + count)) ∷ [])) }
 {
     if rest.len() < size {
         return Err(Refusal::BadSize);
@@ -120,14 +129,13 @@ fn frame_of(kind: Kind, number: u32, rest: &[u8]) -> Result<Header, Refusal>
     })
 }
 
-// A frame whose kind is known; one that has two numbers only has 0 for the third. DATA comes most: where the kind is at hand, the tests of the others fall away.
+// A frame whose kind is known; one that has two numbers only has 0 for the third.
 fn known_frame(kind: Kind, rest: &[u8]) -> Result<Header, Refusal>
     ensures { mapped (λ h. frame_of h (block_at (kind_number kind) rest.now)) (told result) ≡ read_frame_as (kind_number kind) rest.now }
 {
     frame_refusal(kind, rest)?;
     match kind {
-        Kind::Data => frame_of(Kind::Data, octets::load32(rest, NUMBER), rest),
-        Kind::Ack => frame_of(Kind::Ack, octets::load32(rest, NUMBER), rest),
+        Kind::Data | Kind::Ack => frame_of(kind, octets::load32(rest, NUMBER), rest),
         _ => frame_of(kind, 0, rest),
     }
 }

@@ -1,5 +1,6 @@
 use Prim.Native.Nat.{ℕ, ◌+◌, ◌≤◌}
 use mathlib.Core.Path.{◌≡◌, sym, ◌∙◌}
+use mathlib.Core.Logic.{◌⊎◌, ⊎_elim}
 use mathlib.Core.List.{List}
 use lib.ListN.{length}
 use Rattle.std.proofs.lemmas.Result.{err_from_is_err_and}
@@ -8,7 +9,7 @@ use Rattle.octets.proofs.Test.{all_yes}
 use Rattle.frame.specs.Layout.{numbers_size, control_numbers}
 use Rattle.frame.specs.Read.{size_questions}
 use Rattle.frame.specs.Answer.{kind_number}
-use Rattle.frame.specs.Frame.{DATA, ACK}
+use Rattle.frame.specs.Frame.{DATA}
 use Rattle.frame.specs.declared.Kind.{Kind}
 use Rattle.frame.specs.declared.Kind.TheVariants.{Data, Ack}
 use Rattle.frame.proofs.Classes.{kind_is_frame}
@@ -30,6 +31,9 @@ returns-in_err-frame_refusal c =
     rw (p.1, p.2) (frame_refused (kind_number k) c.args.rest.now (kind_is_frame k) (rw c.in_err-frame_refusal.was at c.frame_refusal.ensures) (refusal_some _))
 
 -- the number of a DATA or the count of an ACK, which is there
+at_least : (k : Kind) → (k ≡ Data) ⊎ (k ≡ Ack) → DATA ≤ kind_number k
+at_least k e = ⊎_elim (λ d. rw d (omega arith)) (λ a. rw a (omega arith)) e
+
 module _ (k : Kind) (r : List ℕ) where
   says : Numbered r (kind_number k)
   says = numbered r (kind_number k) (kind_is_frame k)
@@ -38,20 +42,12 @@ module _ (k : Kind) (r : List ℕ) where
   third d h = omega (arith, says.three d, there k r h)
 
 pub load32-requires : goal.load32-requires
-load32-requires c = third Data c.args.rest.now (omega arith) (rw c.in-Data.is at (rw c.in_ok-frame_refusal.was at c.frame_refusal.ensures))
-
-pub load32-requires-in-Ack : goal.load32-requires-in-Ack
-load32-requires-in-Ack c = third Ack c.args.rest.now (omega arith) (rw c.in-Ack.is at (rw c.in_ok-frame_refusal.was at c.frame_refusal.ensures))
+load32-requires c = third c.args.kind c.args.rest.now (at_least c.args.kind c.in-Data.is) (rw c.in_ok-frame_refusal.was at c.frame_refusal.ensures)
 
 pub frame_of-requires : goal.frame_of-requires
 frame_of-requires c =
-    let h = rw c.in-Data.is at (rw c.in_ok-frame_refusal.was at c.frame_refusal.ensures) in
-    (there Data c.args.rest.now h, c.load32.ensures ∙ sym ((says Data c.args.rest.now).number (omega arith)))
-
-pub frame_of-requires-in-Ack : goal.frame_of-requires-in-Ack
-frame_of-requires-in-Ack c =
-    let h = rw c.in-Ack.is at (rw c.in_ok-frame_refusal.was at c.frame_refusal.ensures) in
-    (there Ack c.args.rest.now h, c.load32-in-Ack.ensures ∙ sym ((says Ack c.args.rest.now).number (omega arith)))
+    let k = c.args.kind in
+    (there k c.args.rest.now (rw c.in_ok-frame_refusal.was at c.frame_refusal.ensures), c.load32.ensures ∙ sym ((says k c.args.rest.now).number (at_least k c.in-Data.is)))
 
 pub frame_of-requires-in_default : goal.frame_of-requires-in_default
 frame_of-requires-in_default c =
@@ -60,13 +56,8 @@ frame_of-requires-in_default c =
 
 pub returns-in-Data : goal.returns-in-Data
 returns-in-Data c =
-    let h = rw c.in_ok-frame_refusal.was at c.frame_refusal.ensures in
-    rw c.in-Data.is (c.frame_of.ensures ∙ sym (frame-numbers DATA c.args.rest.now (kind_is_frame Data) (sym (rw c.in-Data.is at h))))
-
-pub returns-in-Ack : goal.returns-in-Ack
-returns-in-Ack c =
-    let h = rw c.in_ok-frame_refusal.was at c.frame_refusal.ensures in
-    rw c.in-Ack.is (c.frame_of-in-Ack.ensures ∙ sym (frame-numbers ACK c.args.rest.now (kind_is_frame Ack) (sym (rw c.in-Ack.is at h))))
+    let k = c.args.kind in
+    c.frame_of.ensures ∙ sym (frame-numbers (kind_number k) c.args.rest.now (kind_is_frame k) (sym (rw c.in_ok-frame_refusal.was at c.frame_refusal.ensures)))
 
 pub returns-in_default : goal.returns-in_default
 returns-in_default c =
