@@ -265,6 +265,8 @@ impl<'a> Parts<'a> {
     }
 }
 
+// A record is lent at the start of a buffer that may be longer, and CalledLent of the calls on it speaks of every octet lent: so its octets stay a slice,
+// here and in the crates above.
 // The numbers of the record at the start of s.
 pub fn load_numbers(s: &[u8]) -> Numbers
     requires { record_size ≤ length s.now }
