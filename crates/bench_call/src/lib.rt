@@ -49,10 +49,10 @@ fn call_end(
         Called call o rec.old (cut_block s.now) out.old up.old rec.new out.new up.new result × (page.new ≡ page_after page.old o)) }
 {
     match link::plan_sound(call, rec, s) {
-        Err(refusal) => lent_record::refuse(rec, refusal),
+        Err(refusal) => lent_record::decline(rec, refusal),
         Ok(p) => {
             if !has_place(p.reply, count) {
-                return lent_record::refuse(rec, Refusal::LogFull);
+                return lent_record::decline(rec, Refusal::LogFull);
             }
             link::reserve(p, page);
             link::finish(call, p, page, rec, frame_read::cut_block(s), out, up)
@@ -155,7 +155,7 @@ fn do_task(
     match task {
         Ok(Some(call)) => call_end(call, rec, page, s, count, out, up),
         Ok(None) => lent_record::restart(rec, page),
-        Err(refusal) => lent_record::refuse(rec, refusal),
+        Err(refusal) => lent_record::decline(rec, refusal),
     }
 }
 

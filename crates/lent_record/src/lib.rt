@@ -95,7 +95,7 @@ pub fn stands(rec: &[u8]) -> Status
 
 // A refusal by any number tells how the record stands; all else is 0 where the buffer is too short for one.
 #[tactic(auto, using(crate::proofs::Told::tells_short), unfolding(crate::specs::Told::answer_of, crate::specs::Told::sent_of, call_spec::specs::Answers::block_of))]
-pub fn refuse_by(rec: &[u8], number: u8) -> Answer
+pub fn refuse(rec: &[u8], number: u8) -> Answer
     ensures { result ≡ answer_of rec.now (refused number) }
 {
     if rec.len() < RECORD_SIZE {
@@ -119,10 +119,10 @@ pub fn refuse_by(rec: &[u8], number: u8) -> Answer
 }
 
 // The answer to a call that is refused.
-pub fn refuse(rec: &[u8], refusal: Refusal) -> Answer
+pub fn decline(rec: &[u8], refusal: Refusal) -> Answer
     ensures { result ≡ answer_of rec.now (refused (refusal_number refusal)) }
 {
-    refuse_by(rec, refusal.number())
+    refuse(rec, refusal.number())
 }
 
 // Restarts an end, which leaves its record as the page says: closed, with L = 16 times the count of 00. It neither looks at the record that it
@@ -131,13 +131,13 @@ pub fn restart(rec: &mut [u8], page: &[u8]) -> Answer
     ensures { Restarted rec.old page.now rec.new result }
 {
     if rec.len() < RECORD_SIZE {
-        return refuse(rec, Refusal::ShortBuffer);
+        return decline(rec, Refusal::ShortBuffer);
     }
     if page.len() < octets::PAGE_SIZE {
-        return refuse(rec, Refusal::ShortBuffer);
+        return decline(rec, Refusal::ShortBuffer);
     }
     if !page::is_run(page) {
-        return refuse(rec, Refusal::WrongPage);
+        return decline(rec, Refusal::WrongPage);
     }
     let e = Endpoint::restarted(page::count_used(page));
     endpoint::encode(e, rec);

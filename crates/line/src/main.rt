@@ -2,10 +2,10 @@
 #![tactic(auto)]
 
 use line_io::{Buffers, Streams};
-use line_run::End;
+use line_run::OneEnd;
 
 fn main(rt: HostRuntime) {
-    let mut end = End {
+    let mut end = OneEnd {
         rec: [0; lent_record::RECORD_SIZE],
         page: [page::UNUSED; octets::PAGE_SIZE],
     };

@@ -46,7 +46,7 @@ fn refuse(rec: &[u8], refusal: Refusal, out: &mut [u8]) -> usize
     requires { answer_room ≤ length out.old }
     ensures { StartsWith (text rec.now (refused (refusal_number refusal))) out.old out.new result }
 {
-    let a = lent_record::refuse(rec, refusal);
+    let a = lent_record::decline(rec, refusal);
     answer_text::write_answer(a.status, &[], out)
 }
 

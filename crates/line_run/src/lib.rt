@@ -15,12 +15,12 @@ use line_io::{Buffers, Place, Responder, Streams};
 
 // One end: its record, and its page.
 #[derive(Drop)]
-pub struct End {
+pub struct OneEnd {
     pub rec: [u8; lent_record::RECORD_SIZE],
     pub page: [u8; octets::PAGE_SIZE],
 }
 
-impl Responder for End {
+impl Responder for OneEnd {
     ghost answering = { one_end };
 
     ghost state = { λ e. lent e.rec e.page };
@@ -39,7 +39,7 @@ impl Responder for End {
 }
 
 // A restart on a new page, which makes a fresh end, and then the lines.
-pub fn run(streams: Streams, end: &mut End, buffers: &mut Buffers) -> Place
+pub fn run(streams: Streams, end: &mut OneEnd, buffers: &mut Buffers) -> Place
     requires { end.old.page ≡ new_page }
     ensures { (Ran one_end answer_room fresh_end (lent end.new.rec end.new.page) buffers.new.input buffers.new.line buffers.new.output result)
         × (result.steps ≡ 0) }

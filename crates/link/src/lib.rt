@@ -142,7 +142,7 @@ pub fn perform(
         block: up.len(),
     };
     match plan_call(call, rec, page, s, room) {
-        Err(refusal) => lent_record::refuse(rec, refusal),
+        Err(refusal) => lent_record::decline(rec, refusal),
         Ok(p) => {
             reserve(p, page);
             finish(call, p, page, rec, frame_read::cut_block(s), out, up)
@@ -169,7 +169,7 @@ fn hear(
         block: up.len(),
     };
     match plan_call(Call::Receive, rec, page, s, room) {
-        Err(refusal) => lent_record::refuse(rec, refusal),
+        Err(refusal) => lent_record::decline(rec, refusal),
         Ok(p) => finish(Call::Receive, p, page, rec, block, out, up),
     }
 }

@@ -16,7 +16,7 @@ returns-in-Err c =
     let call = lent_call a.call a.s.now a.out.now a.up.now in
     let plan = plans l a.s.now a.out.now a.up.now a.call (Err c.in-Err.refusal) c.requires c.in-Err.ensures in
     let o = no-plan l c.requires.0.0.0 a.count call c.in-Err.refusal plan in
-    (turned_down o a.call a.rec.now (cut_block a.s.now) a.out.now a.up.now c.refuse.ensures, page_unchanged o)
+    (turned_down o a.call a.rec.now (cut_block a.s.now) a.out.now a.up.now c.decline.ensures, page_unchanged o)
 
 pub returns-then-not-has_place : goal.returns-then-not-has_place
 returns-then-not-has_place c =
@@ -25,7 +25,7 @@ returns-then-not-has_place c =
     let call = lent_call a.call a.s.now a.out.now a.up.now in
     let plan = plans l a.s.now a.out.now a.up.now a.call (Ok c.in-Ok.p) c.requires c.in-Ok.ensures in
     let o = full l c.requires.0.0.0 a.count call plan (sym c.has_place.ensures ∙ c.if-not-has_place.true) in
-    (turned_down o a.call a.rec.now (cut_block a.s.now) a.out.now a.up.now c.refuse-then-not-has_place.ensures, page_unchanged o)
+    (turned_down o a.call a.rec.now (cut_block a.s.now) a.out.now a.up.now c.decline-then-not-has_place.ensures, page_unchanged o)
 
 pub reserve-requires : goal.reserve-requires
 reserve-requires c =

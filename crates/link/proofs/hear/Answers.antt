@@ -17,7 +17,7 @@ finish-requires c =
 pub returns-in-Err : goal.returns-in-Err
 returns-in-Err c =
     let a = c.args in
-    turned_down c.in-Err.ensures Receive a.rec.now a.block.now a.out.now a.up.now c.refuse.ensures
+    turned_down c.in-Err.ensures Receive a.rec.now a.block.now a.out.now a.up.now c.decline.ensures
 
 pub returns-in-Ok : goal.returns-in-Ok
 returns-in-Ok c = c.finish.ensures _ (by_block c.requires c.in-Ok.ensures.1)

@@ -20,7 +20,7 @@ finish-requires c = (c.in-Ok.ensures.0, (omega arith, (_, by_block c.cut_block.e
 pub returns-in-Err : goal.returns-in-Err
 returns-in-Err c =
     let a = c.args in
-    (turned_down c.in-Err.ensures a.call a.rec.now (cut_block a.s.now) a.out.now a.up.now c.refuse.ensures, page_unchanged c.in-Err.ensures)
+    (turned_down c.in-Err.ensures a.call a.rec.now (cut_block a.s.now) a.out.now a.up.now c.decline.ensures, page_unchanged c.in-Err.ensures)
 
 pub returns-in-Ok : goal.returns-in-Ok
 returns-in-Ok c =
