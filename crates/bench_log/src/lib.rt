@@ -6,6 +6,8 @@ ghost use Rattle.octets.specs.Sizes.{longest_frame};
 ghost use Rattle.octets.specs.Octets.{put};
 ghost use Rattle.bench_log.specs.Log.{place_size, places, log_size, sender_at, length_at, frame_logged, holds, place};
 
+// The log is lent at the start of a buffer that may be longer, and BenchAnswered and LinePerformed speak of every octet of it: so it stays a slice. A sender
+// stays an octet: it may be any until question 13 is asked (holds), and C lends the log.
 // The octets of a place, the places, and the octets of all.
 pub const PLACE_SIZE: usize = FRAME_AT + octets::LONGEST_FRAME;
 
