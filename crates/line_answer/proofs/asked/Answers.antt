@@ -4,7 +4,7 @@ use Rattle.octets.specs.Octets.{Octets}
 use Rattle.octets.specs.Test.{first}
 use Rattle.lent_record.specs.Record.{record_questions}
 use Rattle.octets.specs.Sizes.{longest_frame}
-use Rattle.frame.proofs.Reading.{refusal_some}
+use Rattle.octets.proofs.Outcomes.{refusal_some}
 use Rattle.hexadecimal.proofs.Asked.{passed, fits, reads}
 use Rattle.line_answer.proofs.Lines.{asked_of, unready, asks-standing, line-asks, declined}
 use Rattle.line_answer.proofs.Standing.{standing-long, stands-there}
