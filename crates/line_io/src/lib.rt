@@ -21,6 +21,7 @@ pub const LONGEST_KEPT: usize = 2 * octets::LONGEST_FRAME + 1;
 // How far a program is. The input at hand is read up to end and used up to at; kept characters of a line that began in earlier
 // input are held; filled characters of output wait. One line is ready or none: what is held or, where nothing is, the input at
 // hand between from and to. The program is done where no steps are left; each step leaves fewer, so that every run ends.
+// PlaceFits is no invariant of the type: `ready` and `answered` take any place, and `emptied` and `answered_with` make one of any.
 #[derive(Clone, Copy)]
 pub struct Place {
     pub at: usize,
@@ -41,7 +42,8 @@ pub struct Streams {
     pub error: Stderr,
 }
 
-// The input at hand, what is held of a line, and the output that waits.
+// The input at hand, what is held of a line, and the output that waits. How much of each counts is the place's to say, apart from
+// its buffers: so `Stepped` and `Ran`, of which the theorems speak, have them.
 #[derive(Drop)]
 pub struct Buffers {
     pub input: [u8; BUFFER_SIZE],
