@@ -7,7 +7,8 @@ ghost use Rattle.answer_text.specs.Text.{as_line, answer_octets, answer_line, te
 
 use call_spec::Status;
 
-// Room for an answer: 153 characters for its line with the longest block, 157 for the line of the longest frame.
+// Room for an answer: 153 characters for its line with the longest block, 157 for the line of the longest frame. An answer is written to what is free of a
+// program's output, so that out stays a slice, here and in the crates above.
 pub const ANSWER_ROOM: usize = 2 * LONGEST_ANSWER + 1 + 2 * octets::LONGEST_FRAME + 1;
 
 // The octets of an answer line: its numbers, the count, the longest block.

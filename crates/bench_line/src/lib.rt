@@ -24,6 +24,7 @@ fn order_in(read: Result<usize, Refusal>, s: &[u8]) -> Result<Order, Refusal>
 
 // Plays a line, which is given without its line feed, on the bench with the records a and b and their pages, the log and so many places of it in
 // use. A frame that is sent goes to the start of out and to the next place of the log, a block that is collected to the start of up.
+// What is lent stays apart here and in the calls below that store: C lends each by itself (dock_bench), and LinePerformed says of each what is left in it.
 pub fn perform(
     a: &mut [u8],
     b: &mut [u8],

@@ -10,6 +10,7 @@ ghost use Rattle.bench_order.specs.Internal.{found, Findable, FindableIn, end_fo
 use bench_spec::{End, Order};
 use octets::Refusal;
 
+// The first octets of a line, and the second ones of a line 53. They are matched where they are read, and nowhere else: an enum of them would be read once.
 const REQUEST_A: u8 = 0x50;
 
 const REQUEST_B: u8 = 0x51;

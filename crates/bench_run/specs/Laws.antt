@@ -1,4 +1,4 @@
--- The law of what answers the lines: a line counts as what is kept of it.
+-- The law of what answers the lines: a line counts as what is kept of it. It stands here, proof and all, since an impl's law cites specs/ alone.
 use Rattle.std.specs.Prelude.{ℕ, zero, suc, ◌≡◌, List, [], refl}
 use Rattle.std.proofs.Common.{ap, sym, ◌∙◌}
 use Rattle.std.proofs.Math.Nat.{suc-ne-zero}

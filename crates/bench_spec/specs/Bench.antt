@@ -28,7 +28,7 @@ pub record Bench : Type 0 where
 abbrev pub bench_of : Lent → Lent → List ℕ → ℕ → Bench
 bench_of a b log count = record { a = a; b = b; log = log; count = count }
 
--- the number of an end, and the end of a number: A is 0, B is 1
+-- the number of an end, and the end of a number: A is 0, B is 1. Definitions speak of ends by number, as the log and the lines do.
 abbrev pub end_number : End → ℕ
 end_number A = 0
 end_number B = 1

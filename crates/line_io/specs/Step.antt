@@ -1,4 +1,4 @@
--- One step of a program: the contract of both programs' step, over what answers their lines and the room that an answer needs.
+-- One step of a program: the contract of step, which both programs run, over what answers their lines and the room that an answer needs.
 -- Before the step: the state s, the input in buf, what is held in line, what waits in out, and the place p. After it: s', buf', line', out' and q.
 use Rattle.std.specs.Prelude.{ℕ, ◌+◌, ◌-◌, ◌≤◌, ◌<◌, ◌≡◌, ◌≢◌, List, ◌++◌, length, take}
 use Rattle.line_split.specs.Split.{ended, unfinished, last, cut}

@@ -284,7 +284,7 @@ impl Buffers {
 }
 
 // One step of a program, with the answer where a line is ready.
-pub fn step<A: Responder>(
+fn step<A: Responder>(
     answers: &mut A,
     streams: Streams,
     buffers: &mut Buffers,
