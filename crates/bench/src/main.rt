@@ -6,11 +6,11 @@ use line_io::{Buffers, Streams};
 
 fn main(rt: HostRuntime) {
     let mut ends = BothEnds {
-        a: [0; lent_record::RECORD_SIZE],
-        b: [0; lent_record::RECORD_SIZE],
         a_page: [page::UNUSED; octets::PAGE_SIZE],
         b_page: [page::UNUSED; octets::PAGE_SIZE],
         log: [0; bench_log::LOG_SIZE],
+        a: [0; lent_record::RECORD_SIZE],
+        b: [0; lent_record::RECORD_SIZE],
         count: 0,
     };
     let mut buffers = Buffers::new();

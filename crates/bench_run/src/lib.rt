@@ -12,14 +12,15 @@ ghost use Rattle.bench_run.specs.Laws.{cuts};
 
 use line_io::{Buffers, Place, Responder, Streams};
 
-// Two ends, each a record and a page, and the log of count frames.
+// Two ends, each a page and a record, and the log of count frames. The pages stand first, so that they lie aligned: every call reads
+// all of them.
 #[derive(Drop)]
 pub struct BothEnds {
-    pub a: [u8; lent_record::RECORD_SIZE],
-    pub b: [u8; lent_record::RECORD_SIZE],
     pub a_page: [u8; octets::PAGE_SIZE],
     pub b_page: [u8; octets::PAGE_SIZE],
     pub log: [u8; bench_log::LOG_SIZE],
+    pub a: [u8; lent_record::RECORD_SIZE],
+    pub b: [u8; lent_record::RECORD_SIZE],
     pub count: usize,
 }
 

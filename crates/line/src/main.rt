@@ -6,8 +6,8 @@ use line_run::OneEnd;
 
 fn main(rt: HostRuntime) {
     let mut end = OneEnd {
-        rec: [0; lent_record::RECORD_SIZE],
         page: [page::UNUSED; octets::PAGE_SIZE],
+        rec: [0; lent_record::RECORD_SIZE],
     };
     let mut buffers = Buffers::new();
     line_run::run(Streams::from(&rt), &mut end, &mut buffers);

@@ -47,8 +47,8 @@ pub struct Streams {
 #[derive(Drop)]
 pub struct Buffers {
     pub input: [u8; BUFFER_SIZE],
-    pub line: [u8; LONGEST_KEPT],
     pub output: [u8; BUFFER_SIZE],
+    pub line: [u8; LONGEST_KEPT],
 }
 
 // What answers the lines of a program, in state after state.
@@ -179,8 +179,8 @@ impl Buffers {
     {
         Buffers {
             input: [0; BUFFER_SIZE],
-            line: [0; LONGEST_KEPT],
             output: [0; BUFFER_SIZE],
+            line: [0; LONGEST_KEPT],
         }
     }
 
@@ -298,8 +298,8 @@ fn step<A: Responder>(
     if q.has_line {
         let Buffers {
             input,
-            line,
             output,
+            line,
         } = buffers;
         let n = answers.answer(q.ready(input, line), &mut output[q.filled..]);
         return q.answered(n);

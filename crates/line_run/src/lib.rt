@@ -13,11 +13,11 @@ ghost use Rattle.line_run.specs.Laws.{cuts};
 
 use line_io::{Buffers, Place, Responder, Streams};
 
-// One end: its record, and its page.
+// One end: its page and its record. The page stands first, so that it lies aligned: every call reads all of it.
 #[derive(Drop)]
 pub struct OneEnd {
-    pub rec: [u8; lent_record::RECORD_SIZE],
     pub page: [u8; octets::PAGE_SIZE],
+    pub rec: [u8; lent_record::RECORD_SIZE],
 }
 
 impl Responder for OneEnd {
