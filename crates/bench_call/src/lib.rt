@@ -186,6 +186,7 @@ fn start_of(order: Result<Order, Refusal>) -> usize
 }
 
 // Carries out an order at an end, where all questions up to 13 are passed, or refuses it there. s are the octets of its line.
+// rec and page stay two parameters: of a struct that lends both, a clause has what they hold after as exit.0.now and exit.1.0.now, which is no plainer.
 pub fn carry_out(
     end: End,
     order: Result<Order, Refusal>,

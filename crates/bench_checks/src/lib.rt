@@ -73,7 +73,7 @@ fn restarts(restarted: Option<End>, end: End) -> bool
 }
 
 impl<'a> LentBench<'a> {
-    // The records a and b and their pages, the log, and so many places of it in use.
+    // The records a and b and their pages, the log, and so many places of it in use: one by one, as C lends them.
     pub fn new(
         a: &'a [u8],
         b: &'a [u8],

@@ -14,6 +14,7 @@ use bench_spec::{End, Order};
 use octets::Refusal;
 
 // What a line orders, whose octets are s. One that 1 or 2 refuses orders nothing, by their number.
+// A function and not a closure for and_then: what such a closure promises is out of the reach of the proof of its caller.
 #[tactic(auto, unfolding(crate::specs::Internal::order_in, octets::specs::Test::and_then))]
 fn order_in(read: Result<usize, Refusal>, s: &[u8]) -> Result<Order, Refusal>
     ensures { told result ≡ order_in (told read) s.now }

@@ -34,7 +34,7 @@ pub fn holds(log: &[u8], count: usize, n: usize) -> bool
     (log[at] <= 1) & ((SHORTEST_FRAME <= length) & (length <= octets::LONGEST_FRAME as u8))
 }
 
-// The sender of frame n, and the frame, a part of the log.
+// The sender of frame n, and the frame, a part of the log. The sender is the octet as it stands: until question 13 is passed it may be any of 256.
 #[tactic(auto, unfolding(crate::specs::Log::sender_at))]
 pub fn sender_of(log: &[u8], n: usize) -> u8
     requires { (log_size ≤ length log.now) × (n < places) }
