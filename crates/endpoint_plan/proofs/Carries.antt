@@ -17,6 +17,7 @@ use Rattle.octets.specs.declared.refusal.Refusal.{Refusal}
 use Rattle.octets.specs.Refusal.{refusal_number}
 use Rattle.octets.proofs.Test.{both, joined, by_eq, eq_yes, eq_no, passing, refusing_of}
 use Rattle.octets.proofs.Octets.{put-none}
+use Rattle.octets.proofs.Outcomes.{refusal_some}
 use Rattle.frame.specs.Frame.{Block}
 use Rattle.frame.specs.Read.{cut_block}
 use Rattle.frame.specs.Answer.{meant}
@@ -54,7 +55,7 @@ use Rattle.endpoint_plan.specs.Calls.{outcome_of}
 use Rattle.endpoint_plan.specs.Internal.{rooms_ok, input_of, Plannable, PlannedBy, PlansFor, Plans, PlansAny, Reserved}
 use Rattle.endpoint_plan.proofs.Messages.{unread, reads_as, carries_it, number_fits, accepted_short}
 use Rattle.endpoint_plan.proofs.Numbers.{local-after, receive-local}
-use Rattle.endpoint_plan.proofs.Ready.{some_number, Passes, all_passed, passes}
+use Rattle.endpoint_plan.proofs.Ready.{Passes, all_passed, passes}
 
 -- the parts of a record have their lengths
 pub long : (p : Parts) → Long (whole p)
@@ -323,7 +324,7 @@ module _ (e : Endpoint) (long : Long e) (page : List ℕ) (c : Arguments) where
   -- a refusal by its questions before 3 is what it comes to
   pub declined : (q : Refusal) → refusal_number q ≡ questions → outcome_of e page c ≡ refused (refusal_number q)
   unfolding outcome_of asked view
-  declined q h = ap (λ (n : ℕ). refusing n (does c.call c.octets (view e))) (sym h) ∙ refusing_of _ (refusal_number q) (some_number q)
+  declined q h = ap (λ (n : ℕ). refusing n (does c.call c.octets (view e))) (sym h) ∙ refusing_of _ (refusal_number q) (refusal_some q)
 
   module _ (z : questions ≡ 0) where
     -- where they are passed, it comes to what its octets do

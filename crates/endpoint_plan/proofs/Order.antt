@@ -9,6 +9,7 @@ use lib.ListN.{length}
 use Rattle.octets.specs.Sizes.{longest_frame, longest_block, page_size}
 use Rattle.octets.specs.Test.{when, if_eq, in_range, all_below, zeros, first, Outcome, ok, outcome, mapped, and_then, number_of}
 use Rattle.octets.specs.Octets.{size}
+use Rattle.octets.proofs.Outcomes.{refusal_some}
 use Rattle.frame.specs.Frame.{CONNECT, connect}
 use Rattle.frame.specs.Layout.{is_frame, is_request, has_block, layout, numbers_size}
 use Rattle.frame.specs.Read.{kind_of, after_head, request_at, fixed_ok, read_request}
@@ -27,7 +28,7 @@ use Rattle.endpoint.specs.View.{pack, view}
 use Rattle.endpoint.proofs.Held.{held, pack-sound}
 use Rattle.endpoint_plan.specs.Calls.{outcome_of}
 use Rattle.endpoint_plan.specs.Internal.{NotBeforeTheStore}
-use Rattle.endpoint_plan.proofs.Ready.{some_number, ready}
+use Rattle.endpoint_plan.proofs.Ready.{ready}
 
 abbrev connects : Arguments
 connects = given Request (CONNECT ∷ []) (rooms longest_frame longest_block)
@@ -77,4 +78,4 @@ not_before (Ok p) w = λ h.
     ∙ ap (λ (a : abstract.Endpoint). (endpoint_after a (perform (ask connect) fresh)).local) (held fresh is_sound)
     ∙ first-number in
     omega (arith, l, none-used)
-not_before (Err q) w = some_number q (ap number_of (sym w ∙ comes) ∙ accepted)
+not_before (Err q) w = refusal_some q (ap number_of (sym w ∙ comes) ∙ accepted)

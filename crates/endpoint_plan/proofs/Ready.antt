@@ -1,7 +1,6 @@
 -- Questions 11, 12 and 15 of a call, and 11 and 15 of a restart; what follows them.
 use Prim.Native.Nat.{ℕ, zero, suc, ◌≤◌}
 use mathlib.Core.Path.{◌≡◌, refl}
-use mathlib.Core.Logic.{◌≢◌}
 use mathlib.Core.Bool.{Bool, true, false, ◌&&◌, false≢true}
 use mathlib.Core.List.{List, ◌∷◌}
 use native.Mathlib.Omega.{arith}
@@ -10,9 +9,6 @@ use borrow.Author.Tests.{le-leb, leb-true}
 use Rattle.octets.specs.Sizes.{longest_frame, page_size}
 use Rattle.octets.specs.Test.{when, Question, first, Outcome, refusing, number_of}
 use Rattle.octets.proofs.Test.{all_yes}
-use Rattle.octets.specs.Refusal.{refusal_number}
-use Rattle.octets.specs.declared.refusal.Refusal.{Refusal}
-use Rattle.octets.specs.declared.refusal.Refusal.TheVariants.{BadLength, BadDigit, UnknownKind, BadSize, BadCount, BadBlock, BadNumber, WrongState, NoNumberLeft, QueueFull, ShortBuffer, Unsound, NoSuchFrame, LogFull, WrongPage}
 use Rattle.page.specs.Page.{goes_with}
 use Rattle.protocol.specs.Endpoint as abstract
 use Rattle.protocol.specs.Table.{Step}
@@ -21,24 +17,6 @@ use Rattle.endpoint.specs.declared.Endpoint.{Endpoint}
 use Rattle.endpoint.specs.View.{view}
 use Rattle.endpoint.specs.Sound.{sound}
 use Rattle.endpoint_plan.specs.Calls.{outcome_of}
-
--- a refusal has a number
-pub some_number : (q : Refusal) → refusal_number q ≢ 0
-some_number BadLength e = absurd (omega arith)
-some_number BadDigit e = absurd (omega arith)
-some_number UnknownKind e = absurd (omega arith)
-some_number BadSize e = absurd (omega arith)
-some_number BadCount e = absurd (omega arith)
-some_number BadBlock e = absurd (omega arith)
-some_number BadNumber e = absurd (omega arith)
-some_number WrongState e = absurd (omega arith)
-some_number NoNumberLeft e = absurd (omega arith)
-some_number QueueFull e = absurd (omega arith)
-some_number ShortBuffer e = absurd (omega arith)
-some_number Unsound e = absurd (omega arith)
-some_number NoSuchFrame e = absurd (omega arith)
-some_number LogFull e = absurd (omega arith)
-some_number WrongPage e = absurd (omega arith)
 
 -- 11 of two buffers, asked as one
 pub short_rooms : (a b : Bool) (qs : List Question) → (a && b) ≡ false → 11 ≡ first ((11, a) ∷ (11, b) ∷ qs)
