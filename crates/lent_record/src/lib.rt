@@ -18,11 +18,12 @@ use step_plan::Notice;
 pub const RECORD_SIZE: usize = endpoint::RECORD_SIZE;
 
 // What a status tells where no question refuses, and where nothing has come about.
-const SUCCESS: u8 = 0;
+pub const SUCCESS: u8 = 0;
 
 const NO_NOTICE: u8 = Notice::Nothing as u8;
 
-// What a call on a lent record answers; sent is the length of the frame sent, block that of the block handed up.
+// What a call on a lent record answers; sent is the length of the frame sent, block that of the block handed up. Either is 0 where there is none, as
+// `answer_in` and C have it.
 #[derive(Clone, Copy)]
 pub struct Answer {
     pub status: Status,
@@ -103,7 +104,7 @@ pub fn refuse(rec: &[u8], number: u8) -> Answer
             status: Status {
                 number,
                 state: 0,
-                notice: 0,
+                notice: NO_NOTICE,
                 local: 0,
                 remote: 0,
             },
