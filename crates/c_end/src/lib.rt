@@ -74,19 +74,13 @@ pub extern "C" fn dock_receive(
         rec.old (cut_block s.now) out.old [] rec.new out.new []
         (answer_in result state.new notice.new local.new remote.new sent.new block.new) }
 {
-    let mut number: u8 = 0;
-    let up = link::receive(
-        rec,
-        page,
-        s,
-        out,
-        &mut number,
-        state,
-        notice,
-        local,
-        remote,
-        sent,
-    );
-    *block = up.len();
-    number
+    let (answer, _) = link::receive(rec, page, s, out);
+    let told = answer.status;
+    *state = told.state;
+    *notice = told.notice;
+    *local = told.local;
+    *remote = told.remote;
+    *sent = answer.sent;
+    *block = answer.block;
+    told.number
 }

@@ -64,13 +64,6 @@ pub page_unchanged : {o : Outcome Step} {n : ℕ} → o ≡ refused n → {page 
 unfolding page_after
 page_unchanged e = rw e refl
 
--- an answer with the same block's length
-pub with_block : {k : Call} {o : Outcome Step} {rec s out up rec' out' up' : List ℕ} (a : Answer) → Called k o rec s out up rec' out' up' a → (b : ℕ) → b ≡ a.block
-    → Called k o rec s out up rec' out' up' (record { status = a.status; sent = a.sent; block = b })
-with_block {k} {s = s} {up' = up'} a c b e =
-    let h : record { status = a.status; sent = a.sent; block = b } ≡ a = λ i. record { status = a.status; sent = a.sent; block = e i } in
-    record { answer = h ∙ c.answer; end = c.end; buffer = c.buffer; block_buffer = c.block_buffer; block = ap (λ (n : ℕ). block_part k s up' n) e ∙ c.block }
-
 -- the block handed up is as long as the answer tells
 pub part_long : {k : Call} {o : Outcome Step} {rec s out up rec' out' up' : List ℕ} {a : Answer} → Called k o rec s out up rec' out' up' a
     → length (block_part k s up' a.block) ≡ a.block

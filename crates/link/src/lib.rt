@@ -18,17 +18,14 @@ ghost use Rattle.endpoint_places.specs.Internal.{PlanFits, carried};
 ghost use Rattle.endpoint_plan.specs.Internal.{PlansFor, PlansAny, Reserved};
 ghost use Rattle.lent_record.specs.Record.{format};
 ghost use Rattle.link.specs.Internal.{PlansLent};
-ghost use Rattle.link.specs.Lent.{Called, lent_outcome, CalledLent, answer_in};
+ghost use Rattle.link.specs.Lent.{Called, lent_outcome, CalledLent};
 
 use call_spec::{Call, Status};
 use endpoint::{BLOCKS_AT, Endpoint, HELD_BLOCKS_AT, HELD_LENGTHS_AT, LENGTHS_AT, Parts};
 use endpoint_plan::Rooms;
-use lent_record::{Answer, RECORD_SIZE};
+use lent_record::{Answer, RECORD_SIZE, SUCCESS};
 use octets::Refusal;
 use step_plan::Plan;
-
-// What an answer tells where no question refuses.
-const SUCCESS: u8 = 0;
 
 // The plan of a call where 11, 12 and 15 are passed.
 pub fn plan_sound(call: Call, rec: &[u8], s: &[u8]) -> Result<Plan, Refusal>
@@ -174,33 +171,12 @@ fn hear(
     }
 }
 
-// Receives the frame s. Gives the block handed up, a part of s, empty where there is none; the number, state, notice, L, D and
-// the length of the frame sent go to the last six: dock_receive of c_end, which C calls, hands on the places that it is told to write them to.
-pub fn receive<'a>(
-    rec: &mut [u8],
-    page: &[u8],
-    s: &'a [u8],
-    out: &mut [u8],
-    number: &mut u8,
-    state: &mut u8,
-    notice: &mut u8,
-    local: &mut u32,
-    remote: &mut u32,
-    sent: &mut usize,
-) -> &'a [u8]
+// Receives the frame s. Gives what is told, and the block handed up: a part of s, empty where there is none.
+pub fn receive<'a>(rec: &mut [u8], page: &[u8], s: &'a [u8], out: &mut [u8]) -> (Answer, &'a [u8])
     ensures { (let o : Outcome Step = lent_outcome Receive rec.old page.now s.now out.old [] in
-        Called Receive o rec.old (cut_block s.now) out.old [] rec.new out.new []
-        (answer_in number.new state.new notice.new local.new remote.new sent.new (length result.now))
-        × (result.now ≡ block_of o)) }
+        Called Receive o rec.old (cut_block s.now) out.old [] rec.new out.new [] result.0 × (result.1.now ≡ block_of o)) }
 {
     let block = frame_read::cut_block(s);
     let a = hear(rec, page, s, block, out, &mut []);
-    let told = a.status;
-    *number = told.number;
-    *state = told.state;
-    *notice = told.notice;
-    *local = told.local;
-    *remote = told.remote;
-    *sent = a.sent;
-    &block[..a.block]
+    (a, &block[..a.block])
 }
