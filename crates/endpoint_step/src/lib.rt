@@ -18,7 +18,7 @@ use endpoint_plan::Rooms;
 use octets::Refusal;
 use step_plan::{Notice, Places, Plan};
 
-// What an answer tells where no question refuses, and where nothing has come about.
+// What an answer tells where no question refuses, and where nothing has come about. A call by value stands on no lent record, so that it has its own.
 const SUCCESS: u8 = 0;
 
 const NO_NOTICE: u8 = Notice::Nothing as u8;
@@ -61,7 +61,7 @@ fn carry_out(e: Endpoint, p: Plan, block: &[u8]) -> Endpoint
 // What a call by value answers. number is document 01's number of the refusal, 0 for success; sent the length of the frame sent, which
 // stands at the start of the caller's buffer (0: none); block the length of the block handed up (0: none), which stands in the caller's
 // own received frame, from octet 14 on, or, of a request, at the start of the buffer lent for it. number and notice stay numbers: step_answer_of gives
-// hosts those of document 01.
+// hosts those of document 01. sent and block are 0 where there is none, as `answer_in` and C have it.
 #[derive(Clone, Copy)]
 pub struct StepAnswer {
     pub number: u8,
