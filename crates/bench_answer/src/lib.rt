@@ -20,6 +20,7 @@ const DIGIT_FIVE: u8 = 53;
 const DIGIT_ZERO: u8 = 48;
 
 // The block handed up, of n octets: in the log from at on; one collected, whose at is 0, at the start of up.
+#[tactic(auto, using(octets::proofs::Test::picks), unfolding(bench_call::specs::Answer::bench_block_at))]
 fn block_of<'a>(at: usize, n: usize, log: &'a [u8], up: &'a [u8]) -> &'a [u8]
     requires { length (bench_block_at at n log.now up.now) ≡ n }
     ensures { result.now ≡ bench_block_at at n log.now up.now }
