@@ -40,7 +40,7 @@ fn tell(r: BenchAnswer, block: &[u8], frame: &[u8], out: &mut [u8]) -> usize
     ensures { StartsWith (lead (end_number r.end) ++ text_of r.status block.now (take r.sent frame.now)) out.old out.new result }
 {
     out[0] = DIGIT_FIVE;
-    out[1] = DIGIT_ZERO + r.end as u8;
+    out[1] = DIGIT_ZERO + r.end.number();
     let told = r.status;
     let sent = r.sent;
     let n = answer_text::write_text(told, block, &frame[..sent], &mut out[2..]);

@@ -69,7 +69,7 @@ fn note(end: End, log: &mut [u8], count: usize, sent: &[u8]) -> usize
     if sent.is_empty() {
         return count;
     }
-    bench_log::enter(log, count, end as u8, sent);
+    bench_log::enter(log, count, end.number(), sent);
     count + 1
 }
 
