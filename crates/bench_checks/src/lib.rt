@@ -1,7 +1,7 @@
-// Questions 11, 12 and 15 of all that is lent to the bench.
+// Questions 11, 12 and 15 of all that is lent to the bench, and the end that a logged frame is for.
 #![tactic(auto)]
 
-ghost use Rattle.std.specs.Prelude.{◌≡◌, ◌&&◌, ◌==◌, true, leb, length};
+ghost use Rattle.std.specs.Prelude.{◌≡◌, ◌-◌, ◌≤◌, ◌<◌, ◌&&◌, ◌==◌, true, leb, length};
 ghost use Rattle.octets.specs.Sizes.{page_size};
 ghost use Rattle.octets.specs.Refusal.{refusal_in};
 ghost use Rattle.octets.specs.Test.{when, first};
@@ -11,6 +11,7 @@ ghost use Rattle.call_spec.specs.Claim.{lent};
 ghost use Rattle.protocol.specs.Endpoint.{all_of};
 ghost use Rattle.endpoint.specs.Record.{record_size};
 ghost use Rattle.lent_record.specs.Record.{format, paged_for};
+ghost use Rattle.bench_log.specs.Log.{places, log_size, sender_at};
 ghost use Rattle.bench_spec.specs.Bench.{bench_of, end_number, restarted_number};
 ghost use Rattle.bench_checks.specs.Ready.{lent_in, bench_in, ready_questions};
 ghost use Rattle.bench_checks.specs.Internal.{Long, room_tests, sound_tests, page_tests};
@@ -150,4 +151,15 @@ pub fn ready(
         return Err(Refusal::WrongPage);
     }
     Ok(())
+}
+
+// The end that frame n of the log is for: the one that did not send it.
+pub fn receiver_of(log: &[u8], n: usize) -> End
+    requires { (log_size ≤ length log.now) × (n < places) }
+    ensures { end_number result ≡ 1 - sender_at n log.now }
+{
+    match bench_log::sender_of(log, n) {
+        0 => End::B,
+        _ => End::A,
+    }
 }

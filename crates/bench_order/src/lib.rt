@@ -109,13 +109,7 @@ pub fn end_for(order: Result<Order, Refusal>, log: &[u8]) -> End
 {
     match order {
         Ok(Order::Request(end) | Order::Restart(end)) => end,
-        Ok(Order::Deliver(n)) => {
-            if bench_log::sender_of(log, n) == 0 {
-                End::B
-            } else {
-                End::A
-            }
-        }
+        Ok(Order::Deliver(n)) => bench_checks::receiver_of(log, n),
         Err(_) => End::A,
     }
 }

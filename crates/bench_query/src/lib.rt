@@ -15,6 +15,7 @@ ghost use Rattle.bench_query.specs.Found.{changes, would_change, first_frame};
 ghost use Rattle.bench_query.specs.Internal.{BenchReady};
 
 use bench_checks::LentBench;
+use bench_spec::End;
 use call_spec::Call;
 use octets::Refusal;
 
@@ -40,10 +41,10 @@ fn would_change(bench: LentBench, n: usize) -> bool
         return false;
     }
     let s = bench_log::frame_of(bench.log, n);
-    if bench_log::sender_of(bench.log, n) == 0 {
-        return changes(bench.b.rec, s, bench.count);
+    match bench_checks::receiver_of(bench.log, n) {
+        End::A => changes(bench.a.rec, s, bench.count),
+        End::B => changes(bench.b.rec, s, bench.count),
     }
-    changes(bench.a.rec, s, bench.count)
 }
 
 // Asks 11, 12 and 15 of the records, the pages, the log and the count, then frame by frame from the front: the number of the first that would, if
