@@ -10,8 +10,8 @@ use lib.Dec.{eqb}
 use Rattle.std.specs.Prelude.{Option, None, Some}
 use Rattle.octets.specs.Test.{when, first, refused, ok, outcome}
 use Rattle.octets.proofs.Test.{both, joined, split, by_eq, by_lt, refused_of}
+use Rattle.octets.proofs.Outcomes.{refusal_some}
 use Rattle.octets.specs.declared.refusal.Refusal.{Refusal}
-use Rattle.octets.specs.declared.refusal.Refusal.TheVariants.{BadLength, BadDigit, UnknownKind, BadSize, BadCount, BadBlock, BadNumber, WrongState, NoNumberLeft, QueueFull, ShortBuffer, Unsound, NoSuchFrame, LogFull, WrongPage}
 use Rattle.octets.specs.Refusal.{refusal_number}
 use Rattle.octets.specs.Sizes.{longest_frame, longest_block}
 use Rattle.call_spec.specs.Calls.{rooms}
@@ -19,24 +19,6 @@ use Rattle.bench_spec.specs.Bench.{Bench, neither}
 use Rattle.bench_checks.specs.Ready.{ready_questions}
 use Rattle.bench_query.specs.Found.{equal, would_change, lowest, query_questions, first_frame, Means}
 use Rattle.bench_query.proofs.Delivery.{beyond}
-
--- no refusal has the number of success
-numbered : (r : Refusal) → refusal_number r ≢ 0
-numbered BadLength z = omega arith
-numbered BadDigit z = omega arith
-numbered UnknownKind z = omega arith
-numbered BadSize z = omega arith
-numbered BadCount z = omega arith
-numbered BadBlock z = omega arith
-numbered BadNumber z = omega arith
-numbered WrongState z = omega arith
-numbered NoNumberLeft z = omega arith
-numbered QueueFull z = omega arith
-numbered ShortBuffer z = omega arith
-numbered Unsound z = omega arith
-numbered NoSuchFrame z = omega arith
-numbered LogFull z = omega arith
-numbered WrongPage z = omega arith
 
 -- the test of two lists
 pub equal_so : (s t : List ℕ) → equal s t ≡ true → s ≡ t
@@ -59,9 +41,6 @@ so_equal (x ∷ s) = joined (eq-eqb x x refl) (so_equal s)
 module _ (p : ℕ → Bool) where
   abbrev left : ℕ → ℕ → Option ℕ
   left i n = lowest p i (n - i)
-
-  pub all_left : (n : ℕ) → left 0 n ≡ lowest p 0 n
-  all_left n = let e : n - 0 ≡ n = omega arith in ap (lowest p 0) e
 
   one_left : (i n : ℕ) → i < n → left i n ≡ when (p i) (Some i) (left (i + 1) n)
   unfolding lowest
@@ -126,7 +105,7 @@ module _ (w : Bench) where
   asked e = e
 
   pub declined : (r : Refusal) → refusal_number r ≡ first (ready_questions neither w (rooms longest_frame longest_block)) → refused (refusal_number r) ≡ first_frame w
-  declined r e = refuses (asked e) (numbered r)
+  declined r e = refuses (asked e) (refusal_some r)
 
   -- and where they do not
   pub names : first (query_questions w) ≡ 0 → {f : Option ℕ} → lowest (would_change w) 0 w.count ≡ f → ok f ≡ first_frame w
