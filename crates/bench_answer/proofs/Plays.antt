@@ -1,10 +1,10 @@
 -- From what a bench line answers to its text.
-use Prim.Native.Nat.{ℕ, ◌+◌, ◌-◌, ◌*◌, ◌≤◌}
+use Prim.Native.Nat.{ℕ, ◌-◌, ◌≤◌}
 use mathlib.Core.Path.{◌≡◌, refl, sym, subst, ap, ◌∙◌}
 use mathlib.Core.Bool.{Bool, true, false}
 use mathlib.Core.List.{List, [], ◌∷◌, ◌++◌}
 use native.Mathlib.Omega.{arith}
-use lib.ListN.{length, take, drop, replicate, length-take}
+use lib.ListN.{length, take, drop, replicate}
 use Rattle.frame.specs.Frame.{Block}
 use Rattle.protocol.specs.Table.{Step}
 use Rattle.octets.specs.Sizes.{longest_frame, longest_block}
@@ -19,12 +19,11 @@ use Rattle.lent_record.specs.Told.{status_of, sent_of}
 use Rattle.lent_record.specs.Record.{format}
 use Rattle.lent_record.proofs.Told.{sent_fits, sent_taken}
 use Rattle.link.proofs.Answers.{block_short}
-use Rattle.bench_log.specs.Log.{place_size, sender_at, length_at, frame_logged, holds}
+use Rattle.bench_log.specs.Log.{sender_at, frame_logged, holds}
 use Rattle.answer_text.specs.Text.{text_of, StartsWith}
 use Rattle.bench_spec.specs.declared.Order.{Order}
 use Rattle.bench_spec.specs.declared.Order.TheVariants as order
 use Rattle.bench_spec.specs.Bench.{Bench, bench_of, lent_at, At, delivery, end_number, order_of, order_asks, octets_ask, line_asks, comes, end_of}
-use Rattle.bench_spec.proofs.Ends.{same_number, known}
 use Rattle.bench_call.specs.declared.BenchAnswer.{BenchAnswer}
 use Rattle.bench_call.specs.Answer.{bench_block_at, bench_answer_of}
 use Rattle.bench_call.proofs.Does.{with_14}
@@ -99,10 +98,6 @@ blocks = replicate longest_block 0
 
 -- what a line's answer says of its text
 module _ {w : Bench} {q : Outcome At} {start : ℕ} {a b : Lent} {log frame up : List ℕ} {r : BenchAnswer} (p : Performed w q start frames blocks a b log frame up r) where
-  end_is : end_of q ≤ 1 → end_number r.end ≡ end_of q
-  unfolding bench_answer_of
-  end_is h = ap (λ (x : BenchAnswer). end_number x.end) p.answer ∙ same_number (end_of q) h
-
   block_is : r.block ≡ length (block_of (comes w q))
   unfolding bench_answer_of
   block_is = ap (λ (x : BenchAnswer). x.block) p.answer
@@ -125,7 +120,7 @@ module _ {w : Bench} {q : Outcome At} {start : ℕ} {a b : Lent} {log frame up :
   unfolding bench_answer_of
   told_is = ap (λ (x : BenchAnswer). x.status) p.answer
 
-  pub gives : end_of q ≤ 1 → {block : Block} → block ≡ bench_block_at r.at r.block log up → {out out' : List ℕ} {k : ℕ} → StartsWith (lead (end_number r.end) ++ text_of r.status block (take r.sent frame)) out out' k
+  pub gives : end_number r.end ≡ end_of q → {block : Block} → block ≡ bench_block_at r.at r.block log up → {out out' : List ℕ} {k : ℕ} → StartsWith (lead (end_number r.end) ++ text_of r.status block (take r.sent frame)) out out' k
       → BenchAnswered w q out (bench_of a b log r.count) out' k
   unfolding bench_text
-  gives h e g = record { begins = rw (end_is h, told_is, e, p.handed, sent_taken frames (comes w q) p.buffer sent_is) at g; bench = p.bench }
+  gives h e g = record { begins = rw (h, told_is, e, p.handed, sent_taken frames (comes w q) p.buffer sent_is) at g; bench = p.bench }

@@ -18,16 +18,18 @@ use Rattle.call_spec.specs.Calls.{rooms}
 use Rattle.call_spec.specs.Claim.{Lent}
 use Rattle.bench_spec.specs.declared.Order.{Order}
 use Rattle.bench_spec.specs.declared.Order.TheVariants as order
-use Rattle.bench_spec.specs.Bench.{Bench, order_of, end_restarted}
+use Rattle.bench_spec.specs.Bench.{Bench, end_number, order_of, end_restarted, end_of}
+use Rattle.bench_spec.proofs.Ends.{same_number}
+use Rattle.bench_spec.proofs.Ends as ends
 use Rattle.bench_checks.specs.Ready.{ready_questions}
 use Rattle.bench_call.specs.Internal.{task_of, call_by, order_outcome, OrderReady, Does}
 use Rattle.bench_call.specs.declared.BenchAnswer.{BenchAnswer}
-use Rattle.bench_call.specs.Answer.{start_of}
+use Rattle.bench_call.specs.Answer.{start_of, bench_answer_of}
 use Rattle.bench_order.specs.Performed.{line_start, Performed}
 use Rattle.bench_order.specs.Internal.{asks_ready, Asked, found, FindableIn, decided, end_for, EndKnown}
 use Rattle.bench_order.proofs.Plays.{findable, decides, Fine, fine, end_known, is_ready, place-a, place-b, any_start}
 use Rattle.bench_order.proofs.Plays as order_plays
-use Rattle.bench_line.specs.Performed.{LinePerformed}
+use Rattle.bench_line.specs.Performed.{asks_lent, LinePerformed}
 use Rattle.bench_line.specs.Internal.{length_in, order_in}
 use Rattle.bench_line.proofs.Asked.{passes, some_octet, declined}
 use Rattle.bench_line.proofs.Asked as asked
@@ -135,3 +137,9 @@ module _ (w : Bench) (text out up t : List ℕ) (l : length t ≡ longest_frame)
         at_b y x =
             performs text t l h.1 h.0 length-is f w out up
             (order_plays.plays w.a w.b w.log w.count (take n s) out up o is-decided asked-first z (place-b w.a w.b w.log w.count (take n s) out up y) x)
+
+-- the end that is told, as a number
+pub named : (w : Bench) (text out up : List ℕ) {a b : Lent} {log out' up' : List ℕ} {r : BenchAnswer} → LinePerformed w text out up a b log out' up' r
+    → end_number r.end ≡ end_of (asks_lent w text out up)
+unfolding bench_answer_of
+named w text out up p = ap (λ (x : BenchAnswer). end_number x.end) p.answer ∙ same_number (end_of (asks_lent w text out up)) (ends.known w text (rooms (length out) (length up)))

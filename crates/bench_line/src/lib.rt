@@ -4,8 +4,8 @@
 ghost use Rattle.std.specs.Prelude.{◌≡◌};
 ghost use Rattle.octets.specs.Refusal.{told};
 ghost use Rattle.call_spec.specs.Claim.{lent};
-ghost use Rattle.bench_spec.specs.Bench.{Bench, bench_of};
-ghost use Rattle.bench_line.specs.Performed.{LinePerformed};
+ghost use Rattle.bench_spec.specs.Bench.{Bench, bench_of, end_number, end_of};
+ghost use Rattle.bench_line.specs.Performed.{LinePerformed, asks_lent};
 ghost use Rattle.bench_line.specs.Internal.{order_in};
 
 use bench_call::BenchAnswer;
@@ -37,9 +37,10 @@ pub fn perform(
     out: &mut [u8],
     up: &mut [u8],
 ) -> BenchAnswer
-    ensures { (let w : Bench = bench_of (lent a.old a_page.old) (lent b.old b_page.old) log.old count in
+    ensures answers { (let w : Bench = bench_of (lent a.old a_page.old) (lent b.old b_page.old) log.old count in
         LinePerformed w line.now out.old up.old
         (lent a.new a_page.new) (lent b.new b_page.new) log.new out.new up.new result) }
+    ensures end { end_number result.end ≡ end_of (asks_lent (bench_of (lent a.old a_page.old) (lent b.old b_page.old) log.old count) line.now out.old up.old) }
 {
     let mut s = [0u8; octets::LONGEST_FRAME];
     let read = hexadecimal::read(line, &mut s);

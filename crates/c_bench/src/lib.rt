@@ -38,7 +38,7 @@ pub extern "C" fn dock_bench(
 {
     let r = bench_line::perform(a, b, a_page, b_page, log, *count, line, out, up);
     *count = r.count;
-    *end = r.end as u8;
+    *end = r.end.number();
     let told = r.status;
     *state = told.state;
     *notice = told.notice;

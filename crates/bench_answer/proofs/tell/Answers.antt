@@ -1,4 +1,4 @@
-use Rattle.std.proofs.Common.{◌≡◌, length, take, arith, rules, length-take}
+use Rattle.std.proofs.Common.{take, arith, rules, length-take}
 use Rattle.bench_answer.proofs.Leads.{text_short, tells}
 use Rattle.bench_answer.proofs.tell.Goals as goal
 

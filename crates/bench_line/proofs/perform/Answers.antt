@@ -1,8 +1,8 @@
-use Rattle.std.proofs.Common.{◌≡◌, ◌≢◌, length, replicate, refl, sym, ◌∙◌, ap, arith, length-take-le}
+use Rattle.std.proofs.Common.{◌≡◌, length, replicate, refl, sym, ap, arith, length-take-le}
 use Rattle.octets.specs.Sizes.{longest_frame}
 use Rattle.call_spec.specs.Claim.{lent}
 use Rattle.bench_spec.specs.Bench.{bench_of, end_number}
-use Rattle.bench_line.proofs.Plays.{in_room, can-be-found, known, ready_at_a, ready_at_b, at_a, at_b}
+use Rattle.bench_line.proofs.Plays.{in_room, can-be-found, known, ready_at_a, ready_at_b, at_a, at_b, named}
 use Rattle.bench_line.proofs.perform.Goals as goal
 
 -- as many octets were read as there is room for
@@ -44,14 +44,26 @@ carry_out-requires-in-B c =
     let w = bench_of (lent a.a.now a.a_page.now) (lent a.b.now a.b_page.now) a.log.now a.count in
     ready_at_b w a.line.now a.out.now a.up.now (replicate longest_frame 0) refl c.read-read.result c.read-read.ensures c.unwrap_or.ensures c.order_in-order.ensures c.end_restarted.ensures c.new-bench.ensures c.ready-ready.ensures c.decide-decided.ensures
 
-pub returns-in-A : goal.returns-in-A
-returns-in-A c =
+pub returns-in-A-clause-answers : goal.returns-in-A-clause-answers
+returns-in-A-clause-answers c =
     let a = c.args in
     let w = bench_of (lent a.a.now a.a_page.now) (lent a.b.now a.b_page.now) a.log.now a.count in
     at_a w a.line.now a.out.now a.up.now (replicate longest_frame 0) refl c.read-read.result c.read-read.ensures c.unwrap_or.ensures c.order_in-order.ensures c.end_restarted.ensures c.new-bench.ensures c.ready-ready.ensures c.decide-decided.ensures c.end_for-end.ensures (ap end_number c.in-A.is) c.carry_out.ensures
 
-pub returns-in-B : goal.returns-in-B
-returns-in-B c =
+pub returns-in-A-clause-end : goal.returns-in-A-clause-end
+returns-in-A-clause-end c =
+    let a = c.args in
+    let w = bench_of (lent a.a.now a.a_page.now) (lent a.b.now a.b_page.now) a.log.now a.count in
+    named w a.line.now a.out.now a.up.now (returns-in-A-clause-answers c)
+
+pub returns-in-B-clause-answers : goal.returns-in-B-clause-answers
+returns-in-B-clause-answers c =
     let a = c.args in
     let w = bench_of (lent a.a.now a.a_page.now) (lent a.b.now a.b_page.now) a.log.now a.count in
     at_b w a.line.now a.out.now a.up.now (replicate longest_frame 0) refl c.read-read.result c.read-read.ensures c.unwrap_or.ensures c.order_in-order.ensures c.end_restarted.ensures c.new-bench.ensures c.ready-ready.ensures c.decide-decided.ensures c.end_for-end.ensures (λ z. omega (arith, ap end_number c.in-B.is, z)) c.carry_out-in-B.ensures
+
+pub returns-in-B-clause-end : goal.returns-in-B-clause-end
+returns-in-B-clause-end c =
+    let a = c.args in
+    let w = bench_of (lent a.a.now a.a_page.now) (lent a.b.now a.b_page.now) a.log.now a.count in
+    named w a.line.now a.out.now a.up.now (returns-in-B-clause-answers c)
