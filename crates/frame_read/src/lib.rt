@@ -10,8 +10,8 @@ ghost use Rattle.frame.specs.Layout.{numbers_size, data_numbers};
 ghost use Rattle.frame.specs.Answer.{class_of, kind_number, frame_of, request_of, request_number};
 
 use frame::{
-    ACK_NUMBERS, CONTROL_NUMBERS, Class, DATA_NUMBERS, Header, Kind, NUMBER, QUOTED,
-    RequestKind, SEND_NUMBERS, SENDER,
+    ACK_NUMBERS, CONTROL_NUMBERS, Class, DATA_NUMBERS, Header, Kind, NUMBER, QUOTED, RequestKind,
+    SEND_NUMBERS, SENDER,
 };
 use octets::Refusal;
 

@@ -284,12 +284,7 @@ impl Buffers {
 }
 
 // One step of a program, with the answer where a line is ready.
-fn step<A: Responder>(
-    answers: &mut A,
-    streams: Streams,
-    buffers: &mut Buffers,
-    p: Place,
-) -> Place
+fn step<A: Responder>(answers: &mut A, streams: Streams, buffers: &mut Buffers, p: Place) -> Place
     requires { (PlaceFits p) × (0 < p.steps) }
     ensures { Stepped A.answering A.ROOM (A.state answers.old) buffers.old.input buffers.old.line buffers.old.output p
         (A.state answers.new) buffers.new.input buffers.new.line buffers.new.output result }
