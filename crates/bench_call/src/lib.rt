@@ -89,7 +89,7 @@ fn block_place(start: usize, block: usize) -> usize
 
 // What a line answers, and the end that it is about. A block handed up stands in the log, from at on, or, where at is 0, at the start of the buffer
 // lent for it.
-// at and block stay numbers: `dock_bench` tells C them as they are, and an Option would be made only to be undone there.
+// at and block stay numbers, 0 where there is none: dock_bench tells C them as they are.
 #[derive(Clone, Copy)]
 pub struct BenchAnswer {
     pub end: End,

@@ -132,7 +132,8 @@ impl LentBench<'_> {
     }
 }
 
-// Questions 11, 12 and 15 of all that is lent, with room for so many octets of a frame and of a block, where this end is restarted.
+// Questions 11, 12 and 15 of all that is lent, with room for so many octets of a frame and of a block, where this end is restarted. The two lengths stay two
+// parameters: they are asked here, once, and handed on to nobody.
 pub fn ready(
     restarted: Option<End>,
     bench: LentBench,
