@@ -53,11 +53,16 @@ pub fn first_frame(bench: LentBench) -> Result<Option<usize>, Refusal>
     ensures { told result ≡ first_frame (bench_in bench.entry) }
 {
     bench_checks::ready(None, bench, octets::LONGEST_FRAME, octets::LONGEST_BLOCK)?;
-    // A `for` and not `find`: of a closure that requires something of what it captures, the proof would show that at each turn of the iterator.
-    for n in 0..bench.count {
-        if would_change(bench, n) {
-            return Ok(Some(n));
+    let mut n = 0;
+    // Document 01 names this form: the loop over the book yields the frame's number by break.
+    let found = loop {
+        if n >= bench.count {
+            break None;
         }
-    }
-    Ok(None)
+        if would_change(bench, n) {
+            break Some(n);
+        }
+        n += 1;
+    };
+    Ok(found)
 }

@@ -1,4 +1,4 @@
-use Rattle.std.proofs.Common.{rules, sym, ◌∙◌}
+use Rattle.std.proofs.Common.{rules, arith, sym, ◌∙◌}
 use Rattle.bench_checks.specs.Ready.{bench_in}
 use Rattle.bench_query.specs.Found.{would_change}
 use Rattle.bench_query.proofs.Lowest.{asked, here, further, none_left, declined, names}
@@ -13,14 +13,14 @@ would_change-requires c = sym (asked (bench_in c.args.bench) c.in_ok-ready.ensur
 pub returns-then-would_change : goal.returns-then-would_change
 returns-then-would_change c =
     let w = bench_in c.args.bench in
-    names w (sym (asked w c.in_ok-ready.ensures)) (sym c.loop-n.invariant ∙ here (would_change w) c.loop-n.n w.count c.loop-n-test.true (sym c.would_change.ensures ∙ c.if-would_change.true))
+    names w (sym (asked w c.in_ok-ready.ensures)) (sym c.loop-n.invariant ∙ here (would_change w) c.loop-n.n w.count (omega arith) (sym c.would_change.ensures ∙ c.if-would_change.true))
 
 pub loop-n-preserved : goal.loop-n-preserved
 loop-n-preserved c =
     let w = bench_in c.args.bench in
-    sym (further (would_change w) c.loop-n.n w.count c.loop-n-test.true (sym c.would_change.ensures ∙ c.if-would_change.false)) ∙ c.loop-n.invariant
+    sym (further (would_change w) c.loop-n.n w.count (omega arith) (sym c.would_change.ensures ∙ c.if-would_change.false)) ∙ c.loop-n.invariant
 
-pub returns : goal.returns
-returns c =
+pub returns-then-n-bench : goal.returns-then-n-bench
+returns-then-n-bench c =
     let w = bench_in c.args.bench in
-    names w (sym (asked w c.in_ok-ready.ensures)) (sym c.loop-n.invariant ∙ none_left (would_change w) c.loop-n.n w.count c.loop-n-test.false)
+    names w (sym (asked w c.in_ok-ready.ensures)) (sym c.loop-n.invariant ∙ none_left (would_change w) c.loop-n.n w.count (omega arith))
