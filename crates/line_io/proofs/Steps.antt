@@ -17,7 +17,7 @@ use Rattle.octets.proofs.Buffers.{put_fits}
 use Rattle.line_split.specs.Split.{ended, last, longest_kept, cut}
 use Rattle.line_io.specs.declared.Place.{Place}
 use Rattle.line_io.specs.Answering.{Answering, Answered, Cuts, state_after, answers}
-use Rattle.line_io.specs.Place.{buffer_size, PlaceFits, between, ready_line, one_less, answered_with, Flushed, AfterRead, Taken, Refilled, Next}
+use Rattle.line_io.specs.Place.{buffer_size, PlaceFits, between, ready_line, one_less, emptied, answered_with, Flushed, AfterRead, Taken, Refilled, Next}
 use Rattle.line_io.specs.Step.{Went, Rests, Wrote, ReadOn, Finished, Stopped, Stepped}
 use Rattle.line_io.proofs.Answers.{answers-cut, after-cut}
 
@@ -26,6 +26,12 @@ pub some_held : (k : ℕ) → ltb 0 k ≡ if_eq k 0 false true
 unfolding if_eq when
 some_held zero = refl
 some_held (suc k) = lt-ltb 0 (suc k) (omega arith) ∙ sym (eq_no (suc k) 0 false true (λ z. omega arith))
+
+-- a write
+pub flushed : {p q : Place} (all : Bool) → q ≡ emptied p (when all p.steps 0) → Flushed p q
+unfolding when
+flushed {p} true e = record { place = e ∙ ap (emptied p) (sym (ap (λ (x : Place). x.steps) e)); steps = λ _. ap (λ (x : Place). x.steps) e }
+flushed {p} false e = record { place = e ∙ ap (emptied p) (sym (ap (λ (x : Place). x.steps) e)); steps = λ n. absurd (n (ap (λ (x : Place). x.steps) e)) }
 
 -- a read counts what it brings
 pub counted : {n : ℕ} {p q : Place} → AfterRead n p q → AfterRead q.end p q

@@ -2,9 +2,10 @@
 #![tactic(auto)]
 
 ghost use Rattle.std.specs.Prelude.{ℕ, false, ◌≡◌, ◌+◌, ◌≤◌, ◌<◌, length, take, replicate};
+ghost use Rattle.octets.specs.Test.{when};
 ghost use Rattle.line_split.specs.Split.{longest_kept};
 ghost use Rattle.line_io.specs.Answering.{Answering, Answered, Cuts};
-ghost use Rattle.line_io.specs.Place.{buffer_size, PlaceFits, Starts, ready_line, answered_with, Flushed, AfterRead, Filled, Taken, Next};
+ghost use Rattle.line_io.specs.Place.{buffer_size, PlaceFits, Starts, ready_line, emptied, answered_with, Flushed, AfterRead, Filled, Taken, Next};
 ghost use Rattle.line_io.specs.Step.{Stepped};
 ghost use Rattle.line_io.specs.Program.{Ran};
 
@@ -124,6 +125,19 @@ impl Place {
         &output[..self.filled]
     }
 
+    // Nothing waits after a write. The program is done where not all was written.
+    #[tactic(auto, unfolding(octets::specs::Test::when))]
+    fn after_write(self, all: bool) -> Place
+        ensures { result ≡ emptied self (when all self.steps 0) }
+    {
+        Place {
+            filled: 0,
+            has_line: false,
+            steps: if all { self.steps } else { 0 },
+            ..self
+        }
+    }
+
     // After a read of n octets. At the end of the input there are none; text after the last line feed is a line too, and one
     // step is left, which writes its answer.
     fn after_read(self, n: usize) -> Place
@@ -184,25 +198,16 @@ impl Buffers {
         }
     }
 
-    // Writes what waits of the output: then nothing waits. The program is done where not all was written, and says why. Whether
-    // all was, no contract can say.
+    // Writes what waits of the output, and tells why where not all was written. Whether all was, no contract can say.
     fn flush(&self, streams: Streams, p: Place) -> Place
         requires { p.filled ≤ buffer_size }
         ensures { Flushed p result }
     {
-        let written = Place {
-            filled: 0,
-            has_line: false,
-            ..p
-        };
         match streams.output.write_all(p.waiting(&self.output)) {
-            Ok(()) => written,
+            Ok(()) => p.after_write(true),
             Err(why) => {
                 streams.tell("standard output", why);
-                Place {
-                    steps: 0,
-                    ..written
-                }
+                p.after_write(false)
             }
         }
     }
