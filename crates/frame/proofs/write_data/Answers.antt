@@ -26,5 +26,5 @@ returns c =
     let s2 = then_put d (h ++ n) k (head_size + control_numbers + 4) lc (omega (arith, c.requires.0)) s1 c.store8.ensures in
     record {
       count = sym (ap length e ∙ length-append ((h ++ n) ++ k) b ∙ omega (arith, lb));
-      octets = rw e (then_put d ((h ++ n) ++ k) b data_block_at lb (omega (arith, c.requires.0)) s2 c.copy.ensures);
+      octets = rw e (then_put d ((h ++ n) ++ k) b data_block_at lb (omega (arith, c.requires.0)) s2 c.write_block.ensures);
     }
