@@ -3,7 +3,6 @@
 
 ghost use Rattle.std.specs.Prelude.{◌≡◌, ◌≤◌, ◌<◌, ◌≢◌, length, take};
 ghost use Rattle.octets.specs.Sizes.{longest_frame};
-ghost use Rattle.octets.specs.Refusal.{told};
 ghost use Rattle.octets.specs.Test.{Outcome};
 ghost use Rattle.frame.specs.Read.{cut_block};
 ghost use Rattle.protocol.specs.Table.{Step};
@@ -12,7 +11,7 @@ ghost use Rattle.call_spec.specs.Claim.{Lent, lent};
 ghost use Rattle.link.specs.Lent.{Called, lent_call};
 ghost use Rattle.bench_log.specs.Log.{places, log_size};
 ghost use Rattle.bench_spec.specs.declared.Order.{Order};
-ghost use Rattle.bench_spec.specs.Bench.{end_number};
+ghost use Rattle.bench_spec.specs.Bench.{numbered, end_number};
 ghost use Rattle.bench_call.specs.Answer.{start_of};
 ghost use Rattle.bench_call.specs.Internal.{outcome_at, CallReady, has_place, noted, noted_count, block_place, answer_from, Does};
 ghost use Rattle.bench_call.specs.Internal.{task_of, call_by, task_outcome, TaskReady, octets_in, Placed, Readable, order_outcome, OrderReady};
@@ -54,8 +53,8 @@ fn call_end(
             if !has_place(p.reply, count) {
                 return lent_record::decline(rec, Refusal::LogFull);
             }
-            link::reserve(p, page);
-            link::finish(call, p, page, rec, frame_read::cut_block(s), out, up)
+            link::reserve(Ok(p), page);
+            link::finish(call, Ok(p), page, rec, frame_read::cut_block(s), out, up)
         }
     }
 }
@@ -127,8 +126,8 @@ fn finish(
 
 // What an order has an end do: a call, or, where there is none, a restart.
 #[tactic(auto, unfolding(crate::specs::Internal::task_of))]
-fn task_of(order: Result<Order, Refusal>) -> Result<Option<Call>, Refusal>
-    ensures { told result ≡ task_of (told order) }
+fn task_of(order: Result<Order, u8>) -> Result<Option<Call>, u8>
+    ensures { numbered result ≡ task_of (numbered order) }
 {
     match order? {
         Order::Request(_) => Ok(Some(Call::Request)),
@@ -139,7 +138,7 @@ fn task_of(order: Result<Order, Refusal>) -> Result<Option<Call>, Refusal>
 
 // Does it at an end. A restart and a refusal are told as a call is, and send nothing.
 fn do_task(
-    task: Result<Option<Call>, Refusal>,
+    task: Result<Option<Call>, u8>,
     rec: &mut [u8],
     page: &mut [u8],
     s: &[u8],
@@ -147,23 +146,23 @@ fn do_task(
     out: &mut [u8],
     up: &mut [u8],
 ) -> Answer
-    requires { TaskReady (told task) (lent rec.old page.old) out.old up.old }
-    ensures { (let o : Outcome Step = task_outcome (told task) (lent rec.old page.old) count s.now (rooms (length out.old) (length up.old)) in
-        Called (call_by (told task)) o rec.old (cut_block s.now) out.old up.old rec.new out.new up.new result
+    requires { TaskReady (numbered task) (lent rec.old page.old) out.old up.old }
+    ensures { (let o : Outcome Step = task_outcome (numbered task) (lent rec.old page.old) count s.now (rooms (length out.old) (length up.old)) in
+        Called (call_by (numbered task)) o rec.old (cut_block s.now) out.old up.old rec.new out.new up.new result
         × (page.new ≡ page_after page.old o)) }
 {
     match task {
         Ok(Some(call)) => call_end(call, rec, page, s, count, out, up),
         Ok(None) => lent_record::restart(rec, page),
-        Err(refusal) => lent_record::decline(rec, refusal),
+        Err(number) => lent_record::refuse(rec, number),
     }
 }
 
 // The octets that an order gives to its call. They are not copied: those of a request are a part of its line, those of a frame of the log.
 #[tactic(auto, using(octets::proofs::Buffers::whole), unfolding(crate::specs::Internal::octets_in))]
-fn octets_of<'a>(order: Result<Order, Refusal>, s: &'a [u8], log: &'a [u8]) -> &'a [u8]
-    requires { Readable (told order) s.now log.now }
-    ensures { result.now ≡ octets_in (told order) s.now log.now }
+fn octets_of<'a>(order: Result<Order, u8>, s: &'a [u8], log: &'a [u8]) -> &'a [u8]
+    requires { Readable (numbered order) s.now log.now }
+    ensures { result.now ≡ octets_in (numbered order) s.now log.now }
 {
     match order {
         Ok(Order::Request(_)) => &s[1..],
@@ -174,9 +173,9 @@ fn octets_of<'a>(order: Result<Order, Refusal>, s: &'a [u8], log: &'a [u8]) -> &
 
 // Where the block of the frame that an order delivers stands in the log; 0 where it delivers none.
 #[tactic(auto, unfolding(crate::specs::Answer::start_of, crate::specs::Answer::block_start))]
-fn start_of(order: Result<Order, Refusal>) -> usize
-    requires { Placed (told order) }
-    ensures { result ≡ start_of (told order) }
+fn start_of(order: Result<Order, u8>) -> usize
+    requires { Placed (numbered order) }
+    ensures { result ≡ start_of (numbered order) }
 {
     match order {
         Ok(Order::Request(_)) => 0,
@@ -189,7 +188,7 @@ fn start_of(order: Result<Order, Refusal>) -> usize
 // rec and page stay two parameters: of a struct that lends both, a clause has what they hold after as exit.0.now and exit.1.0.now, which is no plainer.
 pub fn carry_out(
     end: End,
-    order: Result<Order, Refusal>,
+    order: Result<Order, u8>,
     rec: &mut [u8],
     page: &mut [u8],
     s: &[u8],
@@ -198,9 +197,9 @@ pub fn carry_out(
     out: &mut [u8],
     up: &mut [u8],
 ) -> BenchAnswer
-    requires { OrderReady (told order) (lent rec.old page.old) s.now log.old count out.old up.old }
+    requires { OrderReady (numbered order) (lent rec.old page.old) s.now log.old count out.old up.old }
     ensures { (let l : Lent = lent rec.old page.old in
-        let o : Outcome Order = told order in
+        let o : Outcome Order = numbered order in
         Does (end_number end) l log.old count (start_of o) (call_by (task_of o))
         (order_outcome o l log.old count s.now (rooms (length out.old) (length up.old)))
         out.old up.old (lent rec.new page.new) log.new out.new up.new result) }

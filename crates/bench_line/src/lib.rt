@@ -4,7 +4,7 @@
 ghost use Rattle.std.specs.Prelude.{◌≡◌};
 ghost use Rattle.octets.specs.Refusal.{told};
 ghost use Rattle.call_spec.specs.Claim.{lent};
-ghost use Rattle.bench_spec.specs.Bench.{Bench, bench_of, end_number, end_of};
+ghost use Rattle.bench_spec.specs.Bench.{Bench, bench_of, numbered, end_number, end_of};
 ghost use Rattle.bench_line.specs.Performed.{LinePerformed, asks_lent};
 ghost use Rattle.bench_line.specs.Internal.{order_in};
 
@@ -15,12 +15,12 @@ use octets::Refusal;
 
 // What a line orders, whose octets are s. One that 1 or 2 refuses orders nothing, by their number.
 // A function and not a closure for and_then: what such a closure promises is out of the reach of the proof of its caller.
-#[tactic(auto, unfolding(crate::specs::Internal::order_in, octets::specs::Test::and_then))]
-fn order_in(read: Result<usize, Refusal>, s: &[u8]) -> Result<Order, Refusal>
-    ensures { told result ≡ order_in (told read) s.now }
+#[tactic(auto, using(bench_spec::proofs::Numbers::by_number), unfolding(crate::specs::Internal::order_in, octets::specs::Test::and_then))]
+fn order_in(read: Result<usize, Refusal>, s: &[u8]) -> Result<Order, u8>
+    ensures { numbered result ≡ order_in (told read) s.now }
 {
-    read?;
-    bench_order::order_of(s)
+    read.map_err(Refusal::number)?;
+    bench_order::order_of(s).map_err(Refusal::number)
 }
 
 // Plays a line, which is given without its line feed, on the bench with the records a and b and their pages, the log and so many places of it in
@@ -53,7 +53,7 @@ pub fn perform(
         out.len(),
         up.len(),
     );
-    let decided = bench_order::decide(ready, order, log, count);
+    let decided = bench_order::decide(ready.map_err(Refusal::number), order, log, count);
     let end = bench_order::end_for(decided, log);
     match end {
         End::A => bench_call::carry_out(end, decided, a, a_page, octets, log, count, out, up),

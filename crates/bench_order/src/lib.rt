@@ -1,10 +1,10 @@
 // What a bench line orders, and all questions up to 13 of it, decided with values: nothing is stored.
 #![tactic(auto)]
 
-ghost use Rattle.std.specs.Prelude.{◌≡◌};
-ghost use Rattle.octets.specs.Refusal.{told, refusal_in};
-ghost use Rattle.octets.specs.Test.{refusing, and_then};
-ghost use Rattle.bench_spec.specs.Bench.{end_number, restarted_number, restart_order, order_of, end_restarted};
+ghost use Rattle.std.specs.Prelude.{◌≡◌, IsOk};
+ghost use Rattle.octets.specs.Refusal.{told};
+ghost use Rattle.octets.specs.Test.{and_then};
+ghost use Rattle.bench_spec.specs.Bench.{numbered, end_number, restarted_number, restart_order, order_of, end_restarted};
 ghost use Rattle.bench_order.specs.Internal.{found, Findable, FindableIn, end_for, EndKnown};
 
 use bench_spec::{End, Order};
@@ -60,8 +60,8 @@ pub fn order_of(s: &[u8]) -> Result<Order, Refusal>
 
 // The end that an order restarts, whose record 12 and 15 do not look at.
 #[tactic(auto, unfolding(bench_spec::specs::Bench::end_restarted))]
-pub fn end_restarted(order: Result<Order, Refusal>) -> Option<End>
-    ensures { restarted_number result ≡ end_restarted (told order) }
+pub fn end_restarted(order: Result<Order, u8>) -> Option<End>
+    ensures { restarted_number result ≡ end_restarted (numbered order) }
 {
     match order {
         Ok(Order::Restart(restarted)) => Some(restarted),
@@ -87,25 +87,25 @@ fn find(order: Order, log: &[u8], count: usize) -> Result<Order, Refusal>
 }
 
 // All questions up to 13, of which 11, 12 and 15, which ready has asked, come before the order's own refusal.
-#[tactic(auto, unfolding(octets::specs::Test::refusing, octets::specs::Test::and_then))]
+#[tactic(auto, using(bench_spec::proofs::Numbers::by_number), unfolding(octets::specs::Test::and_then))]
 pub fn decide(
-    ready: Result<(), Refusal>,
-    order: Result<Order, Refusal>,
+    ready: Result<(), u8>,
+    order: Result<Order, u8>,
     log: &[u8],
     count: usize,
-) -> Result<Order, Refusal>
-    requires { refusal_in ready ≡ 0 → FindableIn (told order) log.now count }
-    ensures { told result ≡ refusing (refusal_in ready) (and_then (told order) (found log.now count)) }
+) -> Result<Order, u8>
+    requires { IsOk ready → FindableIn (numbered order) log.now count }
+    ensures { numbered result ≡ and_then (numbered ready) (λ _. and_then (numbered order) (found log.now count)) }
 {
     ready?;
-    find(order?, log, count)
+    find(order?, log, count).map_err(Refusal::number)
 }
 
 // The end that a decided order is for. A frame goes to the end that did not send it; a refusal tells of A.
 #[tactic(auto, unfolding(crate::specs::Internal::end_for))]
-pub fn end_for(order: Result<Order, Refusal>, log: &[u8]) -> End
-    requires { EndKnown (told order) log.now }
-    ensures { end_number result ≡ end_for (told order) log.now }
+pub fn end_for(order: Result<Order, u8>, log: &[u8]) -> End
+    requires { EndKnown (numbered order) log.now }
+    ensures { end_number result ≡ end_for (numbered order) log.now }
 {
     match order {
         Ok(Order::Request(end) | Order::Restart(end)) => end,

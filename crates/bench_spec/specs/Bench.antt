@@ -1,5 +1,5 @@
 -- The bench: two ends, every frame ever sent, and what a line comes to (document 01, "Bench").
-use Rattle.std.specs.Prelude.{ℕ, zero, suc, ◌+◌, ◌-◌, ◌*◌, Bool, true, false, Option, None, Some, List, [], ◌∷◌, ltb, leb, eqb, length, drop, get_or}
+use Rattle.std.specs.Prelude.{ℕ, zero, suc, ◌+◌, ◌-◌, ◌*◌, Bool, true, false, Option, None, Some, Result, Ok, Err, List, [], ◌∷◌, ltb, leb, eqb, length, drop, get_or}
 use Rattle.octets.specs.Sizes.{longest_frame, longest_block, page_size}
 use Rattle.octets.specs.Test.{when, if_eq, if_lt, in_range, Question, first, Outcome, refused, ok, outcome, refusing, and_then}
 use Rattle.octets.specs.Octets.{put, field}
@@ -36,6 +36,11 @@ end_number B = 1
 abbrev pub end_at : ℕ → End
 end_at zero = A
 end_at (suc n) = B
+
+-- What a Result says whose error is the number that is told: the value, or the refusal by that number, whichever it is.
+abbrev pub numbered : {A : Type 0} → Result A ℕ → Outcome A
+numbered (Ok x) = ok x
+numbered (Err n) = refused n
 
 -- an end by its number
 unfoldable pub lent_at : ℕ → Bench → Lent

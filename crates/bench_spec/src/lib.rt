@@ -20,6 +20,8 @@ impl End {
 }
 
 // What the octets of a line order: a request at an end, the delivery of a frame by its number, or the restart of an end.
+// On its way to an end an order is a Result<Order, u8>, whose error is the number that is told. A number and no Refusal: the must-fail edit bench_line/empty_accepted gives a refusal
+// by 0, which no Refusal is.
 #[derive(Clone, Copy, Debug, PartialEq, Eq)]
 pub enum Order {
     Request(End),

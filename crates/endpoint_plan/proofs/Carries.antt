@@ -52,8 +52,8 @@ use Rattle.endpoint.proofs.Sounds.{by_lt, tidy, tidy-held, lengths-held, facts}
 use Rattle.endpoint_places.specs.Internal.{places_after, InEight, PlanFits, lengths_after, blocks_after, carried, block_from, Handy, handed_to, HandsUp}
 use Rattle.endpoint_places.proofs.HeldPlaces.{zeros-padded, held-lengths-after, held-blocks-after}
 use Rattle.endpoint_plan.specs.Calls.{outcome_of}
-use Rattle.endpoint_plan.specs.Internal.{rooms_ok, input_of, Plannable, PlannedBy, PlansFor, Plans, PlansAny, Reserved}
-use Rattle.endpoint_plan.proofs.Messages.{unread, reads_as, carries_it, number_fits, accepted_short}
+use Rattle.endpoint_plan.specs.Internal.{rooms_ok, Plannable, PlannedBy, PlansFor, PlansFrom, Plans, PlansAny, Reserved}
+use Rattle.endpoint_plan.proofs.Messages.{Says, reads_as, carries_it, number_fits, accepted_short}
 use Rattle.endpoint_plan.proofs.Numbers.{local-after, receive-local}
 use Rattle.endpoint_plan.proofs.Ready.{Passes, all_passed, passes}
 
@@ -200,21 +200,22 @@ module _ (e : Endpoint) (s : sound e ≡ true) (long : Long e) where
   unfolding view
   carries {b} {p = p} c = carried-is p b c.counted c.room c.place ∙ ap pack c.endpoint
 
--- A message that was read from these octets.
+-- What was read from these octets, a message or a refusal.
 module _ (e : Endpoint) (long : Long e) (fine : sound e ≡ true) (c : Call) (s : List ℕ) where
   -- it can be planned for
-  pub plannable : (m : Message) → ok (meant m (cut_block s)) ≡ input_of c s → Plannable m (numbers_of e) e.held_lengths
-  unfolding meant
-  plannable (message.Request q) h = (laden e fine long, number-left e fine long)
-  plannable (message.Frame g) h = (laden e fine long, number_fits c s g h)
+  pub plannable : (m : Result Message Refusal) → Says m c s → Plannable m (numbers_of e) e.held_lengths
+  unfolding meant mapped
+  plannable (Ok (message.Request q)) h = (laden e fine long, number-left e fine long)
+  plannable (Ok (message.Frame g)) h = (laden e fine long, number_fits c s g h)
+  plannable (Err k) h = tt
 
   -- and what the plan is of
-  planned : (m : Message) → ok (meant m (cut_block s)) ≡ input_of c s → (r : Result Plan Refusal) → PlannedBy m (numbers_of e) e.held_lengths r
+  planned : (m : Result Message Refusal) → Says m c s → (r : Result Plan Refusal) → PlannedBy m (numbers_of e) e.held_lengths r
       → ComesOf (numbers_of e) (view e).queue (view e).held (cut_block s) (place_block e.lengths e.blocks 0) (does c s (view e)) r
   unfolding view
   planned m h r w =
       rw (reads_as m c s (view e) h)
-      (w (cut_block s) (carries_it m c s h) (view e).queue (view e).held (place_block e.lengths e.blocks 0) (count e) (oldest-at e) (lengths-held e fine long))
+      (w.comes (cut_block s) (carries_it m c s h) (view e).queue (view e).held (place_block e.lengths e.blocks 0) (count e) (oldest-at e) (lengths-held e fine long))
 
 -- what is left of the buffer
 pub sends_is : (out : List ℕ) {out' : List ℕ} {n : ℕ} (o : Outcome Step) → Sends (sent_in o) out out' n → out' ≡ buffer_after out o
@@ -272,6 +273,10 @@ from_received c l d b h = rw h refl
 -- the same plan, of the block that was cut
 pub by_block : {c : Call} {r : Rooms} {e : Endpoint} {b b' : Block} {o : Outcome Step} {p : Plan} → b' ≡ b → PlansFor c r e b o p → PlansFor c r e b' o p
 by_block {c} {r} {e} {o = o} {p} h w = subst (λ (x : Block). PlansFor c r e x o p) (sym h) w
+
+-- and the same refusal
+pub from_block : (c : Call) (r : Rooms) (e : Endpoint) (o : Outcome Step) (q : Result Plan Refusal) {b b' : Block} → b' ≡ b → PlansFrom c r e b o q → PlansFrom c r e b' o q
+from_block c r e o q h w = subst (λ (x : Block). PlansFrom c r e x o q) (sym h) w
 
 -- A plan of a call that comes to o, with the block b.
 module _ (e : Endpoint) (long : Long e) (c : Call) (r : Rooms) (b : Block) (o : Outcome Step) {p : Plan} (w : PlansFor c r e b o p) where
@@ -335,16 +340,12 @@ module _ (e : Endpoint) (long : Long e) (page : List ℕ) (c : Arguments) where
     passed : Passes (sound e) e.local page c
     passed = all_passed (sound e) e.local page c z
 
-    pub unread-is : {n : ℕ} → refused n ≡ input_of c.call c.octets → outcome_of e page c ≡ refused n
-    unread-is h = goes-on ∙ unread c.call c.octets (view e) h
-
-    -- its message can be planned for
-    pub can-plan : (m : Message) → ok (meant m (cut_block c.octets)) ≡ input_of c.call c.octets → Plannable m (numbers_of e) e.held_lengths
+    -- what was read can be planned for
+    pub can-plan : (m : Result Message Refusal) → Says m c.call c.octets → Plannable m (numbers_of e) e.held_lengths
     can-plan m h = plannable e long passed.is_fine c.call c.octets m h
 
     -- and its plan is that of the call
-    pub plans : (m : Message) → ok (meant m (cut_block c.octets)) ≡ input_of c.call c.octets → (r : Result Plan Refusal)
-        → PlannedBy m (numbers_of e) e.held_lengths r → Plans e page c r
+    pub plans : (m : Result Message Refusal) → Says m c.call c.octets → (r : Result Plan Refusal) → PlannedBy m (numbers_of e) e.held_lengths r → Plans e page c r
     unfolding outcome_of view
     plans m h (Ok p) w =
         let k = rw (sym goes-on) at (planned e long passed.is_fine c.call c.octets m h (Ok p) w) in
@@ -363,12 +364,15 @@ module _ (e : Endpoint) (fine : sound e ≡ true) (c : Call) (s page : List ℕ)
   unfolding first when
   all-yes = let room = both (leb longest_frame r.frame) (block_room_ok c r.block) k in rw (room.0, room.1, le-leb page_size (length page) l, fine, g) refl
 
-pub unread_any : (e : Endpoint) → Long e → sound e ≡ true → (c : Call) (s : List ℕ) (q : Refusal) → refused (refusal_number q) ≡ input_of c s → PlansAny e c s (Err q)
-unread_any e long fine c s q h page r k l g = unread-is e long page (given c s r) (all-yes e fine c s page r k l g) h
-
-pub plans_any : (e : Endpoint) → Long e → sound e ≡ true → (c : Call) (s : List ℕ) (m : Message) → ok (meant m (cut_block s)) ≡ input_of c s
-    → (r : Result Plan Refusal) → PlannedBy m (numbers_of e) e.held_lengths r → PlansAny e c s r
+pub plans_any : (e : Endpoint) → Long e → sound e ≡ true → (c : Call) (s : List ℕ) (m : Result Message Refusal) → Says m c s → (r : Result Plan Refusal)
+    → PlannedBy m (numbers_of e) e.held_lengths r → PlansAny e c s r
 plans_any e long fine c s m h p w page r k l g = plans e long page (given c s r) (all-yes e fine c s page r k l g) m h p w
+
+-- what the page's store asks of an accepted plan
+abbrev pub Reservable : List ℕ → Plan → Type 0
+Reservable page p =
+    ((page_size ≤ length page) × (runs page ≡ true))
+    × ((p.numbers.local ≤ last_incarnation) × (p.numbers.local ≤ numbers_each * pages.count page + numbers_each))
 
 module _ (e : Endpoint) (page : List ℕ) (c : Arguments) {p : Plan} (w : Plans e page c (Ok p)) where
   abbrev o : Outcome Step
@@ -389,8 +393,7 @@ module _ (e : Endpoint) (page : List ℕ) (c : Arguments) {p : Plan} (w : Plans 
   local-next =
       next (view e) o (λ x h. local-after (view e) c.call c.octets (passing (first (own_questions (sound e) e.local page c)) h).1)
 
-  pub reservable : ((page_size ≤ length page) × (runs page ≡ true))
-      × ((p.numbers.local ≤ last_incarnation) × (p.numbers.local ≤ numbers_each * pages.count page + numbers_each))
+  pub reservable : Reservable page p
   unfolding view
   reservable =
       let g = goes_so e.local page accepted.goes in
@@ -406,7 +409,7 @@ module _ (e : Endpoint) (page : List ℕ) (c : Arguments) {p : Plan} (w : Plans 
       h ∙ ap (λ (n : ℕ). reserving n page) local_is ∙ page_is (view e) page o (omega arith)
 
   -- receiving begins no number, and the one at hand is reserved
-  pub received-reserved : c.call ≡ call.Receive → Reserved p page
+  pub received-reserved : c.call ≡ call.Receive → Reserved (Ok p) page
   unfolding outcome_of asked view
   received-reserved h =
       let g = goes_so e.local page accepted.goes in

@@ -71,11 +71,11 @@ first-number = refl
 
 pub not_before : NotBeforeTheStore
 unfolding view number_of
-not_before (Ok p) w = λ h.
+not_before (Ok p) w h =
     let l : p.numbers.local ≡ 1 =
     ap (λ (a : abstract.Endpoint). a.local) w.comes.endpoint
     ∙ ap (λ (o : Outcome Step). (endpoint_after (view (pack fresh)) o).local) comes
     ∙ ap (λ (a : abstract.Endpoint). (endpoint_after a (perform (ask connect) fresh)).local) (held fresh is_sound)
     ∙ first-number in
     omega (arith, l, none-used)
-not_before (Err q) w = refusal_some q (ap number_of (sym w ∙ comes) ∙ accepted)
+not_before (Err q) w h = refusal_some q (ap number_of (sym w ∙ comes) ∙ accepted)

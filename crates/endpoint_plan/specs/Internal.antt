@@ -1,5 +1,5 @@
 -- Messages, and plans for a record. No entry point's contract needs this.
-use Rattle.std.specs.Prelude.{ℕ, ◌*◌, ◌≤◌, ◌<◌, ◌≡◌, Bool, true, ◌&&◌, List, [], ◌∷◌, leb, length, get_or, Result, Ok, Err, MatchResult}
+use Rattle.std.specs.Prelude.{ℕ, ◌*◌, ◌≤◌, ◌<◌, ◌≡◌, Bool, true, ◌&&◌, List, [], ◌∷◌, leb, length, get_or, Result, Ok, Err}
 use Rattle.octets.specs.Sizes.{longest_frame, longest_block, last_number, page_size, numbers_each}
 use Rattle.octets.specs.Test.{Outcome, refused, mapped}
 use Rattle.octets.specs.declared.refusal.Refusal.{Refusal}
@@ -39,24 +39,28 @@ unfoldable pub input_of : Call → List ℕ → Outcome Input
 input_of Request s = mapped request (read_request s)
 input_of Receive s = mapped frame (read_frame s)
 
--- what a message comes to, whose block is b: 8 to 10, and the step table
-unfoldable pub follows : Message → Block → abstract.Endpoint → Outcome Step
-follows (message.Request q) b e = perform (ask (request_of q b)) e
-follows (message.Frame h) b e = perform (deliver (frame_of h b)) e
+-- what a message comes to, whose block is b: 8 to 10, and the step table; a refusal stays
+unfoldable pub follows : Result Message Refusal → Block → abstract.Endpoint → Outcome Step
+follows (Ok (message.Request q)) b e = perform (ask (request_of q b)) e
+follows (Ok (message.Frame h)) b e = perform (deliver (frame_of h b)) e
+follows (Err k) b e = refused (refusal_number k)
 
 -- b is such a block as its kind asks for
-abbrev pub Carries : Message → Block → Type 0
-Carries (message.Request q) b = Readable (ask (request_of q b))
-Carries (message.Frame h) b = h.kind ≡ Data → (1 ≤ length b) × (length b ≤ longest_block)
+abbrev pub Carries : Result Message Refusal → Block → Type 0
+Carries (Ok (message.Request q)) b = Readable (ask (request_of q b))
+Carries (Ok (message.Frame h)) b = h.kind ≡ Data → (1 ≤ length b) × (length b ≤ longest_block)
+Carries (Err k) b = Unit {0}
 
 -- The message can be planned for, at a record of these numbers, whose held blocks have the lengths z: no number is the last.
-abbrev pub Plannable : Message → Numbers → List ℕ → Type 0
-Plannable (message.Request q) n z = (n.waiting ≤ n.accepted) × (1 ≤ get_or z 0 0 → n.delivered < last_number)
-Plannable (message.Frame h) n z = (n.waiting ≤ n.accepted) × (h.kind ≡ Data → h.number < last_number)
+abbrev pub Plannable : Result Message Refusal → Numbers → List ℕ → Type 0
+Plannable (Ok (message.Request q)) n z = (n.waiting ≤ n.accepted) × (1 ≤ get_or z 0 0 → n.delivered < last_number)
+Plannable (Ok (message.Frame h)) n z = (n.waiting ≤ n.accepted) × (h.kind ≡ Data → h.number < last_number)
+Plannable (Err k) n z = Unit {0}
 
--- and r is its plan, or the refusal that it comes to
-abbrev pub PlannedBy : Message → Numbers → List ℕ → Result Plan Refusal → Type 0
-PlannedBy m n z r = (b : Block) → Carries m b → Planned n z b (follows m b) r
+-- and r is its plan, or the refusal that it comes to; that of a refusal is itself, whatever the record
+pub record PlannedBy (m : Result Message Refusal) (n : Numbers) (z : List ℕ) (r : Result Plan Refusal) : Type 0 where
+  pub comes : (b : Block) → Carries m b → Planned n z b (follows m b) r
+  pub refuses : (k : Refusal) → m ≡ Err k → r ≡ Err k
 
 -- p is the plan of a call of the record e with these rooms, which comes to o, where b is the block of its message: the block that is handed up comes from the
 -- message or from the held ones. 11 and 12 are passed, and the block fits.
@@ -81,12 +85,15 @@ abbrev pub PlansAny : Endpoint → Call → List ℕ → Result Plan Refusal →
 PlansAny e c s r =
     (page : List ℕ) (room : Rooms) → rooms_ok c room ≡ true → page_size ≤ length page → goes_with e.local page ≡ true → Plans e page (given c s room) r
 
--- The number that p leaves is reserved on this page: asked by all that stores after the page, of the page as it stands then.
-abbrev pub Reserved : Plan → List ℕ → Type 0
-Reserved p page = p.numbers.local ≤ numbers_each * count page
+-- the number that p leaves; 0, which no page has to reserve, where p refuses
+abbrev pub number_left : Result Plan Refusal → ℕ
+number_left (Ok p) = p.numbers.local
+number_left (Err k) = 0
 
--- It is not so before the page's store: a fresh end's connect is planned, and not reserved on a new page. So what asks for it cannot come before that store.
+-- The number that p leaves is reserved on this page: asked by all that stores after the page, of the page as it stands then.
+abbrev pub Reserved : Result Plan Refusal → List ℕ → Type 0
+Reserved p page = number_left p ≤ numbers_each * count page
+
+-- It is not so before the page's store: a fresh end's connect is not reserved on a new page. So what asks for it cannot come before that store.
 abbrev pub NotBeforeTheStore : Type 0
-NotBeforeTheStore =
-    (r : Result Plan Refusal) → Plans (pack fresh) new_page (given Request (CONNECT ∷ []) (rooms longest_frame longest_block)) r
-    → MatchResult r (λ p. Reserved p new_page → ⊥) (λ q. ⊥)
+NotBeforeTheStore = (p : Result Plan Refusal) → Plans (pack fresh) new_page (given Request (CONNECT ∷ []) (rooms longest_frame longest_block)) p → Reserved p new_page → ⊥

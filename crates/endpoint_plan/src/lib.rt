@@ -71,13 +71,17 @@ pub fn read(call: Call, s: &[u8]) -> Result<Message, Refusal>
     })
 }
 
-// What a message comes to at a record of these numbers, whose held blocks have these lengths.
+// What a message comes to at a record of these numbers, whose held blocks have these lengths; octets that could not be read come to their refusal.
 #[tactic(auto, unfolding(crate::specs::Internal::follows, protocol::specs::History::perform))]
-pub fn plan(m: Message, n: Numbers, held: &[u8; octets::HELD_SIZE]) -> Result<Plan, Refusal>
-    requires { Plannable m n held.now }
-    ensures { PlannedBy m n held.now result }
+pub fn plan(
+    message: Result<Message, Refusal>,
+    n: Numbers,
+    held: &[u8; octets::HELD_SIZE],
+) -> Result<Plan, Refusal>
+    requires { Plannable message n held.now }
+    ensures { PlannedBy message n held.now result }
 {
-    match m {
+    match message? {
         Message::Request(kind) => step_request::ask(kind, n, held),
         Message::Frame(header) => Ok(step_receive::hear(header, n, held)),
     }
@@ -94,6 +98,5 @@ pub fn plan_call<'a>(
     ensures { Plans (whole parts.entry) page.now (given call s.now (rooms room.frame room.block)) result }
 {
     ask(call, parts, page, room)?;
-    let message = read(call, s)?;
-    plan(message, parts.numbers, parts.held.lengths)
+    plan(read(call, s), parts.numbers, parts.held.lengths)
 }

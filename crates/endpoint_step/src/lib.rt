@@ -96,7 +96,7 @@ fn finish(
     out: &mut [u8],
     up: &mut [u8],
 ) -> StepAnswer
-    requires { Reserved p page.now × ((o : Outcome Step) × PlansFor call (rooms (length out.old) (length up.old)) e block.now o p) }
+    requires { Reserved (Ok p) page.now × ((o : Outcome Step) × PlansFor call (rooms (length out.old) (length up.old)) e block.now o p) }
     ensures { (o : Outcome Step) → PlansFor call (rooms (length out.old) (length up.old)) e block.now o p → Finishes call e block.now o out.old up.old out.new up.new result }
 {
     let parts = e.parts();

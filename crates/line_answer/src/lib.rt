@@ -36,8 +36,8 @@ fn ask(rec: &mut [u8], page: &mut [u8], s: &[u8], out: &mut [u8]) -> Result<usiz
     let block = frame_read::cut_block(s);
     let mut frame = [0u8; octets::LONGEST_FRAME];
     let mut up = [0u8; octets::LONGEST_BLOCK];
-    link::reserve(plan, page);
-    let a = link::finish(call, plan, page, rec, block, &mut frame, &mut up);
+    link::reserve(Ok(plan), page);
+    let a = link::finish(call, Ok(plan), page, rec, block, &mut frame, &mut up);
     let handed = step_plan::block_part(call, block, &up, a.block);
     Ok(answer_text::write_text(a.status, handed, &frame[..a.sent], out))
 }

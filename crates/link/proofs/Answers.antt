@@ -1,7 +1,7 @@
 -- What a call on a lent record answers, from its plan.
 use Prim.Native.Nat.{ℕ, ◌≤◌, ◌<◌}
 use mathlib.Core.Path.{◌≡◌, refl, sym, subst, ap, ap₂, ◌∙◌}
-use Rattle.std.specs.Prelude.{Result, Ok, Err}
+use Rattle.std.specs.Prelude.{Result, Ok, Err, IfOk, MatchResult}
 use mathlib.Core.List.{List}
 use native.Mathlib.Omega.{arith}
 use borrow.Author.Tests.{le-leb, lt-leb}
@@ -31,11 +31,11 @@ use Rattle.endpoint.specs.Sound.{sound}
 use Rattle.endpoint.proofs.Sounds.{by_lt}
 use Rattle.endpoint_places.specs.Internal.{carried, block_from, HandsUp}
 use Rattle.endpoint_plan.specs.Calls.{outcome_of}
-use Rattle.endpoint_plan.specs.Internal.{PlansFor, Plans}
+use Rattle.endpoint_plan.specs.Internal.{PlansFor, Plans, Reserved}
 use Rattle.endpoint_plan.proofs.Messages.{accepted_frame}
 use Rattle.endpoint_plan.proofs.Ready.{accepted_by}
 use Rattle.endpoint_plan.proofs.Short.{five, up-short}
-use Rattle.endpoint_plan.proofs.Carries.{same, leaves, hands-up, stands, hands_is, sends, sends_is, reserves}
+use Rattle.endpoint_plan.proofs.Carries.{Reservable, same, leaves, hands-up, stands, hands_is, sends, sends_is, reservable, reserves, received-reserved}
 use Rattle.lent_record.specs.declared.Answer.{Answer}
 use Rattle.lent_record.specs.Record.{format}
 use Rattle.lent_record.specs.Told.{told_of, status_of, sent_of, answer_of}
@@ -131,10 +131,26 @@ module _ (rec : List ℕ) (long : record_size ≤ length rec) where
 -- the plan of a lent call is that of the call of its struct
 pub plans_lent : (rec : List ℕ) → record_size ≤ length rec → (page s : List ℕ) (c : Call) (r : Rooms) (q : Result Plan Refusal) → Plans (decode rec) page (given c s r) q → PlansLent c rec page s r q
 plans_lent rec long page s c r (Ok p) w = (long, subst (λ (o : Outcome Step). PlansFor c r (decode rec) (cut_block s) o p) (sym (enough rec long page (given c s r))) w)
-plans_lent rec long page s c r (Err q) w = enough rec long page (given c s r) ∙ w
+plans_lent rec long page s c r (Err k) w = (tt, enough rec long page (given c s r) ∙ w)
 
 pub planned : (rec page s : List ℕ) (c : Call) (r : Rooms) {p : Plan} → PlansLent c rec page s r (Ok p) → Plans (decode rec) page (given c s r) (Ok p)
 planned rec page s c r {p} w = subst (λ (o : Outcome Step). PlansFor c r (decode rec) (cut_block s) o p) (enough rec w.0 page (given c s r)) w.1
+
+-- A plan of a lent call, or a refusal, which asks nothing of the page and leaves it.
+module _ (rec page s : List ℕ) (c : Call) (r : Rooms) where
+  pub can-reserve : (q : Result Plan Refusal) → PlansLent c rec page s r q → IfOk q (Reservable page)
+  can-reserve (Ok p) w = reservable (decode rec) page (given c s r) (planned rec page s c r w)
+  can-reserve (Err k) w = tt
+
+  pub reserved-by : (q : Result Plan Refusal) → PlansLent c rec page s r q → {page' : List ℕ}
+      → MatchResult q (λ (p : Plan). page' ≡ reserving p.numbers.local page) (λ (k : Refusal). page' ≡ page)
+      → page' ≡ page_after page (performed format rec page (given c s r))
+  reserved-by (Ok p) w h = reserved rec w.0 page (given c s r) (planned rec page s c r w) h
+  reserved-by (Err k) w h = h ∙ page_unchanged w.1
+
+pub received-by : (rec page s : List ℕ) (r : Rooms) (q : Result Plan Refusal) → PlansLent Receive rec page s r q → Reserved q page
+received-by rec page s r (Ok p) w = received-reserved (decode rec) page (given Receive s r) (planned rec page s Receive r w) refl
+received-by rec page s r (Err k) w = omega arith
 
 -- what a call of a record that is long enough comes to is what the call of its struct does
 pub at_record : (rec : List ℕ) → record_size ≤ length rec → (page : List ℕ) (c : Arguments) {b : Block} {out up rec' out' up' : List ℕ} {a : Answer}

@@ -3,7 +3,7 @@
 // page::reserve, which stores nothing else; the frame out, the block, the record, the numbers told.
 #![tactic(auto)]
 
-ghost use Rattle.std.specs.Prelude.{◌≡◌, true, [], ◌+◌, ◌*◌, ◌≤◌, length};
+ghost use Rattle.std.specs.Prelude.{◌≡◌, true, [], ◌+◌, ◌*◌, ◌≤◌, length, IfOk, MatchResult, OnOk};
 ghost use Rattle.octets.specs.Sizes.{page_size, numbers_each, last_incarnation};
 ghost use Rattle.octets.specs.Test.{Outcome};
 ghost use Rattle.octets.specs.Octets.{put};
@@ -15,7 +15,7 @@ ghost use Rattle.call_spec.specs.Calls.{rooms};
 ghost use Rattle.call_spec.specs.Answers.{block_of};
 ghost use Rattle.endpoint.specs.Record.{record_size, encode, decode};
 ghost use Rattle.endpoint_places.specs.Internal.{PlanFits, carried};
-ghost use Rattle.endpoint_plan.specs.Internal.{PlansFor, PlansAny, Reserved};
+ghost use Rattle.endpoint_plan.specs.Internal.{PlansFrom, PlansAny, Reserved};
 ghost use Rattle.lent_record.specs.Record.{format};
 ghost use Rattle.link.specs.Internal.{PlansLent};
 ghost use Rattle.link.specs.Lent.{Called, lent_outcome, CalledLent};
@@ -32,28 +32,28 @@ pub fn plan_sound(call: Call, rec: &[u8], s: &[u8]) -> Result<Plan, Refusal>
     requires { (record_size ≤ length rec.now) × (format.sound rec.now ≡ true) }
     ensures { PlansAny (decode rec.now) call s.now result }
 {
-    let message = endpoint_plan::read(call, s)?;
     let parts = Parts::load(rec);
+    let message = endpoint_plan::read(call, s);
     endpoint_plan::plan(message, parts.numbers, parts.held.lengths)
 }
 
 // The plan of a call of a lent record with its page, from the record's own octets: s has those of a request or of a frame, room the lengths of the
 // buffers. Nothing is stored.
 fn plan_call(call: Call, rec: &[u8], page: &[u8], s: &[u8], room: Rooms) -> Result<Plan, Refusal>
+    requires { record_size ≤ length rec.now }
     ensures { PlansLent call rec.now page.now s.now (rooms room.frame room.block) result }
 {
-    if rec.len() < RECORD_SIZE {
-        return Err(Refusal::ShortBuffer);
-    }
     endpoint_plan::plan_call(call, Parts::load(rec), page, s, room)
 }
 
-// The one store of a planned call to its page, before all its others: the number that the plan leaves is reserved.
-pub fn reserve(p: Plan, page: &mut [u8])
-    requires { ((page_size ≤ length page.old) × (runs page.old ≡ true)) × ((p.numbers.local ≤ last_incarnation) × (p.numbers.local ≤ numbers_each * count page.old + numbers_each)) }
-    ensures { (page.new ≡ reserving p.numbers.local page.old) × Reserved p page.new }
+// The one store of a planned call to its page, before all its others: the number that the plan leaves is reserved. A refusal stores nothing.
+pub fn reserve(plan: Result<Plan, Refusal>, page: &mut [u8])
+    requires { IfOk plan (λ p. ((page_size ≤ length page.old) × (runs page.old ≡ true)) × ((p.numbers.local ≤ last_incarnation) × (p.numbers.local ≤ numbers_each * count page.old + numbers_each))) }
+    ensures { MatchResult plan (λ p. page.new ≡ reserving p.numbers.local page.old) (λ k. page.new ≡ page.old) × Reserved plan page.new }
 {
-    page::reserve(p.numbers.local, page);
+    if let Ok(p) = plan {
+        page::reserve(p.numbers.local, page);
+    }
 }
 
 // Changes the record where it lies: its numbers, and of the lengths and blocks what the plan says, where the block joins those that wait or those held.
@@ -91,20 +91,25 @@ fn store(p: Plan, block: &[u8], rec: &mut [u8])
 }
 
 // The other stores of a planned call, whose message has this block, and its answer: the frame out, the block handed up, then the record. They come after
-// the page's one store: the number that the plan leaves is reserved on the page that is lent, and nothing can store to it here.
+// the page's one store: the number that the plan leaves is reserved on the page that is lent, and nothing can store to it here. A plan that refuses stores
+// nothing; its refusal is told of a record that is too short, too.
 pub fn finish(
     call: Call,
-    p: Plan,
+    plan: Result<Plan, Refusal>,
     page: &[u8],
     rec: &mut [u8],
     block: &[u8],
     out: &mut [u8],
     up: &mut [u8],
 ) -> Answer
-    requires { (record_size ≤ length rec.old) × (Reserved p page.now × ((o : Outcome Step) × PlansFor call (rooms (length out.old) (length up.old)) (decode rec.old) block.now o p)) }
-    ensures { (o : Outcome Step) → PlansFor call (rooms (length out.old) (length up.old)) (decode rec.old) block.now o p
+    requires { OnOk plan (record_size ≤ length rec.old) × (Reserved plan page.now × ((o : Outcome Step) × PlansFrom call (rooms (length out.old) (length up.old)) (decode rec.old) block.now o plan)) }
+    ensures { (o : Outcome Step) → PlansFrom call (rooms (length out.old) (length up.old)) (decode rec.old) block.now o plan
         → Called call o rec.old block.now out.old up.old rec.new out.new up.new result }
 {
+    let p = match plan {
+        Ok(p) => p,
+        Err(refusal) => return lent_record::decline(rec, refusal),
+    };
     let parts = Parts::load(rec);
     let sent = endpoint_places::send(p, block, parts.queue, out);
     let handed = endpoint_places::hand_up(call, p.notice, parts.held, block, up);
@@ -134,17 +139,16 @@ pub fn perform(
 ) -> Answer
     ensures { CalledLent call rec.old page.old s.now out.old up.old rec.new page.new out.new up.new result }
 {
+    if rec.len() < RECORD_SIZE {
+        return lent_record::decline(rec, Refusal::ShortBuffer);
+    }
     let room = Rooms {
         frame: out.len(),
         block: up.len(),
     };
-    match plan_call(call, rec, page, s, room) {
-        Err(refusal) => lent_record::decline(rec, refusal),
-        Ok(p) => {
-            reserve(p, page);
-            finish(call, p, page, rec, frame_read::cut_block(s), out, up)
-        }
-    }
+    let plan = plan_call(call, rec, page, s, room);
+    reserve(plan, page);
+    finish(call, plan, page, rec, frame_read::cut_block(s), out, up)
 }
 
 // A frame received by a call that only looks at the page: no number is begun, so that nothing has to be reserved. block is its block. It does not call
@@ -161,14 +165,15 @@ fn hear(
     ensures { (let o : Outcome Step = lent_outcome Receive rec.old page.now s.now out.old up.old in
         Called Receive o rec.old block.now out.old up.old rec.new out.new up.new result) }
 {
+    if rec.len() < RECORD_SIZE {
+        return lent_record::decline(rec, Refusal::ShortBuffer);
+    }
     let room = Rooms {
         frame: out.len(),
         block: up.len(),
     };
-    match plan_call(Call::Receive, rec, page, s, room) {
-        Err(refusal) => lent_record::decline(rec, refusal),
-        Ok(p) => finish(Call::Receive, p, page, rec, block, out, up),
-    }
+    let plan = plan_call(Call::Receive, rec, page, s, room);
+    finish(Call::Receive, plan, page, rec, block, out, up)
 }
 
 // Receives the frame s. Gives what is told, and the block handed up: a part of s, empty where there is none.

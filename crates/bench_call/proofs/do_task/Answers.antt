@@ -22,4 +22,4 @@ pub returns-in-Err : goal.returns-in-Err
 unfolding call_by task_outcome
 returns-in-Err c =
     let a = c.args in
-    rw c.in-Err.is (turned_down refl Receive a.rec.now (cut_block a.s.now) a.out.now a.up.now c.decline.ensures, page_unchanged refl)
+    rw c.in-Err.is (turned_down refl Receive a.rec.now (cut_block a.s.now) a.out.now a.up.now c.refuse.ensures, page_unchanged refl)

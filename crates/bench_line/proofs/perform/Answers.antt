@@ -24,31 +24,31 @@ pub decide-decided-requires : goal.decide-decided-requires
 decide-decided-requires c =
     let a = c.args in
     let w = bench_of (lent a.a.now a.a_page.now) (lent a.b.now a.b_page.now) a.log.now a.count in
-    can-be-found w a.line.now a.out.now a.up.now (replicate longest_frame 0) refl c.read-read.result c.read-read.ensures c.unwrap_or.ensures c.order_in-order.ensures c.end_restarted.ensures c.new-bench.ensures c.ready-ready.ensures
+    can-be-found w a.line.now a.out.now a.up.now (replicate longest_frame 0) refl c.read-read.result c.read-read.ensures c.unwrap_or.ensures c.order_in-order.ensures c.end_restarted.ensures c.new-bench.ensures c.ready-ready.result c.ready-ready.ensures c.map_err.result c.map_err.ensures.cases
 
 pub end_for-end-requires : goal.end_for-end-requires
 end_for-end-requires c =
     let a = c.args in
     let w = bench_of (lent a.a.now a.a_page.now) (lent a.b.now a.b_page.now) a.log.now a.count in
-    known w a.line.now a.out.now a.up.now (replicate longest_frame 0) refl c.read-read.result c.read-read.ensures c.unwrap_or.ensures c.order_in-order.ensures c.end_restarted.ensures c.new-bench.ensures c.ready-ready.ensures c.decide-decided.ensures
+    known w a.line.now a.out.now a.up.now (replicate longest_frame 0) refl c.read-read.result c.read-read.ensures c.unwrap_or.ensures c.order_in-order.ensures c.end_restarted.ensures c.new-bench.ensures c.ready-ready.result c.ready-ready.ensures c.map_err.result c.map_err.ensures.cases c.decide-decided.ensures
 
 pub carry_out-requires : goal.carry_out-requires
 carry_out-requires c =
     let a = c.args in
     let w = bench_of (lent a.a.now a.a_page.now) (lent a.b.now a.b_page.now) a.log.now a.count in
-    ready_at_a w a.line.now a.out.now a.up.now (replicate longest_frame 0) refl c.read-read.result c.read-read.ensures c.unwrap_or.ensures c.order_in-order.ensures c.end_restarted.ensures c.new-bench.ensures c.ready-ready.ensures c.decide-decided.ensures
+    ready_at_a w a.line.now a.out.now a.up.now (replicate longest_frame 0) refl c.read-read.result c.read-read.ensures c.unwrap_or.ensures c.order_in-order.ensures c.end_restarted.ensures c.new-bench.ensures c.ready-ready.result c.ready-ready.ensures c.map_err.result c.map_err.ensures.cases c.decide-decided.ensures
 
 pub carry_out-requires-in-B : goal.carry_out-requires-in-B
 carry_out-requires-in-B c =
     let a = c.args in
     let w = bench_of (lent a.a.now a.a_page.now) (lent a.b.now a.b_page.now) a.log.now a.count in
-    ready_at_b w a.line.now a.out.now a.up.now (replicate longest_frame 0) refl c.read-read.result c.read-read.ensures c.unwrap_or.ensures c.order_in-order.ensures c.end_restarted.ensures c.new-bench.ensures c.ready-ready.ensures c.decide-decided.ensures
+    ready_at_b w a.line.now a.out.now a.up.now (replicate longest_frame 0) refl c.read-read.result c.read-read.ensures c.unwrap_or.ensures c.order_in-order.ensures c.end_restarted.ensures c.new-bench.ensures c.ready-ready.result c.ready-ready.ensures c.map_err.result c.map_err.ensures.cases c.decide-decided.ensures
 
 pub returns-in-A-clause-answers : goal.returns-in-A-clause-answers
 returns-in-A-clause-answers c =
     let a = c.args in
     let w = bench_of (lent a.a.now a.a_page.now) (lent a.b.now a.b_page.now) a.log.now a.count in
-    at_a w a.line.now a.out.now a.up.now (replicate longest_frame 0) refl c.read-read.result c.read-read.ensures c.unwrap_or.ensures c.order_in-order.ensures c.end_restarted.ensures c.new-bench.ensures c.ready-ready.ensures c.decide-decided.ensures c.end_for-end.ensures (ap end_number c.in-A.is) c.carry_out.ensures
+    at_a w a.line.now a.out.now a.up.now (replicate longest_frame 0) refl c.read-read.result c.read-read.ensures c.unwrap_or.ensures c.order_in-order.ensures c.end_restarted.ensures c.new-bench.ensures c.ready-ready.result c.ready-ready.ensures c.map_err.result c.map_err.ensures.cases c.decide-decided.ensures c.end_for-end.ensures (ap end_number c.in-A.is) c.carry_out.ensures
 
 pub returns-in-A-clause-end : goal.returns-in-A-clause-end
 returns-in-A-clause-end c =
@@ -60,7 +60,7 @@ pub returns-in-B-clause-answers : goal.returns-in-B-clause-answers
 returns-in-B-clause-answers c =
     let a = c.args in
     let w = bench_of (lent a.a.now a.a_page.now) (lent a.b.now a.b_page.now) a.log.now a.count in
-    at_b w a.line.now a.out.now a.up.now (replicate longest_frame 0) refl c.read-read.result c.read-read.ensures c.unwrap_or.ensures c.order_in-order.ensures c.end_restarted.ensures c.new-bench.ensures c.ready-ready.ensures c.decide-decided.ensures c.end_for-end.ensures (λ z. omega (arith, ap end_number c.in-B.is, z)) c.carry_out-in-B.ensures
+    at_b w a.line.now a.out.now a.up.now (replicate longest_frame 0) refl c.read-read.result c.read-read.ensures c.unwrap_or.ensures c.order_in-order.ensures c.end_restarted.ensures c.new-bench.ensures c.ready-ready.result c.ready-ready.ensures c.map_err.result c.map_err.ensures.cases c.decide-decided.ensures c.end_for-end.ensures (λ z. omega (arith, ap end_number c.in-B.is, z)) c.carry_out-in-B.ensures
 
 pub returns-in-B-clause-end : goal.returns-in-B-clause-end
 returns-in-B-clause-end c =

@@ -1,0 +1,30 @@
+-- A refusal that is turned to the number which is told.
+use Prim.Native.Nat.{ℕ, ◌≤◌}
+use mathlib.Core.Path.{◌≡◌, refl, sym}
+use native.Mathlib.Omega.{arith}
+use Rattle.std.specs.Prelude.{Result, Ok, Err, IsOk, IsErrAnd, MatchResult}
+use Rattle.octets.specs.Test.{Outcome, refusing, and_then}
+use Rattle.octets.specs.Refusal.{refusal_number, told, refusal_in}
+use Rattle.octets.specs.declared.refusal.Refusal.{Refusal}
+use Rattle.octets.proofs.Test.{refusing_of}
+use Rattle.octets.proofs.Outcomes.{refusal_some}
+use Rattle.bench_spec.specs.Bench.{numbered}
+
+module _ {A : Type 0} where
+  -- both say the same
+  pub by_number : (r : Result A Refusal) (y : Result A ℕ) → MatchResult r (λ x. y ≡ Ok x) (λ e. IsErrAnd y (λ n. (n ≡ refusal_number e) × ((1 ≤ n) × (n ≤ 15)))) → numbered y ≡ told r
+  by_number (Ok x) y h = rw h refl
+  by_number (Err e) (Ok x) h = absurd h
+  by_number (Err e) (Err n) h = rw h.0 refl
+
+  -- what was asked refuses nothing where the turned one is no error
+  pub passed_as : (r : Result A Refusal) (y : Result A ℕ) → numbered y ≡ told r → IsOk y → refusal_in r ≡ 0
+  passed_as (Ok x) y e h = refl
+  passed_as (Err q) (Ok x) e h = absurd (let z : ◌≡◌ {A = ℕ} 0 1 = cc in omega arith)
+  passed_as (Err q) (Err n) e h = absurd (let z : ◌≡◌ {A = ℕ} 0 1 = cc in omega arith)
+
+  -- and what follows it follows the questions
+  pub follows : {B : Type 0} (r : Result A Refusal) (o : Outcome B) → and_then (told r) (λ (x : A). o) ≡ refusing (refusal_in r) o
+  unfolding and_then refusing
+  follows (Ok x) o = refl
+  follows (Err q) o = sym (refusing_of o (refusal_number q) (refusal_some q))
