@@ -2,10 +2,10 @@
 use Prim.Native.Nat.{ℕ, ◌≤◌}
 use mathlib.Core.Path.{◌≡◌, refl, sym, ap, ◌∙◌}
 use mathlib.Core.Logic.{◌≢◌}
-use Rattle.std.specs.Prelude.{Result, Ok, Err, IsOk, IsErrAnd, MatchResult}
+use Rattle.std.specs.Prelude.{Result, Ok, Err, IsOk}
 use Rattle.std.specs.Result.{result_unwrap_or}
 use Rattle.octets.specs.declared.refusal.Refusal.{Refusal}
-use Rattle.octets.specs.Refusal.{refusal_number, told, refusal_in}
+use Rattle.octets.specs.Refusal.{told, refusal_in}
 use mathlib.Core.List.{List}
 use native.Mathlib.Omega.{arith}
 use lib.ListN.{length, take}
@@ -21,7 +21,7 @@ use Rattle.bench_spec.specs.declared.Order.TheVariants as order
 use Rattle.bench_spec.specs.Bench.{Bench, numbered, end_number, order_of, end_restarted, end_of}
 use Rattle.bench_spec.proofs.Ends.{same_number}
 use Rattle.bench_spec.proofs.Ends as ends
-use Rattle.bench_spec.proofs.Numbers.{by_number, passed_as, follows}
+use Rattle.bench_spec.proofs.Numbers.{Renumbered, by_number, passed_as, follows}
 use Rattle.bench_checks.specs.Ready.{ready_questions}
 use Rattle.bench_call.specs.Internal.{task_of, call_by, order_outcome, OrderReady, Does}
 use Rattle.bench_call.specs.declared.BenchAnswer.{BenchAnswer}
@@ -101,7 +101,7 @@ module _ (w : Bench) (text out up t : List ℕ) (l : length t ≡ longest_frame)
 
   module _ {o : Outcome Order} (f : o ≡ order_in (told read) (take n s)) {restarted : ℕ} (g : restarted ≡ end_restarted o)
       {lent : Bench} (v : lent ≡ w) {A : Type 0} (checked : Result A Refusal) (q' : refusal_in checked ≡ first (ready_questions restarted lent (rooms (length out) (length up))))
-      (ready : Result A ℕ) (u' : MatchResult checked (λ x. ready ≡ Ok x) (λ e. IsErrAnd ready (λ k. (k ≡ refusal_number e) × ((1 ≤ k) × (k ≤ 15))))) where
+      (ready : Result A ℕ) (u' : Renumbered checked ready) where
     abbrev q : refusal_in checked ≡ first (ready_questions restarted w (rooms (length out) (length up)))
     q = q' ∙ ap (λ (x : Bench). first (ready_questions restarted x (rooms (length out) (length up)))) v
 

@@ -11,8 +11,12 @@ use Rattle.octets.proofs.Outcomes.{refusal_some}
 use Rattle.bench_spec.specs.Bench.{numbered}
 
 module _ {A : Type 0} where
-  -- both say the same
-  pub by_number : (r : Result A Refusal) (y : Result A ℕ) → MatchResult r (λ x. y ≡ Ok x) (λ e. IsErrAnd y (λ n. (n ≡ refusal_number e) × ((1 ≤ n) × (n ≤ 15)))) → numbered y ≡ told r
+  -- y is r, its refusal turned to its number: what map_err promises
+  abbrev pub Renumbered : Result A Refusal → Result A ℕ → Type 0
+  Renumbered r y = MatchResult r (λ (x : A). y ≡ Ok x) (λ (e : Refusal). IsErrAnd y (λ (n : ℕ). (n ≡ refusal_number e) × ((1 ≤ n) × (n ≤ 15))))
+
+  -- then both say the same
+  pub by_number : (r : Result A Refusal) (y : Result A ℕ) → Renumbered r y → numbered y ≡ told r
   by_number (Ok x) y h = rw h refl
   by_number (Err e) (Ok x) h = absurd h
   by_number (Err e) (Err n) h = rw h.0 refl

@@ -270,13 +270,12 @@ from_received : (c : Call) (l d b : Block) → c ≡ call.Receive → block_from
 unfolding block_from
 from_received c l d b h = rw h refl
 
--- the same plan, of the block that was cut
-pub by_block : {c : Call} {r : Rooms} {e : Endpoint} {b b' : Block} {o : Outcome Step} {p : Plan} → b' ≡ b → PlansFor c r e b o p → PlansFor c r e b' o p
-by_block {c} {r} {e} {o = o} {p} h w = subst (λ (x : Block). PlansFor c r e x o p) (sym h) w
-
--- and the same refusal
+-- the same plan, or the same refusal, of the block that was cut
 pub from_block : (c : Call) (r : Rooms) (e : Endpoint) (o : Outcome Step) (q : Result Plan Refusal) {b b' : Block} → b' ≡ b → PlansFrom c r e b o q → PlansFrom c r e b' o q
 from_block c r e o q h w = subst (λ (x : Block). PlansFrom c r e x o q) (sym h) w
+
+pub by_block : {c : Call} {r : Rooms} {e : Endpoint} {b b' : Block} {o : Outcome Step} {p : Plan} → b' ≡ b → PlansFor c r e b o p → PlansFor c r e b' o p
+by_block {c} {r} {e} {o = o} {p} h w = from_block c r e o (Ok p) h w
 
 -- A plan of a call that comes to o, with the block b.
 module _ (e : Endpoint) (long : Long e) (c : Call) (r : Rooms) (b : Block) (o : Outcome Step) {p : Plan} (w : PlansFor c r e b o p) where
