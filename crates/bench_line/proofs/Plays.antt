@@ -2,15 +2,15 @@
 use Prim.Native.Nat.{ℕ, ◌≤◌}
 use mathlib.Core.Path.{◌≡◌, refl, sym, ap, ◌∙◌}
 use mathlib.Core.Logic.{◌≢◌}
-use Rattle.std.specs.Prelude.{Result, Ok, Err, IsOk}
+use Rattle.std.specs.Prelude.{Result, Ok, Err}
 use Rattle.std.specs.Result.{result_unwrap_or}
 use Rattle.octets.specs.declared.refusal.Refusal.{Refusal}
-use Rattle.octets.specs.Refusal.{told, refusal_in}
+use Rattle.octets.specs.Refusal.{told}
 use mathlib.Core.List.{List}
 use native.Mathlib.Omega.{arith}
 use lib.ListN.{length, take}
 use Rattle.octets.specs.Sizes.{longest_frame}
-use Rattle.octets.specs.Test.{first, Outcome, refused, ok, mapped, and_then}
+use Rattle.octets.specs.Test.{first, Outcome, refused, ok, refusing, mapped, and_then}
 use Rattle.octets.specs.Octets.{left}
 use Rattle.hexadecimal.specs.Line.{unhex, read_into}
 use Rattle.hexadecimal.proofs.Asked.{passed, fits, reads, turned_away}
@@ -18,10 +18,9 @@ use Rattle.call_spec.specs.Calls.{rooms}
 use Rattle.call_spec.specs.Claim.{Lent}
 use Rattle.bench_spec.specs.declared.Order.{Order}
 use Rattle.bench_spec.specs.declared.Order.TheVariants as order
-use Rattle.bench_spec.specs.Bench.{Bench, numbered, end_number, order_of, end_restarted, end_of}
+use Rattle.bench_spec.specs.Bench.{Bench, end_number, order_of, end_restarted, end_of}
 use Rattle.bench_spec.proofs.Ends.{same_number}
 use Rattle.bench_spec.proofs.Ends as ends
-use Rattle.bench_spec.proofs.Numbers.{Renumbered, by_number, passed_as, follows}
 use Rattle.bench_checks.specs.Ready.{ready_questions}
 use Rattle.bench_call.specs.Internal.{task_of, call_by, order_outcome, OrderReady, Does}
 use Rattle.bench_call.specs.declared.BenchAnswer.{BenchAnswer}
@@ -100,22 +99,16 @@ module _ (w : Bench) (text out up t : List ℕ) (l : length t ≡ longest_frame)
   in_room = in-room text t l h.1 h.0 length-is
 
   module _ {o : Outcome Order} (f : o ≡ order_in (told read) (take n s)) {restarted : ℕ} (g : restarted ≡ end_restarted o)
-      {lent : Bench} (v : lent ≡ w) {A : Type 0} (checked : Result A Refusal) (q' : refusal_in checked ≡ first (ready_questions restarted lent (rooms (length out) (length up))))
-      (ready : Result A ℕ) (u' : Renumbered checked ready) where
-    abbrev q : refusal_in checked ≡ first (ready_questions restarted w (rooms (length out) (length up)))
+      {lent : Bench} (v : lent ≡ w) {ready : ℕ} (q' : ready ≡ first (ready_questions restarted lent (rooms (length out) (length up)))) where
+    abbrev q : ready ≡ first (ready_questions restarted w (rooms (length out) (length up)))
     q = q' ∙ ap (λ (x : Bench). first (ready_questions restarted x (rooms (length out) (length up)))) v
 
-    abbrev u : numbered ready ≡ told checked
-    u = by_number checked ready u'
+    pub can-be-found : ready ≡ 0 → FindableIn o w.log w.count
+    can-be-found = findable w (rooms (length out) (length up)) o g q
 
-    pub can-be-found : IsOk ready → FindableIn o w.log w.count
-    can-be-found y = findable w (rooms (length out) (length up)) o g q (passed_as checked ready u y)
-
-    module _ {d : Outcome Order} (m : d ≡ and_then (numbered ready) (λ (x : A). and_then o (found w.log w.count))) where
+    module _ {d : Outcome Order} (m : d ≡ refusing ready (and_then o (found w.log w.count))) where
       abbrev is-decided : d ≡ decided w (rooms (length out) (length up)) o
-      is-decided =
-          decides w (rooms (length out) (length up)) o g q
-          (m ∙ ap (λ (y : Outcome A). and_then y (λ (x : A). and_then o (found w.log w.count))) u ∙ follows checked (and_then o (found w.log w.count)))
+      is-decided = decides w (rooms (length out) (length up)) o g q m
 
       abbrev asked-first : Asked o (take n s)
       asked-first = is-asked text t l h.1 h.0 length-is f

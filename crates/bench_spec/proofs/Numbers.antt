@@ -1,6 +1,6 @@
 -- A refusal that is turned to the number which is told.
 use Prim.Native.Nat.{ℕ, ◌≤◌}
-use mathlib.Core.Path.{◌≡◌, refl, sym}
+use mathlib.Core.Path.{◌≡◌, refl, sym, ap, ◌∙◌}
 use native.Mathlib.Omega.{arith}
 use Rattle.std.specs.Prelude.{Result, Ok, Err, IsOk, IsErrAnd, MatchResult}
 use Rattle.octets.specs.Test.{Outcome, refusing, and_then}
@@ -32,3 +32,7 @@ module _ {A : Type 0} where
   unfolding and_then refusing
   follows (Ok x) o = refl
   follows (Err q) o = sym (refusing_of o (refusal_number q) (refusal_some q))
+
+  -- as what follows the turned one does
+  pub follows_as : {B : Type 0} (r : Result A Refusal) (y : Result A ℕ) → Renumbered r y → (o : Outcome B) {d : Outcome B} → d ≡ and_then (numbered y) (λ (x : A). o) → d ≡ refusing (refusal_in r) o
+  follows_as r y h o m = m ∙ ap (λ (z : Outcome A). and_then z (λ (x : A). o)) (by_number r y h) ∙ follows r o

@@ -52,8 +52,8 @@ use Rattle.endpoint.proofs.Sounds.{by_lt, tidy, tidy-held, lengths-held, facts}
 use Rattle.endpoint_places.specs.Internal.{places_after, InEight, PlanFits, lengths_after, blocks_after, carried, block_from, Handy, handed_to, HandsUp}
 use Rattle.endpoint_places.proofs.HeldPlaces.{zeros-padded, held-lengths-after, held-blocks-after}
 use Rattle.endpoint_plan.specs.Calls.{outcome_of}
-use Rattle.endpoint_plan.specs.Internal.{rooms_ok, Plannable, PlannedBy, PlansFor, PlansFrom, Plans, PlansAny, Reserved}
-use Rattle.endpoint_plan.proofs.Messages.{Says, reads_as, carries_it, number_fits, accepted_short}
+use Rattle.endpoint_plan.specs.Internal.{rooms_ok, input_of, Plannable, PlannedBy, PlansFor, PlansFrom, Plans, PlansAny, Reserved}
+use Rattle.endpoint_plan.proofs.Messages.{unread, Says, reads_as, carries_it, number_fits, accepted_short}
 use Rattle.endpoint_plan.proofs.Numbers.{local-after, receive-local}
 use Rattle.endpoint_plan.proofs.Ready.{Passes, all_passed, passes}
 
@@ -339,6 +339,9 @@ module _ (e : Endpoint) (long : Long e) (page : List ℕ) (c : Arguments) where
     passed : Passes (sound e) e.local page c
     passed = all_passed (sound e) e.local page c z
 
+    pub unread-is : {n : ℕ} → refused n ≡ input_of c.call c.octets → outcome_of e page c ≡ refused n
+    unread-is h = goes-on ∙ unread c.call c.octets (view e) h
+
     -- what was read can be planned for
     pub can-plan : (m : Result Message Refusal) → Says m c.call c.octets → Plannable m (numbers_of e) e.held_lengths
     can-plan m h = plannable e long passed.is_fine c.call c.octets m h
@@ -363,9 +366,14 @@ module _ (e : Endpoint) (fine : sound e ≡ true) (c : Call) (s page : List ℕ)
   unfolding first when
   all-yes = let room = both (leb longest_frame r.frame) (block_room_ok c r.block) k in rw (room.0, room.1, le-leb page_size (length page) l, fine, g) refl
 
+pub unread_any : (e : Endpoint) → Long e → sound e ≡ true → (c : Call) (s : List ℕ) (q : Refusal) → refused (refusal_number q) ≡ input_of c s → PlansAny e c s (Err q)
+unread_any e long fine c s q h page r k l g = unread-is e long page (given c s r) (all-yes e fine c s page r k l g) h
+
 pub plans_any : (e : Endpoint) → Long e → sound e ≡ true → (c : Call) (s : List ℕ) (m : Result Message Refusal) → Says m c s → (r : Result Plan Refusal)
     → PlannedBy m (numbers_of e) e.held_lengths r → PlansAny e c s r
-plans_any e long fine c s m h p w page r k l g = plans e long page (given c s r) (all-yes e fine c s page r k l g) m h p w
+unfolding mapped
+plans_any e long fine c s (Ok m) h p w page r k l g = plans e long page (given c s r) (all-yes e fine c s page r k l g) (Ok m) h p w
+plans_any e long fine c s (Err q) h p w page r k l g = rw (w.refuses q refl) (unread_any e long fine c s q h page r k l g)
 
 -- what the page's store asks of an accepted plan
 abbrev pub Reservable : List ℕ → Plan → Type 0

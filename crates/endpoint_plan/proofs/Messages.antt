@@ -8,7 +8,7 @@ use lib.ListN.{length}
 use Rattle.octets.specs.Sizes.{longest_block, last_number}
 use Rattle.octets.specs.Test.{first, Outcome, refused, ok, outcome, mapped, and_then, number_of}
 use Rattle.octets.specs.declared.refusal.Refusal.{Refusal}
-use Rattle.octets.specs.Refusal.{refusal_number, told}
+use Rattle.octets.specs.Refusal.{told}
 use Rattle.octets.proofs.Test.{eq_yes}
 use Rattle.frame.specs.Frame.{Frame, Request, DATA}
 use Rattle.frame.specs.Layout.{is_frame, is_request}
@@ -50,6 +50,11 @@ unfolding input_of reads mapped
 refused_read call.Request s n h = rw (unmapped request (read_request s) n h) refl
 refused_read call.Receive s n h = rw (unmapped frame (read_frame s) n h) refl
 
+-- octets that cannot be read come to the refusal
+pub unread : (c : Call) (s : List ℕ) (e : Endpoint) {n : ℕ} → refused n ≡ input_of c s → does c s e ≡ refused n
+unfolding does and_then
+unread c s e {n} h = rw (refused_read c s n h) refl
+
 -- m is what these octets say, or the refusal that they come to
 abbrev pub Says : Result Message Refusal → Call → List ℕ → Type 0
 Says m c s = mapped (λ (x : Message). meant x (cut_block s)) (told m) ≡ input_of c s
@@ -59,7 +64,7 @@ pub reads_as : (m : Result Message Refusal) (c : Call) (s : List ℕ) (e : Endpo
 unfolding meant follows does reads and_then mapped
 reads_as (Ok (message.Request q)) c s e h = let r = request_read c s (request_of q (cut_block s)) h in rw (r.0, r.1) refl
 reads_as (Ok (message.Frame f)) c s e h = let r = frame_read c s (frame_of f (cut_block s)) h in rw (r.0, r.1) refl
-reads_as (Err k) c s e h = rw (refused_read c s (refusal_number k) h) refl
+reads_as (Err k) c s e h = unread c s e h
 
 -- its block is as its kind asks for, and no number of a DATA is the last
 pub carries_it : (m : Result Message Refusal) (c : Call) (s : List ℕ) → Says m c s → Carries m (cut_block s)
